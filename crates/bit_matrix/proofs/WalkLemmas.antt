@@ -23,7 +23,7 @@ map-dropped f (suc n) [] = refl
 map-dropped f (suc n) (x ∷ xs) = map-dropped f n xs
 
 -- a bit that is 1 is in some block
-below_end : (w : ℕ) (ms : List ℕ) (n count : ℕ) → 0 < w → length ms ≡ count → count * w < 2 ^ 64 → value_at w ms n ≡ true → n < 2 ^ 64
+below_end : (w : ℕ) (ms : List ℕ) (n count : ℕ) → 0 < w → length ms ≡ count → count * w < 2 ^ 64 → value_at w ms n ≡ true → n < 2 ^ 64 - 1
 below_end w ms n count pos long fits one = elim (cases_lt n (count * w)) [
   | inl below ↦ omega (arith, below, fits)
   | inr past ↦ absurd (true≢false (sym one ∙ value_at-past w ms n (let block = block_past w count n pos past in omega (arith, long, block))))
@@ -90,7 +90,7 @@ begun w number is_block xs rest from first block pos at within fits each lawful 
         can = record {
           long = long;
           fits = omega (arith, room, fits);
-          below = all_below (2 ^ 64) left (λ n is_in. below_end w ms n (length xs) pos (length-map xs number) fits (let both = members n in grind (arith, nat_tests)));
+          below = all_below (2 ^ 64 - 1) left (λ n is_in. below_end w ms n (length xs) pos (length-map xs number) fits (let both = members n in grind (arith, nat_tests)));
           count_fits = omega (arith, length-indexes-le w (first * w) (number block) (values_in w (map number rest)), long, room, fits);
         };
       },
@@ -114,7 +114,7 @@ none_begun w number is_block xs rest from block pos past lawful zeros is =
         can = record {
           long = length-values_in w (map number rest) ∙ ap (λ n. n * w) (length-map rest number);
           fits = let product : w * length rest ≡ w * 0 = ap (λ n. w * n) count in omega (arith, product);
-          below = subst (All (λ n. n < 2 ^ 64)) (sym nothing) (All-nil (λ n. n < 2 ^ 64));
+          below = subst (All (λ n. n < 2 ^ 64 - 1)) (sym nothing) (All-nil (λ n. n < 2 ^ 64 - 1));
           count_fits = let e = ap length nothing in omega (arith, e);
         };
       },
@@ -139,7 +139,7 @@ row_next w number is_block xs rest block x index walk zeros is =
 
 -- the lowest 1 of the block in hand is taken
 pub row_taken : {X : Type 0} (w : ℕ) (number : X → ℕ) (is_block : X → Type 0) (xs : List X) (block left : X) (index i : ℕ) → IsRowWalk w number is_block xs block index → is_block left → IsLowest (number block) i → i < w → IsCleared w (number block) i (number left)
-    → IsRowWalk w number is_block xs left index × (index + i < 2 ^ 64) × (indexes w index (number block) (values_in w (map number xs)) ≡ (index + i) ∷ indexes w index (number left) (values_in w (map number xs)))
+    → IsRowWalk w number is_block xs left index × (index + i < 2 ^ 64 - 1) × (indexes w index (number block) (values_in w (map number xs)) ≡ (index + i) ∷ indexes w index (number left) (values_in w (map number xs)))
 row_taken w number is_block xs block left index i walk lawful low within cleared =
     let taken = CanWalk-taken w index (number block) (number left) i _ walk.can low within cleared in
     (record { in_hand = lawful; each = walk.each; can = taken.0 }, taken.1, indexes-lowest w index (number block) (number left) i (values_in w (map number xs)) low within cleared)

@@ -3,7 +3,8 @@
 use Rattle.std.{proofs.{Common.{◌≡◌, ℕ, Bool, false, not, ◌-◌, ◌||◌, ◌&&◌, ◌++◌, List, length, length-append, replicate, max, ap, ◌∙◌, arith}, lemmas.List.length-replicate}, specs.Cmp.nat_cmp_total}
 use Rattle.std.specs.FinSet as set
 use Rattle.bit_blocks.{specs.{Merges.{merge_of_values, merge_of}, declared.block.merge.Merge.Merge}, proofs.MergeLemmas.{get_or-merged, length-merged}}
-use Rattle.bit_set.{specs.Sets.{IsAscending, has, elements, union, intersection, difference, symmetric_difference, merge_of_sets}, proofs.SetLemmas.{AscendsFrom-filter, has-elements, has-filter, IsAscending-elements}}
+use Rattle.bit_set.specs.Sets.{IsAscending, has, elements, union, intersection, difference, symmetric_difference, merge_of_sets}
+use Rattle.bit_set.proofs.SetLemmas.{AscendsFrom-filter, has-elements, has-filter, IsAscending-elements}
 use Rattle.bit_set.proofs.{SetLemmas.{elements-by_members, elements-padded, AscendsFrom-put}, SetLaws.{has-put_all, IsAscending-put_all, contains-has, finite, finite-put_all, same_finite}}
 
 pub has-union : (s t : List ℕ) (n : ℕ) → has (union s t) n ≡ (has s n || has t n)

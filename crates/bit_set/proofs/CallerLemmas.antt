@@ -1,10 +1,11 @@
 -- What a caller cites of sets that are made of chains.
-use Rattle.std.proofs.{Common.{◌≡◌, ℕ, ◌+◌, ◌-◌, ◌<◌, ◌≤◌, Bool, ◌&&◌, nat_le, ltb, filter, take, Option, List, [], ◌∷◌, Result, Bor, refl, sym, ap, ◌∙◌, zero, suc, append_assoc, arith, length, subst}, iter.Yields.nat_range_steps, lemmas.Bool.Decides.nat_tests}
-use Rattle.std.proofs.lemmas.{List.append-nil, List.Sums.{length-filter, count_by-le-length}}
+use Rattle.std.proofs.{Common.{◌≡◌, ℕ, ◌+◌, ◌-◌, ◌<◌, ◌≤◌, ◌++◌, ◌⊎◌, inl, inr, Bool, ◌&&◌, not, nat_le, ltb, filter, take, Option, List, [], ◌∷◌, Result, IsTrue, Bor, refl, sym, ap, ◌∙◌, zero, suc, append_assoc, arith, length, subst}}
+use Rattle.std.proofs.{iter.Yields.nat_range_steps, lemmas.{Bool.{cases_Bool, Decides.nat_tests}, Grind.take_at_read}}
+use Rattle.std.proofs.lemmas.{List.append-nil, List.Folds.list_any-append, List.Sums.{length-filter, count_by-le-length, sum_by-append}}
 use Rattle.std.{proofs.lemmas.{Iterator.{YieldsList, YieldsList-from_range, Adapters.fact_from_collect, Consumers.{YieldsList-at, YieldsList-from_filter, YieldsList-from_shown}}, Result.IfOk-weaker}, specs.Prelude.IfOk}
 use Rattle.std.specs.{BTreeMap.{BTreeMap, get_by}, Fn.{Mut, CalledAt}, Iterator.{Drains, Adapters.{filter_source, filter_callee, filter_steps}}, List.range_with_len}
 use Rattle.bit_blocks.specs.Bits.{Bits}
-use Rattle.bit_set.{specs.{Members.IsSameSet, Order.order_of_sets, Sets.{bound_of, elements, has, put_all}, Walk.{Walk, Advances}}, proofs.{PlaceLemmas.{all_by_places, any_by_places, at_place, has_place, in_order}, RangeLemmas.has-range_with_len, SetLemmas.{IsAscending-elements, has-filter, same_members}, TestLemmas.{filter_all, filter_none}}}
+use Rattle.bit_set.{specs.{Members.IsSameSet, Order.order_of_sets, Ranges.span, Sets.{AscendsFrom, IsAscending, bound_of, elements, has, put_all, those_below}, Walk.{Walk, Advances}}, proofs.{PlaceLemmas.{all_by_places, any_by_places, at_place, has_place, in_order}, RangeLemmas.{IsAscending-span, has-range_with_len, has-span, length-span}, SetLemmas.{AscendsFrom-filter, IsAscending-elements, has-filter, has-first, same_members}, TestLemmas.{filter_all, filter_none}}}
 
 module _ {S V E : Type 0} {steps : S → Option ℕ → S → Type 0} {s : S} {all : List ℕ} where
   -- what is made of a chain by `from_iter` is made of all that the chain gives
@@ -25,17 +26,20 @@ has-passing test a b m =
 
 -- a set that `from_iter` makes of `(a..b).filter(..)`
 pub members-from_filtered_range : {E F : Type 0} {g : Mut F (Bor ℕ × Unit {0}) Bool} {f : F} {a b : ℕ} {s : _} (test : ℕ → Bool) (r : Result Bits E)
-    → IfOk r (λ set. (items : List ℕ) × Drains (filter_steps nat_range_steps g) s items × (elements set.values ≡ put_all [] items) × (length set.values ≡ bound_of items) × IsSameSet (elements set.values) items)
+    → IfOk r (λ set. (items : List ℕ) × Drains (filter_steps nat_range_steps g) s items
+    × (elements set.values ≡ put_all [] items) × (length set.values ≡ bound_of items) × IsSameSet (elements set.values) items)
     → filter_source s ≡ record { start = a; end = b } → filter_callee s ≡ f → ((x : ℕ) (v : Bool) (q : F) → CalledAt g f x v q → (q ≡ f) × (v ≡ test x))
     → IfOk r (λ set. (m : ℕ) → has (elements set.values) m ≡ (nat_le a m && ltb m b && test m))
 members-from_filtered_range {g = g} {a = a} {b = b} {s = s} test r made source callee called =
     let numbers = range_with_len a (b - a) in
-    let gives : YieldsList (filter_steps nat_range_steps g) (λ x. x) s (filter test numbers) = YieldsList-from_filter g test (YieldsList-at source (YieldsList-from_range a b (b - a) refl refl)) callee called in
+    let gives : YieldsList (filter_steps nat_range_steps g) (λ x. x) s (filter test numbers) =
+    YieldsList-from_filter g test (YieldsList-at source (YieldsList-from_range a b (b - a) refl refl)) callee called in
     IfOk-weaker r _ _ (λ set same m. same m ∙ has-passing test a b m) (set_of_chain {steps = filter_steps nat_range_steps g} {s = s} r made gives)
 
 -- a set that `from_iter` makes of `(0..n).filter(..)`
 pub members-from_filter : {E F : Type 0} {g : Mut F (Bor ℕ × Unit {0}) Bool} {f : F} {n : ℕ} {s : _} (test : ℕ → Bool) (r : Result Bits E)
-    → IfOk r (λ set. (items : List ℕ) × Drains (filter_steps nat_range_steps g) s items × (elements set.values ≡ put_all [] items) × (length set.values ≡ bound_of items) × IsSameSet (elements set.values) items)
+    → IfOk r (λ set. (items : List ℕ) × Drains (filter_steps nat_range_steps g) s items
+    × (elements set.values ≡ put_all [] items) × (length set.values ≡ bound_of items) × IsSameSet (elements set.values) items)
     → filter_source s ≡ record { start = 0; end = n } → filter_callee s ≡ f → ((x : ℕ) (b : Bool) (q : F) → CalledAt g f x b q → (q ≡ f) × (b ≡ test x))
     → IfOk r (λ set. (m : ℕ) → has (elements set.values) m ≡ (ltb m n && test m))
 members-from_filter {g = g} test r made source callee called =
@@ -75,11 +79,56 @@ pub take-first : (n x : ℕ) (xs : List ℕ) → 0 < n → take n (x ∷ xs) ≡
 take-first zero x xs pos = absurd (omega arith)
 take-first (suc n) x xs pos = let less : n ≡ suc n - 1 = omega arith in ap (λ k. x ∷ take k xs) less
 
+-- a list that ascends and had a number pushed ascends, or some member is no less
+ascends_pushed_from : (low : ℕ) (s : List ℕ) (x : ℕ) → low ≤ x → AscendsFrom low s → AscendsFrom low (s ++ x ∷ []) ⊎ ((y : ℕ) × IsTrue (has s y) × (x ≤ y))
+ascends_pushed_from low [] x from up = inl (from, tt)
+ascends_pushed_from low (y ∷ ys) x from up =
+    elim (cases_Bool (nat_le x y)) [
+      | inl less ↦ inr (y, has-first y ys, grind (arith, nat_tests))
+      | inr more ↦
+          elim (ascends_pushed_from (y + 1) ys x (grind (arith, nat_tests)) up.1) [
+            | inl rest ↦ inl (up.0, rest)
+            | inr found ↦ inr (found.0, (let is = found.1 in grind (arith, nat_tests)), found.2)
+          ]
+    ]
+
+pub ascends_pushed : (s : List ℕ) (x : ℕ) → IsAscending s → (s ++ x ∷ [] ≡ s ++ x ∷ []) × (IsAscending (s ++ x ∷ []) ⊎ ((y : ℕ) × IsTrue (has s y) × (x ≤ y)))
+ascends_pushed s x up = (refl, ascends_pushed_from 0 s x (omega arith) up)
+
+-- a set of two parts has as many members as they have
+filtered_parts : (p : ℕ → Bool) (s : List ℕ) → length (filter (λ x. not (p x)) s) + length (filter p s) ≡ length s
+filtered_parts p [] = refl
+filtered_parts p (x ∷ xs) = let rest = filtered_parts p xs in grind (arith, nat_tests)
+
+pub length_of_parts : (whole a b : List ℕ) → IsAscending whole → IsAscending a → IsAscending b
+    → ((x : ℕ) → has a x ≡ (has whole x && not (has b x))) → ((x : ℕ) → IsTrue (has b x) → IsTrue (has whole x)) → length a + length b ≡ length whole
+length_of_parts whole a b up up_a up_b others within =
+    let first : a ≡ filter (λ x. not (has b x)) whole = same_members a (filter (λ x. not (has b x)) whole) up_a (AscendsFrom-filter 0 _ whole up)
+    (λ x. let kept = has-filter (λ x. not (has b x)) whole x in let is = others x in grind (arith, nat_tests)) in
+    let second : b ≡ filter (has b) whole = same_members b (filter (has b) whole) up_b (AscendsFrom-filter 0 _ whole up)
+    (λ x. let kept = has-filter (has b) whole x in let is = within x in grind (arith, nat_tests)) in
+    omega (arith, filtered_parts (has b) whole, ap length first, ap length second)
+
+-- what is below n and not in a set, with what is in it below n, is n
+pub count_complement : (n : ℕ) (rest set : List Bool) → ((x : ℕ) → has (elements rest) x ≡ (ltb x n && not (has (elements set) x)))
+    → length (elements rest) + length (those_below (elements set) n) ≡ n
+count_complement n rest set is =
+    let s = elements set in
+    let up = IsAscending-elements set in
+    omega (
+      arith,
+      length-span 0 n,
+      length_of_parts (span 0 n) (elements rest) (those_below s n) (IsAscending-span 0 n) (IsAscending-elements rest)
+          (AscendsFrom-filter 0 (λ y. ltb y n) s up)
+          (λ x. let kept = has-filter (λ y. ltb y n) s x in let inside = has-span 0 n x in let rests = is x in grind (arith, nat_tests))
+          (λ x. let kept = has-filter (λ y. ltb y n) s x in let inside = has-span 0 n x in grind (arith, nat_tests)),
+    )
+
 -- what loops over a set use, for `grind`
 pub ruleset set_steps = (nat_tests, has-filter, filter_none, filter_all, length-filter-le, take-first, append_assoc, append-nil)
 
 -- all that callers use, for `grind`: a crate names it once, at its root
-pub ruleset calls = (set_steps, at_place, has_place, in_order, IsAscending-elements)
+pub ruleset calls = (set_steps, at_place, has_place, in_order, IsAscending-elements, ascends_pushed, list_any-append, take_at_read, sum_by-append)
 
 -- the same for loops over a row of sets whose contract says `All` or `Any`, and whose invariant `list_all` or `list_any`:
 -- with these two beside the places a loop over one set may stay open

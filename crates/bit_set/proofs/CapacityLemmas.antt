@@ -1,5 +1,6 @@
 -- How many blocks and how much capacity a set takes.
-use Rattle.std.proofs.Common.{◌≡◌, ℕ, ◌+◌, ◌-◌, ◌<◌, ◌≤◌, ◌↔◌, max, Bool, true, nat_lt, if◌then◌else◌, All, IsTrue, List, [], ◌∷◌, length, slice_get, Some, refl, ap, ◌∙◌, arith, mul-le-mul_right, Ok, Err}
+use Rattle.std.proofs.Common.{◌≡◌, ℕ, ◌+◌, ◌-◌, ◌<◌, ◌≤◌, ◌↔◌, max, Bool, true, nat_lt, if◌then◌else◌, All, IsTrue, List, [], ◌∷◌, length, slice_get, Some, refl, ap, ◌∙◌, arith, mul-le-mul_right, Ok}
+use Rattle.std.proofs.Common.{Err}
 use Rattle.std.proofs.lemmas.{List.Elements.{All-nil, All-cons, All-head, All-tail}, Bool.Decides.nat_tests}
 use Rattle.bit_blocks.{specs.Bits.{Bits, blocks_for, capacity_of, true_end, whole_blocks}, proofs.BitsLemmas.{blocks_for-le, blocks_for-least, blocks_for-enough}}
 use Rattle.bit_words.{specs.Growth.Grows, proofs.CapacityLemmas.whole_blocks-fits}
@@ -10,7 +11,8 @@ capacity_of-grows : (w m n : ℕ) → 0 < w → m ≤ n → capacity_of w (block
 capacity_of-grows w m n pos le = let more = mul-le-mul_right w (blocks_for-le w m n pos le) in omega (arith, more)
 
 -- capacity for a length, asked for as what is missing past the list
-pub capacity_for_length : (w old new long len missing : ℕ) → 0 < w → missing ≡ len - long → long ≤ old → (long + missing ≤ old → new ≡ old) → new ≡ max old (capacity_of w (blocks_for w (long + missing))) → new ≡ max old (capacity_of w (blocks_for w len))
+pub capacity_for_length : (w old new long len missing : ℕ) → 0 < w → missing ≡ len - long → long ≤ old → (long + missing ≤ old → new ≡ old)
+    → new ≡ max old (capacity_of w (blocks_for w (long + missing))) → new ≡ max old (capacity_of w (blocks_for w len))
 capacity_for_length w old new long len missing pos is below within exact = let grows = capacity_of-grows w len long pos in grind arith
 
 -- lists with the same true values keep one set

@@ -1,11 +1,15 @@
 -- The first and the last of a set, and of its members from a number on or below it.
-use Rattle.std.proofs.{Common.{◌≡◌, ℕ, ◌+◌, ◌-◌, ◌<◌, ◌≤◌, Bool, true, false, not, ◌||◌, eqb, ltb, nat_le, List, [], ◌∷◌, ◌++◌, length, take, drop, slice_get, get_or, length-append, Option, Some, None, refl, sym, ap, ◌∙◌, arith}, Math.Seq.take-append_seam}
+use Rattle.std.proofs.Common.{◌≡◌, ℕ, ◌+◌, ◌-◌, ◌<◌, ◌≤◌, Bool, true, false, not, ◌||◌, eqb, ltb, nat_le, List, [], ◌∷◌, ◌++◌, length, take, drop, slice_get, get_or, length-append, Option, Some, None}
+use Rattle.std.proofs.Common.{refl, sym, ap, ◌∙◌, arith}
+use Rattle.std.proofs.{Math.Seq.take-append_seam}
 use Rattle.std.proofs.lemmas.{Bool.Decides.nat_tests, List.{get_or-append_right, Folds.list_any-append}, Option.slice_get-get_or}
 use Rattle.std.specs.{Prelude.{IfSome, MatchOption, if◌then◌else◌, is_some, slice_set}, Iterator.{YieldsFirst}}
 use Rattle.bit_blocks.{specs.Searches.{FindsBefore, FindsFrom, IsFirstFrom}, proofs.SearchLemmas.{finds_before_same, finds_from_same}}
 use Rattle.bit_words.specs.Bounds.{greatest}
-use Rattle.bit_set.specs.{Changes.{Changes, Change.{PopFirst, PopLast}, Outcome.Gave}, Choices.{IsFirstOf, IsGreatest, IsLastOf, IsLeast}, Members.{HasNone, TakesGreatest, TakesLeast}, Sets.{AscendsFrom, IsAscending, has, elements, those_below, those_from, without}}
-use Rattle.bit_set.proofs.{MemberLemmas.{none_from_members, updates_without}, SetLemmas.{AscendsFrom-filter, IsAscending-elements, elements-set_false, has-elements, has-filter, has-first, has-without, same_members}, ValueLemmas.has-within}
+use Rattle.bit_set.specs.{Changes.{Changes, Change.{PopFirst, PopLast}, Outcome.Gave}, Choices.{IsFirstOf, IsGreatest, IsLastOf, IsLeast}, Members.{HasNone, TakesGreatest, TakesLeast}}
+use Rattle.bit_set.specs.Sets.{AscendsFrom, IsAscending, has, elements, those_below, those_from, without}
+use Rattle.bit_set.proofs.MemberLemmas.{none_from_members, updates_without}
+use Rattle.bit_set.proofs.{SetLemmas.{AscendsFrom-filter, IsAscending-elements, elements-set_false, has-elements, has-filter, has-first, has-without, same_members}, ValueLemmas.has-within}
 
 -- ---- lists that ascend
 
@@ -115,7 +119,8 @@ unfolding Changes
 changes_popped_first old new x is = (sym (ap (drop 1) is), sym (ap (λ s. Gave (slice_get s 0)) is))
 
 -- where the first true value became false
-pub popped_first : (old new : List Bool) (r : Option ℕ) → FindsFrom (λ i. get_or old i false) 0 r → MatchOption r (new ≡ old) (λ i. new ≡ slice_set old i false) → YieldsFirst elements old r new × MatchOption r (HasNone (elements old)) (λ x. TakesLeast (elements old) x (elements new))
+pub popped_first : (old new : List Bool) (r : Option ℕ) → FindsFrom (λ i. get_or old i false) 0 r → MatchOption r (new ≡ old) (λ i. new ≡ slice_set old i false)
+    → YieldsFirst elements old r new × MatchOption r (HasNone (elements old)) (λ x. TakesLeast (elements old) x (elements new))
 popped_first old new None none same =
     let members = least_of_all (elements old) None (finds_members old 0 None none) in
     let empty = none_from_members (elements old) members in
@@ -141,5 +146,6 @@ changes_popped_last old new x is =
     let long : length whole - 1 ≡ length rest = omega (arith, length-append rest (x ∷ [])) in
     let front : take (length whole - 1) whole ≡ rest = ap (λ n. take n whole) long ∙ take-append_seam rest (x ∷ []) in
     let at : slice_get whole (length whole - 1) ≡ Some x =
-    ap (slice_get whole) long ∙ slice_get-get_or whole (length rest) x (omega (arith, length-append rest (x ∷ []))) ∙ ap Some (get_or-append_right rest (x ∷ []) (length rest) (length rest) x refl (omega arith) ∙ ap (λ n. get_or (x ∷ []) n x) (let e : length rest - length rest ≡ 0 = omega arith in e)) in
+    ap (slice_get whole) long ∙ slice_get-get_or whole (length rest) x (omega (arith, length-append rest (x ∷ [])))
+    ∙ ap Some (get_or-append_right rest (x ∷ []) (length rest) (length rest) x refl (omega arith) ∙ ap (λ n. get_or (x ∷ []) n x) (let e : length rest - length rest ≡ 0 = omega arith in e)) in
     (sym (ap (λ s. take (length s - 1) s) is ∙ front), ap Gave (sym (ap (λ s. slice_get s (length s - 1)) is ∙ at)))

@@ -1,9 +1,11 @@
 -- The blocks that are not 0, each with its index: the indexes of their ones, and which blocks these lie in.
 use Rattle.std.proofs.Common.{◌≡◌, ℕ, ◌+◌, ◌-◌, ◌*◌, ◌/◌, ◌^◌, ◌<◌, ◌≤◌, ◌==◌, nat_lt, true, false, List, [], ◌∷◌, ◌++◌, map, length, get_or, All, refl, sym, ap, ◌∙◌, subst, arith}
-use Rattle.std.proofs.{lemmas.{Bool.{cond_both, eqb-true, eqb-false, true≢false, Decides.nat_tests}, Nat.div-mul-add, List.Elements.{All-nil, All-cons, All-head, All-tail}}, Math.Nat.div-lt_iff_lt-mul}
+use Rattle.std.proofs.lemmas.{Bool.{cond_both, eqb-true, eqb-false, true≢false, Decides.nat_tests}, Nat.div-mul-add, List.Elements.{All-nil, All-cons, All-head, All-tail}}
+use Rattle.std.proofs.{Math.Nat.div-lt_iff_lt-mul}
 use Rattle.bit_blocks.{specs.Digits.is_one, proofs.{HighestLemmas.{highest_found, highest_within}, Masks.is_one-bit}}
 use Rattle.bit_words.specs.Nonzero.{nonzero_from}
-use Rattle.bit_set.{specs.{Sets.{AscendsFrom, elements_from, has}, Indexes.{digits_from, indexes, indexes_of}, Walk.blocks_past}, proofs.{IndexLemmas.{AscendsFrom-indexes, indexes-apart, indexes-below, indexes-next, indexes-zero, value_in}, SetLemmas.{AscendsFrom-lower, has-elements_from}}}
+use Rattle.bit_set.specs.{Sets.{AscendsFrom, elements_from, has}, Indexes.{digits_from, indexes, indexes_of}, Walk.blocks_past}
+use Rattle.bit_set.proofs.{IndexLemmas.{AscendsFrom-indexes, indexes-apart, indexes-below, indexes-next, indexes-zero, value_in}, SetLemmas.{AscendsFrom-lower, has-elements_from}}
 use Rattle.bit_set.proofs.WalkLemmas.{values_of_blocks}
 
 -- numbers in a block are passed
@@ -21,7 +23,8 @@ some_index w p m some small none =
     let high = highest_found w m some small in
     let i : ℕ = high.0 in
     let within = highest_within w m i small high.1 in
-    let digit : get_or (digits_from m 0 w ++ []) i false ≡ is_one m i = ap (λ k. get_or (digits_from m 0 w ++ []) k false) (let e : i ≡ 0 * w + i = omega arith in e) ∙ value_in w (m ∷ []) 0 i within in
+    let digit : get_or (digits_from m 0 w ++ []) i false ≡ is_one m i =
+    ap (λ k. get_or (digits_from m 0 w ++ []) k false) (let e : i ≡ 0 * w + i = omega arith in e) ∙ value_in w (m ∷ []) 0 i within in
     true≢false (sym (is_one-bit 1 m i high.1.one) ∙ sym digit ∙ sym (has-elements_from p (digits_from m 0 w ++ []) i) ∙ ap (λ xs. has xs (p + i)) none)
 
 module _ {X : Type 0} (w : ℕ) (number : X → ℕ) where
@@ -51,7 +54,8 @@ module _ {X : Type 0} (w : ℕ) (number : X → ℕ) where
       let next : q * w + w ≡ (q + 1) * w = omega arith in
       let rest : indexes_of w number (nonzero_from number (q + 1) xs) ≡ elements_from (q * w + w) bs = indexes_of-nonzero (q + 1) xs ∙ ap (λ p. elements_from p bs) (sym next) in
       let whole : elements_from (q * w) (values_of_blocks w number (x ∷ xs)) ≡ indexes w (q * w) (number x) bs = indexes-next w (q * w) (number x) _ bs refl in
-      cond_both (number x == 0) (nonzero_from number (q + 1) xs) ((q, x) ∷ nonzero_from number (q + 1) xs) (λ entries. indexes_of w number entries ≡ elements_from (q * w) (values_of_blocks w number (x ∷ xs)))
+      cond_both (number x == 0) (nonzero_from number (q + 1) xs) ((q, x) ∷ nonzero_from number (q + 1) xs)
+      (λ entries. indexes_of w number entries ≡ elements_from (q * w) (values_of_blocks w number (x ∷ xs)))
       (λ none. rest ∙ sym (whole ∙ ap (λ m. indexes w (q * w) m bs) (eqb-true (number x) 0 none) ∙ indexes-zero w (q * w) bs))
       (λ some. ap (λ ys. indexes w (q * w) (number x) [] ++ ys) rest ∙ sym (whole ∙ indexes-apart w (q * w) (number x) bs))
 
@@ -69,7 +73,8 @@ module _ {X : Type 0} (w : ℕ) (number : X → ℕ) where
       let test : nat_lt k (x / w) ≡ true = grind (arith, nat_tests) in
       rw test (rw block (ap (λ ys. q ∷ ys) (passed_in_block w q xs rest pos (All-tail (λ n. n < (q + 1) * w) x xs below))))
 
-  pub blocks_of_entries : (is_block : X → Type 0) → ((x : X) → is_block x → number x < 2 ^ w) → (k q : ℕ) (xs : List X) → 0 < w → k < q → All is_block xs → length (blocks_past w k (indexes_of w number (nonzero_from number q xs))) ≡ length (nonzero_from number q xs)
+  pub blocks_of_entries : (is_block : X → Type 0) → ((x : X) → is_block x → number x < 2 ^ w) → (k q : ℕ) (xs : List X) → 0 < w → k < q
+      → All is_block xs → length (blocks_past w k (indexes_of w number (nonzero_from number q xs))) ≡ length (nonzero_from number q xs)
   blocks_of_entries is_block small k q [] pos before each = refl
   blocks_of_entries is_block small k q (x ∷ xs) pos before each =
       let others = All-tail is_block x xs each in

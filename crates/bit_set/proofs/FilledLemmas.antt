@@ -1,7 +1,9 @@
 -- Lemmas on bits that are filled block by block, and on the last of some blocks.
-use Rattle.std.proofs.Common.{◌≡◌, ◌≢◌, [], ℕ, ◌+◌, ◌-◌, ◌*◌, ◌/◌, ◌%◌, ◌^◌, ◌<◌, Bool, true, false, List, length, get_or, set, take, replicate, All, sym, ap, ◌∙◌, ⊎_elim, pow_pos, length-take, length-set, get_or-take, get_or-set_same, get_or-set_other, arith}
+use Rattle.std.proofs.Common.{◌≡◌, ◌≢◌, [], ℕ, ◌+◌, ◌-◌, ◌*◌, ◌/◌, ◌%◌, ◌^◌, ◌<◌, Bool, true, false, List, length, get_or, set, take, replicate, All, sym, ap, ◌∙◌, ⊎_elim, pow_pos, length-take}
+use Rattle.std.proofs.Common.{length-set, get_or-take, get_or-set_same, get_or-set_other, arith}
 use Rattle.std.{proofs.{lemmas.{Bool.{cases_eq, Decides.nat_tests}, Nat.{Bits.bit_at-zero, div-mul-add}, List.get_or_past}, Math.Nat.{div-add-mod', mod-lt}}, specs.Int.bit_at}
-use Rattle.bit_blocks.{specs.{Bits.{blocks_for, blocks_of, digit_of}, Lowest.{IsLowest, IsCleared}, Digits.is_one, Storage.{value_at, IsZeroFrom}}, proofs.{BitsLemmas.{blocks_of-digit, whole_before}, Masks.is_one-zero}}
+use Rattle.bit_blocks.specs.{Bits.{blocks_for, blocks_of, digit_of}, Lowest.{IsLowest, IsCleared}, Digits.is_one, Storage.{value_at, IsZeroFrom}}
+use Rattle.bit_blocks.proofs.{BitsLemmas.{blocks_of-digit, whole_before}, Masks.is_one-zero}
 use Rattle.bit_blocks.proofs.StorageLemmas.{blocks-values_of, value_at-is, value_at-past, value_at-index, values_of-same}
 use Rattle.bit_set.{proofs.SetLemmas.get_or_padded, specs.{Json.HasZeroTail, Entries.IsPartlyPut}}
 

@@ -1,10 +1,15 @@
 -- A walk that starts at any number: what is left of the first block, and of the blocks past it.
-use Rattle.std.proofs.Common.{◌≡◌, ℕ, zero, suc, ◌+◌, ◌-◌, ◌*◌, ◌/◌, ◌%◌, ◌^◌, ◌<◌, ◌≤◌, Bool, false, ◌&&◌, leb, List, [], ◌∷◌, ◌++◌, map, length, drop, get_or, get_or-drop, min, All, refl, sym, ap, ap₂, ◌∙◌, subst, arith, mod-lt, mul-le-mul_right, div-add-mod'}
-use Rattle.std.proofs.lemmas.{Bool.Decides.nat_tests, List.{append-nil, drop-map, get_or_past, length-drop, length-map, Elements.{All-drop, All-filter}, Sums.{count_by-le-length, length-filter}}, Nat.Bits.bit_at-zero}
+use Rattle.std.proofs.Common.{◌≡◌, ℕ, zero, suc, ◌+◌, ◌-◌, ◌*◌, ◌/◌, ◌%◌, ◌^◌, ◌<◌, ◌≤◌, Bool, false, ◌&&◌, leb, List, [], ◌∷◌, ◌++◌, map, length, drop, get_or, get_or-drop, min, All, refl, sym, ap}
+use Rattle.std.proofs.Common.{ap₂, ◌∙◌, subst, arith, mod-lt, mul-le-mul_right, div-add-mod'}
+use Rattle.std.proofs.lemmas.{Bool.Decides.nat_tests, List.{append-nil, drop-map, get_or_past, length-drop, length-map, Elements.{All-drop, All-filter}, Sums.{count_by-le-length, length-filter}}}
+use Rattle.std.proofs.lemmas.{Nat.Bits.bit_at-zero}
 use Rattle.bit_blocks.specs.{Bits.{blocks_for, blocks_of}, Digits.is_one}
 use Rattle.bit_words.specs.Nonzero.{Hand, Nonzeros, StartsPast}
-use Rattle.bit_set.{specs.{Sets.{AscendsFrom, IsAscending, elements_from, elements, those_from}, Indexes.{indexes, indexes_of, left_between, seen_of, values_in, IsSparseWalk}, Walk.{Walk, IsAtStart, IsAtStartFrom, IsAtFirstBlock, IsAtBlockOf, blocks_past}}, proofs.IndexLemmas.{indexes-apart, indexes-below, indexes-next, indexes-zero, value_in, values_in-blocks_of}}
-use Rattle.bit_set.proofs.{SetLemmas.{AscendsFrom-elements_from, AscendsFrom-filter, AscendsFrom-lower, has-filter, IsAscending-elements, has-below, has-elements, has-elements_from, same_members}, EntryLemmas.{ascends_entries, blocks_of_entries, each_entry, indexes_of-nonzero, passed_in_block}}
+use Rattle.bit_set.specs.{Sets.{AscendsFrom, IsAscending, elements_from, elements, those_from}, Indexes.{indexes, indexes_of, left_between, seen_of, values_in, IsSparseWalk}}
+use Rattle.bit_set.specs.Walk.{Walk, IsAtStart, IsAtStartFrom, IsAtFirstBlock, IsAtBlockOf, blocks_past}
+use Rattle.bit_set.proofs.IndexLemmas.{indexes-apart, indexes-below, indexes-next, indexes-zero, value_in, values_in-blocks_of}
+use Rattle.bit_set.proofs.SetLemmas.{AscendsFrom-elements_from, AscendsFrom-filter, AscendsFrom-lower, has-filter, IsAscending-elements, has-below, has-elements, has-elements_from, same_members}
+use Rattle.bit_set.proofs.EntryLemmas.{ascends_entries, blocks_of_entries, each_entry, indexes_of-nonzero, passed_in_block}
 use Rattle.bit_set.proofs.{SparseLemmas.whole_index, SplitLemmas.all_from, WalkLemmas.{IsWalkable-values_of_blocks, elements-values_of_blocks, values_of_blocks, length-blocks}}
 
 -- the block of a number, or one before, begins at the number or before
@@ -36,7 +41,8 @@ module _ {X : Type 0} (w : ℕ) (number : X → ℕ) (pos : 0 < w) where
       grind arith
   digit_at blocks from k m (suc q) j is within =
       let block : get_or (map number (drop (k + 1) blocks)) q 0 ≡ get_or (map number blocks) (k + suc q) 0 =
-      ap (λ ms. get_or ms q 0) (sym (drop-map number (k + 1) blocks)) ∙ get_or-drop (k + 1) (map number blocks) q 0 ∙ ap (λ n. get_or (map number blocks) n 0) (let e : k + 1 + q ≡ k + suc q = omega arith in e) in
+      ap (λ ms. get_or ms q 0) (sym (drop-map number (k + 1) blocks)) ∙ get_or-drop (k + 1) (map number blocks) q 0
+      ∙ ap (λ n. get_or (map number blocks) n 0) (let e : k + 1 + q ≡ k + suc q = omega arith in e) in
       let past = get_or_past (map number blocks) (k + suc q) 0 in
       let product = λ (no : from / w ≤ k). mul-le-mul_right w no in
       grind (arith, nat_tests, is.at, div-add-mod' from w, mod-lt from pos, length-map blocks number, bit_at-zero j)
@@ -62,7 +68,8 @@ module _ {X : Type 0} (w : ℕ) (number : X → ℕ) (pos : 0 < w) where
       let p = k * w in
       let bs = values_in w (m ∷ map number (drop (k + 1) blocks)) in
       sym (indexes-next w p m bs (values_of_blocks w number (drop (k + 1) blocks)) refl)
-      ∙ same_members _ (those_from (elements values) from) (AscendsFrom-lower p 0 _ (omega arith) (AscendsFrom-elements_from p bs)) (AscendsFrom-filter 0 _ (elements values) (IsAscending-elements values))
+      ∙ same_members _ (those_from (elements values) from) (AscendsFrom-lower p 0 _ (omega arith) (AscendsFrom-elements_from p bs))
+      (AscendsFrom-filter 0 _ (elements values) (IsAscending-elements values))
       (λ n.
       let below = has-below p (elements_from p bs) n (AscendsFrom-elements_from p bs) in
       let member = has-elements_from p bs (n - p) in
@@ -84,8 +91,10 @@ pub record BeginsFrom {X : Type 0} (w : ℕ) (number : X → ℕ) (is_block : X 
   pub walk : IsSparseWalk w number is_block front it back
   pub start : IsAtStartFrom w values from (seen_of w number front it back)
 
-pub begins_from : {X : Type 0} (w : ℕ) (number : X → ℕ) (is_block : X → Type 0) (values : List Bool) (from k : ℕ) (block naught : X) (it : Nonzeros X) → 0 < w → ((x : X) → is_block x → number x < 2 ^ w) → IsPast w number is_block values k it → is_block block → is_block naught → number naught ≡ 0
-    → IsCut w number it.blocks from k (number block) → BeginsFrom w number is_block values from (record { block = block; index = k * w }) it (record { block = naught; index = (length it.blocks - 1) * w })
+pub begins_from : {X : Type 0} (w : ℕ) (number : X → ℕ) (is_block : X → Type 0) (values : List Bool) (from k : ℕ) (block naught : X) (it : Nonzeros X)
+    → 0 < w → ((x : X) → is_block x → number x < 2 ^ w) → IsPast w number is_block values k it → is_block block → is_block naught → number naught ≡ 0
+    → IsCut w number it.blocks from k (number block)
+    → BeginsFrom w number is_block values from (record { block = block; index = k * w }) it (record { block = naught; index = (length it.blocks - 1) * w })
 unfolding IsAtBlockOf
 begins_from {X = X} w number is_block values from k block naught it pos small is lawful lawful_naught none cut =
     let n = length it.blocks in
@@ -109,12 +118,14 @@ begins_from {X = X} w number is_block values from k block naught it pos small is
     ∙ ap (λ xs. ones ++ xs) (append-nil (elements_from (k * w + w) bs))
     ∙ sym (indexes-apart w (k * w) (number block) bs)
     ∙ left_from w number pos it.blocks values from k (number block) cut is.numbers in
-    let few : length (those_from (elements values) from) < 2 ^ 64 = omega (arith, length-filter (λ i. leb from i) (elements values), count_by-le-length (λ i. leb from i) (elements values), rw all at can.count_fits) in
+    let few : length (those_from (elements values) from) < 2 ^ 64 =
+    omega (arith, length-filter (λ i. leb from i) (elements values), count_by-le-length (λ i. leb from i) (elements values), rw all at can.count_fits) in
     let up : IsAscending (those_from (elements values) from) = AscendsFrom-filter 0 (λ i. leb from i) (elements values) (IsAscending-elements values) in
-    let below : All (λ i. i < 2 ^ 64) (those_from (elements values) from) = All-filter (λ i. leb from i) (λ i. i < 2 ^ 64) (elements values) (rw all at can.below) in
+    let below : All (λ i. i < 2 ^ 64 - 1) (those_from (elements values) from) = All-filter (λ i. leb from i) (λ i. i < 2 ^ 64 - 1) (elements values) (rw all at can.below) in
     let first : k ≡ min (from / w) (blocks_for w (length values) - 1) = cut.at ∙ ap (λ i. min (from / w) (i - 1)) many in
     let past : AscendsFrom (k + 1) (map (λ (entry : ℕ × X). entry.0) it.left ++ (n - 1 + 1) ∷ []) =
-    subst (λ entries. AscendsFrom (k + 1) (map (λ (entry : ℕ × X). entry.0) entries ++ (n - 1 + 1) ∷ [])) (sym left_is) (ascends_entries w number (k + 1) (n - 1 + 1) rest (let count = length-drop (k + 1) it.blocks in omega (arith, count, cut.at))) in
+    subst (λ entries. AscendsFrom (k + 1) (map (λ (entry : ℕ × X). entry.0) entries ++ (n - 1 + 1) ∷ [])) (sym left_is)
+    (ascends_entries w number (k + 1) (n - 1 + 1) rest (let count = length-drop (k + 1) it.blocks in omega (arith, count, cut.at))) in
     let in_blocks : length (blocks_past w k (left_between w number front it.left back)) ≡ length it.left =
     ap length (passed_in_block w k ones (indexes_of w number it.left ++ indexes w ((n - 1) * w) (number naught) []) pos (rw next at (indexes-below w (k * w) (number block))))
     ∙ ap (λ xs. length (blocks_past w k xs)) (ap (λ ys. indexes_of w number it.left ++ ys) at_back ∙ append-nil (indexes_of w number it.left))
@@ -132,7 +143,7 @@ begins_from {X = X} w number is_block values from k block naught it pos small is
         inside = omega (arith, last_is);
         fits = omega (arith, can.fits);
         ascends = subst IsAscending (sym left) up;
-        below = subst (All (λ i. i < 2 ^ 64)) (sym left) below;
+        below = subst (All (λ i. i < 2 ^ 64 - 1)) (sym left) below;
         count_fits = omega (arith, ap length left, few);
       };
       start = record {
@@ -143,13 +154,15 @@ begins_from {X = X} w number is_block values from k block naught it pos small is
           index = ap (λ i. i * w) first;
           blocks = omega (arith, index_is, last_is, many, cut.at);
           nonzero = sym in_blocks ∙ ap₂ (λ j xs. length (blocks_past w j xs)) (sym index_is) left;
-          summary = let at = ap (λ i. i / w) first in let chunks = ap (blocks_for w) many in omega (arith, ap (λ walk. walk.summary_pulls) is.start, ap (λ walk. walk.summary_left) is.start, at, chunks);
+          summary = let at = ap (λ i. i / w) first in let chunks = ap (blocks_for w) many in
+              omega (arith, ap (λ walk. walk.summary_pulls) is.start, ap (λ walk. walk.summary_left) is.start, at, chunks);
         };
       };
     }
 
 -- the index of the last block is a `usize`
-pub last_fits : {X : Type 0} (w : ℕ) (number : X → ℕ) (blocks : List X) (values : List Bool) → 0 < w → map number blocks ≡ blocks_of w values → length values < 2 ^ 64 → (length blocks - 1) * w < 2 ^ 64
+pub last_fits : {X : Type 0} (w : ℕ) (number : X → ℕ) (blocks : List X) (values : List Bool) → 0 < w
+    → map number blocks ≡ blocks_of w values → length values < 2 ^ 64 → (length blocks - 1) * w < 2 ^ 64
 last_fits w number blocks values pos numbers fits = let can = IsWalkable-values_of_blocks w number blocks values 0 pos numbers fits in omega (arith, can.fits)
 
 -- from 0 on it is the walk over all

@@ -3,7 +3,8 @@ use Rattle.std.proofs.Common.{◌≡◌, ℕ, ◌+◌, ◌-◌, ◌*◌, ◌/◌
 use Rattle.std.proofs.lemmas.{Bool.Decides.nat_tests, List.Elements.{All-nil, All-cons, All-head, All-tail, All-append}}
 use Rattle.std.specs.Option.{SomeIff}
 use Rattle.bit_words.specs.Nonzero.{Hand, Nonzeros}
-use Rattle.bit_set.{specs.{Sets.{AscendsFrom, IsAscending}, Indexes.{indexes, indexes_of, left_between, IsSparseWalk}, Walk.bound_on_rest}, proofs.{IndexLemmas.{AscendsFrom-indexes, indexes-below}, SetLemmas.AscendsFrom-reach, SparseLemmas.ends_apart}}
+use Rattle.bit_set.specs.{Sets.{AscendsFrom, IsAscending}, Indexes.{indexes, indexes_of, left_between, IsSparseWalk}, Walk.bound_on_rest}
+use Rattle.bit_set.proofs.{IndexLemmas.{AscendsFrom-indexes, indexes-below}, SetLemmas.AscendsFrom-reach, SparseLemmas.ends_apart}
 
 -- n lies from low on and below high
 pub record LiesWithin (low high n : ℕ) : Type 0 where
@@ -21,7 +22,8 @@ each_from low (x ∷ xs) lower le up = All-cons (λ n. lower ≤ n) x xs (omega 
 both : (low high : ℕ) (xs : List ℕ) → All (λ n. low ≤ n) xs → All (λ n. n < high) xs → All (LiesWithin low high) xs
 both low high [] from below = All-nil (LiesWithin low high)
 both low high (x ∷ xs) from below =
-    All-cons (LiesWithin low high) x xs (record { from = All-head (λ n. low ≤ n) x xs from; below = All-head (λ n. n < high) x xs below }) (both low high xs (All-tail (λ n. low ≤ n) x xs from) (All-tail (λ n. n < high) x xs below))
+    All-cons (LiesWithin low high) x xs (record { from = All-head (λ n. low ≤ n) x xs from; below = All-head (λ n. n < high) x xs below })
+    (both low high xs (All-tail (λ n. low ≤ n) x xs from) (All-tail (λ n. n < high) x xs below))
 
 -- what ascends within a range is no more than its numbers
 fewer_from : (low high : ℕ) (xs : List ℕ) → AscendsFrom low xs → All (LiesWithin low high) xs → length xs ≤ high - low
@@ -43,7 +45,8 @@ block_within w p m low high from to =
     both low high _ (each_from p _ low from (AscendsFrom-indexes w p m [])) (All-weaker (λ n. n < p + w) (λ n. n < high) _ (λ n below. omega (arith, below, to)) (indexes-below w p m))
 
 module _ {X : Type 0} (w : ℕ) (number : X → ℕ) where
-  entries_within : (f b low high : ℕ) (entries : List (ℕ × X)) → low ≤ f * w → (b + 1) * w ≤ high → AscendsFrom f (map (λ entry. entry.0) entries ++ (b + 1) ∷ []) → All (LiesWithin low high) (indexes_of w number entries)
+  entries_within : (f b low high : ℕ) (entries : List (ℕ × X)) → low ≤ f * w → (b + 1) * w ≤ high
+      → AscendsFrom f (map (λ entry. entry.0) entries ++ (b + 1) ∷ []) → All (LiesWithin low high) (indexes_of w number entries)
   entries_within f b low high [] from to up = All-nil (LiesWithin low high)
   entries_within f b low high (entry ∷ entries) from to up =
       let k : ℕ = entry.0 in
@@ -54,7 +57,8 @@ module _ {X : Type 0} (w : ℕ) (number : X → ℕ) where
       (block_within w (k * w) (number entry.1) low high (omega (arith, from, least)) (omega (arith, to, most)))
       (entries_within (k + 1) b low high entries (omega (arith, from, least)) to up.1)
 
-  pub left-most : (is_block : X → Type 0) (pos : 0 < w) (front back : Hand X) (it : Nonzeros X) → IsSparseWalk w number is_block front it back → length (left_between w number front it.left back) ≤ back.index - front.index + w
+  pub left-most : (is_block : X → Type 0) (pos : 0 < w) (front back : Hand X) (it : Nonzeros X)
+      → IsSparseWalk w number is_block front it back → length (left_between w number front it.left back) ≤ back.index - front.index + w
   left-most is_block pos front back it is =
       let f = front.index / w in
       let b = back.index / w in
@@ -63,7 +67,8 @@ module _ {X : Type 0} (w : ℕ) (number : X → ℕ) where
       let high = back.index + w in
       let before : low ≤ back.index = omega (arith, is.whole, is.whole_back, apart) in
       let all = All-append (LiesWithin low high) _ _ (block_within w low (number front.block) low high (omega arith) (omega (arith, before)))
-      (All-append (LiesWithin low high) _ _ (entries_within (f + 1) b low high it.left (omega (arith, is.whole)) (omega (arith, is.whole_back)) is.past) (block_within w back.index (number back.block) low high before (omega arith))) in
+      (All-append (LiesWithin low high) _ _ (entries_within (f + 1) b low high it.left (omega (arith, is.whole)) (omega (arith, is.whole_back)) is.past)
+      (block_within w back.index (number back.block) low high before (omega arith))) in
       let count = fewer low high _ is.ascends all in
       omega (arith, count, before)
 

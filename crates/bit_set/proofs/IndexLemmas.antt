@@ -1,10 +1,14 @@
 -- The indexes of the ones of blocks: a block of zeros, the lowest one, how many there are, and those of a list of truth
 -- values.
-use Rattle.std.proofs.Common.{◌≡◌, ℕ, zero, suc, ◌+◌, ◌-◌, ◌*◌, ◌/◌, ◌%◌, ◌^◌, ◌<◌, ◌≤◌, Bool, true, false, cond, eqb, List, [], ◌∷◌, ◌++◌, length, get_or, All, count_ones, refl, sym, ap, ◌∙◌, subst, inl, inr, arith, ap₂}
-use Rattle.std.proofs.lemmas.{Bool.{cases_lt, Decides.nat_tests}, Nat.Bits.{bit_at-lt, bit_at_above}, List.{append-nil, length-append, get_or_append_left, get_or-append_right, Elements.{All-nil, All-cons}, Sums.{sum_by-cons, sum_by-append}}}
+use Rattle.std.proofs.Common.{◌≡◌, ℕ, zero, suc, ◌+◌, ◌-◌, ◌*◌, ◌/◌, ◌%◌, ◌^◌, ◌<◌, ◌≤◌, Bool, true, false, cond, eqb, List, [], ◌∷◌, ◌++◌, length, get_or, All, count_ones, refl, sym, ap, ◌∙◌, subst}
+use Rattle.std.proofs.Common.{inl, inr, arith, ap₂}
+use Rattle.std.proofs.lemmas.{Bool.{cases_lt, Decides.nat_tests}, Nat.Bits.{bit_at-lt, bit_at_above}}
+use Rattle.std.proofs.lemmas.List.{append-nil, length-append, get_or_append_left, get_or-append_right, Elements.{All-nil, All-cons}, Sums.{sum_by-cons, sum_by-append}}
 use Rattle.std.{proofs.{lemmas.List.FromFn.{length-map-range_with_len, get_or-map-range_with_len}, Math.Nat.{div-add-mod', mod-lt}}, specs.{Int.bit_at, List.{sum_by, range_with_len, count_by}}}
-use Rattle.bit_blocks.{proofs.{BitsLemmas.{blocks_of-digit, read_back}, OnesLemmas.ones_are_digits, Masks.{is_one-bit, is_one-zero}}, specs.{Bits.blocks_of, Highest.IsHighest, Lowest.{IsLowest, IsCleared}, Digits.is_one}}
-use Rattle.bit_set.{proofs.SetLemmas.{AscendsFrom-elements_from, elements-alike, length-elements-le, length-elements_from_both, length-elements}, specs.{Sets.{AscendsFrom, elements_from, elements}, Indexes.digits_from}}
+use Rattle.bit_blocks.proofs.{BitsLemmas.{blocks_of-digit, read_back}, OnesLemmas.ones_are_digits, Masks.{is_one-bit, is_one-zero}}
+use Rattle.bit_blocks.specs.{Bits.blocks_of, Highest.IsHighest, Lowest.{IsLowest, IsCleared}, Digits.is_one}
+use Rattle.bit_set.proofs.SetLemmas.{AscendsFrom-elements_from, elements-alike, length-elements-le, length-elements_from_both, length-elements}
+use Rattle.bit_set.specs.{Sets.{AscendsFrom, elements_from, elements}, Indexes.digits_from}
 use Rattle.bit_set.specs.Indexes.{values_in, indexes}
 
 -- digits that are 0 are passed over
@@ -18,7 +22,8 @@ same_digits m r a zero same = refl
 same_digits m r a (suc w) same = ap₂ ◌∷◌ (ap (λ n. eqb n 1) (same a (omega arith) (omega arith))) (same_digits m r (a + 1) w (λ k low high. same k (omega arith) (omega arith)))
 
 -- the lowest 1 comes first, and then the ones of the digits without it
-lowest_from : (m r i a w p : ℕ) (bs : List Bool) → IsLowest m i → IsCleared (a + w) m i r → a ≤ i → i < a + w → elements_from p (digits_from m a w ++ bs) ≡ (p + (i - a)) ∷ elements_from p (digits_from r a w ++ bs)
+lowest_from : (m r i a w p : ℕ) (bs : List Bool) → IsLowest m i → IsCleared (a + w) m i r → a ≤ i → i < a + w
+    → elements_from p (digits_from m a w ++ bs) ≡ (p + (i - a)) ∷ elements_from p (digits_from r a w ++ bs)
 lowest_from m r i a zero p bs low cleared from within = absurd (omega arith)
 lowest_from m r i a (suc w) p bs low cleared from within =
     elim (cases_lt a i) [
@@ -70,7 +75,8 @@ none_from m a zero p none = refl
 none_from m a (suc w) p none = rw (is_one-bit 0 m a (none a (omega arith))) (none_from m (a + 1) w (p + 1) (λ k from. none k (omega (arith, from))))
 
 -- it comes last, after the ones of the digits without it
-highest_from : (m r i a w p : ℕ) → IsHighest m i → IsCleared (a + w) m i r → ((k : ℕ) → i ≤ k → bit_at r k ≡ 0) → a ≤ i → i < a + w → elements_from p (digits_from m a w ++ []) ≡ elements_from p (digits_from r a w ++ []) ++ (p + (i - a)) ∷ []
+highest_from : (m r i a w p : ℕ) → IsHighest m i → IsCleared (a + w) m i r → ((k : ℕ) → i ≤ k → bit_at r k ≡ 0) → a ≤ i
+    → i < a + w → elements_from p (digits_from m a w ++ []) ≡ elements_from p (digits_from r a w ++ []) ++ (p + (i - a)) ∷ []
 highest_from m r i a zero p high cleared none from within = absurd (omega arith)
 highest_from m r i a (suc w) p high cleared none from within =
     elim (cases_lt a i) [
@@ -85,7 +91,13 @@ highest_from m r i a (suc w) p high cleared none from within =
           let one = is_one-bit 1 m a (ap (bit_at m) (sym here) ∙ high.one) in
           let zero_here = is_one-bit 0 r a (none a (omega (arith, here))) in
           let index : p + (i - a) ≡ p = omega arith in
-          rw (one, zero_here, index, none_from m (a + 1) w (p + 1) (λ k after. high.zeros k (omega (arith, after, here))), none_from r (a + 1) w (p + 1) (λ k after. none k (omega (arith, after, here)))) refl
+          rw (
+            one,
+            zero_here,
+            index,
+            none_from m (a + 1) w (p + 1) (λ k after. high.zeros k (omega (arith, after, here))),
+            none_from r (a + 1) w (p + 1) (λ k after. none k (omega (arith, after, here))),
+          ) refl
     ]
 
 -- what the digits without it have above it
@@ -150,7 +162,13 @@ digit_counts d small = grind (arith, nat_tests)
 count_digits : (m a w : ℕ) → count_by (λ b. b) (digits_from m a w) ≡ sum_by (bit_at m) (range_with_len a w)
 count_digits m a zero = refl
 count_digits m a (suc w) =
-    omega (arith, count_digits m (a + 1) w, digit_counts (bit_at m a) (bit_at-lt m a), sum_by-cons (λ b. cond b 1 0) (is_one m a) (digits_from m (a + 1) w), sum_by-cons (bit_at m) a (range_with_len (a + 1) w))
+    omega (
+      arith,
+      count_digits m (a + 1) w,
+      digit_counts (bit_at m a) (bit_at-lt m a),
+      sum_by-cons (λ b. cond b 1 0) (is_one m a) (digits_from m (a + 1) w),
+      sum_by-cons (bit_at m) a (range_with_len (a + 1) w),
+    )
 
 pub length-digits_from : (m w : ℕ) (bs : List Bool) → length (digits_from m 0 w ++ bs) ≡ w + length bs
 length-digits_from m w bs = let first = length-map-range_with_len (is_one m) 0 w in omega (arith, length-append (digits_from m 0 w) bs, first)

@@ -8,7 +8,8 @@ bound_of-push : (items : List ℕ) (n : ℕ) → bound_of (items ++ n ∷ []) �
 bound_of-push [] n = omega arith
 bound_of-push (x ∷ xs) n = let rest = bound_of-push xs n in omega (arith, rest)
 
-pub TakesIn-more : (items : List ℕ) (n : ℕ) (old mid new : List Bool) → TakesIn items old mid → elements new ≡ put (elements mid) n → length new ≡ max (length mid) (n + 1) → n < greatest → TakesIn (items ++ n ∷ []) old new
+pub TakesIn-more : (items : List ℕ) (n : ℕ) (old mid new : List Bool) → TakesIn items old mid
+    → elements new ≡ put (elements mid) n → length new ≡ max (length mid) (n + 1) → n < greatest → TakesIn (items ++ n ∷ []) old new
 TakesIn-more items n old mid new so_far members long low =
     let all : elements new ≡ put_all (elements old) (items ++ n ∷ []) = members ∙ ap (λ s. put s n) so_far.members ∙ sym (put_all-append (elements old) items (n ∷ [])) in record {
       members = all;
@@ -30,5 +31,6 @@ TakesIn-empty items old new is took = (
 )
 
 -- the item that cannot go in lies past all that came in
-pub TakesIn-past : (items : List ℕ) (item : ℕ) (old new : List Bool) (fault : SetError) (capacity : ℕ) → old ≡ [] → TakesIn items old new → length new ≤ item → IsInsertFault fault item capacity → (bound_of items ≤ item) × (item ≤ greatest)
+pub TakesIn-past : (items : List ℕ) (item : ℕ) (old new : List Bool) (fault : SetError) (capacity : ℕ) → old ≡ []
+    → TakesIn items old new → length new ≤ item → IsInsertFault fault item capacity → (bound_of items ≤ item) × (item ≤ greatest)
 TakesIn-past items item old new fault capacity is took past refused = let none = ap length is in let long = took.long in grind arith

@@ -1,11 +1,15 @@
 -- Lemmas on the JSON form: the members of an object, the numbers of an array, and what a value spells.
-use Rattle.std.proofs.Common.{◌≡◌, ◌≢◌, ◌==◌, ◌↔◌, ℕ, ◌+◌, ◌-◌, ◌*◌, ◌/◌, ◌%◌, ◌^◌, ◌<◌, Bool, false, true, codes, is_some, List, [], ◌∷◌, length, map, get_or, All, Option, Some, None, IsTrue, option_map, option_and_then, refl, sym, ap, ◌∙◌, pow_pos, unwrap_or, ok_or, Err, arith}
-use Rattle.std.proofs.lemmas.{List.{length-map, get_or-map, ext_get_or, Elements.{All-nil, All-cons, All-head, All-tail, All-map, All-weaker, All-from_get_or}}, Bool.Decides.nat_tests, Nat.Bits.bit_at-zero}
+use Rattle.std.proofs.Common.{◌≡◌, ◌≢◌, ◌==◌, ◌↔◌, ℕ, ◌+◌, ◌-◌, ◌*◌, ◌/◌, ◌%◌, ◌^◌, ◌<◌, Bool, false, true, codes, is_some, List, [], ◌∷◌, length, map, get_or, All, Option, Some, None, IsTrue}
+use Rattle.std.proofs.Common.{option_map, option_and_then, refl, sym, ap, ◌∙◌, pow_pos, unwrap_or, ok_or, Err, arith}
+use Rattle.std.proofs.lemmas.{List.{length-map, get_or-map, ext_get_or, Elements.{All-nil, All-cons, All-head, All-tail, All-map, All-weaker, All-from_get_or}}, Bool.Decides.nat_tests}
+use Rattle.std.proofs.lemmas.{Nat.Bits.bit_at-zero}
 use Rattle.std.proofs.{lemmas.{Nat.Bits.same_from_bits_below, Option.same_Some}, Math.Nat.{div-add-mod', mod-lt}}
-use Rattle.serde_json.specs.{Data.{Data, array, member, no_members, number, object, unsigned}, Events.members_len, View.{view, items_of, items_view, members_view}, declared.value.Value.Value, Find.as_object}
+use Rattle.serde_json.specs.{Data.{Data, array, member, no_members, number, object, unsigned}, Events.members_len, View.{view, items_of, items_view, members_view}, declared.value.Value.Value}
+use Rattle.serde_json.specs.{Find.as_object}
 use Rattle.serde_json.proofs.Views.{Entry, members_len-members_view}
 use Rattle.bit_blocks.{specs.{Bits.{blocks_for, blocks_of}, Digits.IsShiftedRight}, proofs.BitsLemmas.{blocks_of-lt, length-blocks_of}}
-use Rattle.bit_set.{proofs.{IndexLemmas.values_in-blocks_of, FilledLemmas.blocks_of_zero_tail}, specs.{declared.json.JsonError.JsonError, Json.{HasNumbers, HasZeroTail, IsFault, IsFirstFault, Spells, members_in}}}
+use Rattle.bit_set.proofs.{IndexLemmas.values_in-blocks_of, FilledLemmas.blocks_of_zero_tail}
+use Rattle.bit_set.specs.{declared.json.JsonError.JsonError, Json.{HasNumbers, HasZeroTail, IsFault, IsFirstFault, Spells, members_in}}
 use Rattle.bit_set.specs.{Json.{number_in, numbers_in, bit_vec_in, storage_in, nbits_in}, Entries.{AreNumbers, AreParts, HasLength, IsEntry, number_of_entry, numbers_of}}
 
 -- ---- the shape
@@ -73,7 +77,8 @@ blocks_for_some w n c part count = omega arith
 
 -- a last block that is not full is 0 past the length just where nothing is left of it once its used digits are
 -- shifted out
-pub zero_tail_by_shift : (w n r : ℕ) (ms : List ℕ) → 0 < w → n % w ≢ 0 → length ms ≡ blocks_for w n → r < 2 ^ w → IsShiftedRight w (get_or ms (length ms - 1) 0) (n % w) r → (r ≡ 0) ↔ HasZeroTail w ms n
+pub zero_tail_by_shift : (w n r : ℕ) (ms : List ℕ) → 0 < w → n % w ≢ 0 → length ms ≡ blocks_for w n
+    → r < 2 ^ w → IsShiftedRight w (get_or ms (length ms - 1) 0) (n % w) r → (r ≡ 0) ↔ HasZeroTail w ms n
 zero_tail_by_shift w n r ms pos part count small shifted =
     let used = mod-lt n pos in
     let split = div-add-mod' n w in

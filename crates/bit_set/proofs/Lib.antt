@@ -42,6 +42,7 @@ pub mod JsonLemmas
 pub mod FilledLemmas
 pub mod ChangeLemmas
 pub mod NotedLemmas
+pub mod FusedLemmas
 pub mod CallerLemmas
 pub mod TestLemmas
 pub mod WalkCalls

@@ -1,12 +1,17 @@
 -- What calls make of a set, as of every number whether it is in, and of how many there are.
-use Rattle.std.proofs.{Common.{◌≡◌, ℕ, ◌+◌, ◌<◌, ◌≤◌, ◌==◌, ◌++◌, Bool, true, false, not, ◌↔◌, cond, ◌||◌, ltb, nat_le, List, [], ◌∷◌, length, refl, sym, ap, subst, ◌∙◌, arith, IsTrue}, lemmas.Bool.{eq-eqb, true≢false, Decides.nat_tests}}
+use Rattle.std.proofs.Common.{◌≡◌, ℕ, ◌+◌, ◌<◌, ◌≤◌, ◌==◌, ◌++◌, Bool, true, false, not, ◌↔◌, cond, ◌||◌, ltb, nat_le, List, [], ◌∷◌, length, refl, sym, ap, subst, ◌∙◌, arith, IsTrue}
+use Rattle.std.proofs.lemmas.Bool.{eq-eqb, true≢false, Decides.nat_tests}
 use Rattle.std.specs.Cmp.Lexicographic.{bytes_decides}
 use Rattle.bit_blocks.specs.{Bits.{Bits, IsWithinCapacity}, declared.block.merge.Merge.Merge}
 use Rattle.bit_words.specs.Bounds.{greatest}
-use Rattle.bit_set.specs.{Members.{HasNone, IsCounted, IsDisjoint, IsMerged, IsSameSet, IsSubset, IsUnion, KeepsBelow, KeepsFrom, TakesGreatest, TakesLeast, Updates}, Order.same_sets, Sets.{AscendsFrom, IsAscending, elements, has}}
-use Rattle.bit_set.{specs.Sets.{is_disjoint, is_subset, merge_of_sets, put, put_all, those_below, those_from, without}, proofs.{ValueLemmas.{has-slice_get, has-within}, AlgebraLemmas.{has-merge_of_sets, has-union}}}
-use Rattle.bit_set.proofs.{SetLemmas.{has-elements, length-elements, AscendsFrom-lower, AscendsFrom-reach, IsAscending-elements, has-filter, has-put, has-without, length-elements-le, same_members}, SizeLemmas.{length-put, length-without}}
-use Rattle.bit_set.proofs.{SizeLemmas.{least-first, without-first}, SubsetLemmas.{is_disjoint-members, is_subset-members, is_subset-no_difference, is_disjoint-no_intersection, is_subset-both_ways, is_subset-finite}}
+use Rattle.bit_set.specs.{Members.{HasNone, IsCounted, IsDisjoint, IsMerged, IsSameSet, IsSubset, IsUnion, KeepsBelow, KeepsFrom, TakesGreatest, TakesLeast, Updates}, Order.same_sets}
+use Rattle.bit_set.specs.Sets.{AscendsFrom, IsAscending, elements, has}
+use Rattle.bit_set.specs.Sets.{is_disjoint, is_subset, merge_of_sets, put, put_all, those_below, those_from, without}
+use Rattle.bit_set.proofs.{ValueLemmas.{has-slice_get, has-within}, AlgebraLemmas.{has-merge_of_sets, has-union}}
+use Rattle.bit_set.proofs.SetLemmas.{has-elements, length-elements, AscendsFrom-lower, AscendsFrom-reach, IsAscending-elements, has-filter, has-put, has-without, length-elements-le, same_members}
+use Rattle.bit_set.proofs.SizeLemmas.{length-put, length-without}
+use Rattle.bit_set.proofs.SizeLemmas.{least-first, without-first}
+use Rattle.bit_set.proofs.SubsetLemmas.{is_disjoint-members, is_subset-members, is_subset-no_difference, is_disjoint-no_intersection, is_subset-both_ways, is_subset-finite}
 use Rattle.bit_set.proofs.SubsetLemmas.{each_passes, all_pass}
 
 -- ---- one number

@@ -1,10 +1,13 @@
 -- What the first mismatch of lists of blocks says of the sets that they hold.
-use Rattle.std.proofs.{Common.{◌≡◌, ℕ, ◌+◌, ◌*◌, ◌/◌, ◌%◌, ◌^◌, ◌<◌, ◌≤◌, Bool, true, false, not, eqb, List, get_or, length, sym, ap, ◌∙◌, ◌↔◌, subst, inl, inr, arith}, lemmas.Bool.{cases_eq, Decides.nat_tests}}
-use Rattle.std.{proofs.{lemmas.Nat.{Bits.{bit_at-lt, bit_at-zero, same_from_bits_below}, le-div}, Math.Nat.{div-add-mod', mod-lt, mul-le-mul_right, lt_of_mul-lt-mul_right}}, specs.Cmp.Lexicographic.bytes_decides}
+use Rattle.std.proofs.Common.{◌≡◌, ℕ, ◌+◌, ◌*◌, ◌/◌, ◌%◌, ◌^◌, ◌<◌, ◌≤◌, Bool, true, false, not, eqb, List, get_or, length, sym, ap, ◌∙◌, ◌↔◌, subst, inl, inr, arith}
+use Rattle.std.proofs.lemmas.Bool.{cases_eq, Decides.nat_tests}
+use Rattle.std.proofs.{lemmas.Nat.{Bits.{bit_at-lt, bit_at-zero, same_from_bits_below}, le-div}, Math.Nat.{div-add-mod', mod-lt, mul-le-mul_right, lt_of_mul-lt-mul_right}}
+use Rattle.std.{specs.Cmp.Lexicographic.bytes_decides}
 use Rattle.std.specs.{Prelude.IsTrue, Int.bit_at}
 use Rattle.bit_blocks.{specs.{Bits.{blocks_of, digit_of}, Mismatches.{IsFirstBlockMismatch, IsFirstNonzeroBlock, IsLowestMismatch}}, proofs.BitsLemmas.{blocks_of-digit, blocks_of-lt, read_back}}
 use Rattle.bit_blocks.proofs.LowestLemmas.{lowest_found}
-use Rattle.bit_set.{specs.{Sets.{elements, has}, Mismatches.IsFirstMismatch, Order.same_sets}, proofs.{OrderLemmas.same_where_all_agree, SetLemmas.has-elements, SubsetLemmas.same_tests, ValueLemmas.has-within}}
+use Rattle.bit_set.specs.{Sets.{elements, has}, Mismatches.IsFirstMismatch, Order.same_sets}
+use Rattle.bit_set.proofs.{OrderLemmas.same_where_all_agree, SetLemmas.has-elements, SubsetLemmas.same_tests, ValueLemmas.has-within}
 
 -- ---- the blocks of a list of truth values
 
@@ -38,14 +41,16 @@ one_of_two : (a b : ℕ) → a < 2 → b < 2 → a + b ≡ 1 → eqb a 1 ≡ not
 one_of_two a b small also sum = grind (arith, nat_tests)
 
 -- the first block that differs, and the lowest digit there, give the first number that differs
-pub first_mismatch_is : (w at i : ℕ) (xs ys : List Bool) → 0 < w → IsFirstBlockMismatch (blocks_of w xs) (blocks_of w ys) at → IsLowestMismatch w (get_or (blocks_of w xs) at 0) (get_or (blocks_of w ys) at 0) i
+pub first_mismatch_is : (w at i : ℕ) (xs ys : List Bool) → 0 < w → IsFirstBlockMismatch (blocks_of w xs) (blocks_of w ys) at
+    → IsLowestMismatch w (get_or (blocks_of w xs) at 0) (get_or (blocks_of w ys) at 0) i
     → IsFirstMismatch (elements xs) (elements ys) (at * w + i)
 first_mismatch_is w at i xs ys pos first lowest = record {
   below = λ k below.
       has-number w k xs pos
       ∙ ap (λ d. eqb d 1) (elim (cases_eq (k / w) at) as (λ _. bit_at (get_or (blocks_of w xs) (k / w) 0) (k % w) ≡ bit_at (get_or (blocks_of w ys) (k / w) 0) (k % w)) [
         | inl here ↦ rw here (lowest.below (k % w) (omega (arith, div-add-mod' k w, ap (λ q. q * w) here)))
-        | inr other ↦ ap (λ m. bit_at m (k % w)) (first.below (k / w) (let reached : k / w < at + 1 = lt_of_mul-lt-mul_right w (omega (arith, div-add-mod' k w, below, lowest.within)) in omega (arith, other, reached)))
+        | inr other ↦ ap (λ m. bit_at m (k % w))
+            (first.below (k / w) (let reached : k / w < at + 1 = lt_of_mul-lt-mul_right w (omega (arith, div-add-mod' k w, below, lowest.within)) in omega (arith, other, reached)))
       ])
       ∙ sym (has-number w k ys pos);
   here =
@@ -68,8 +73,12 @@ abbrev NoneFrom : List Bool → ℕ → Type 0
 NoneFrom values from = (k : ℕ) → from ≤ k → has (elements values) k ≡ false
 
 pub has_in_block : (w from m j : ℕ) (ms : List ℕ) (values : List Bool) → ms ≡ blocks_of w values → m ≡ get_or ms (from / w) 0 → from % w ≤ j → j < w → bit_at m j ≡ 1 → SomeFrom values from
-has_in_block w from m j ms values are is past within one =
-    (from / w * w + j, omega (arith, div-add-mod' from w), has-index w (from / w) j values within ∙ ap (λ x. eqb (bit_at x j) 1) (sym (is ∙ ap (λ bs. get_or bs (from / w) 0) are)) ∙ ap (λ d. eqb d 1) one)
+has_in_block w from m j ms values are is past within one = (
+  from / w * w + j,
+  omega (arith, div-add-mod' from w),
+  has-index w (from / w) j values within
+      ∙ ap (λ x. eqb (bit_at x j) 1) (sym (is ∙ ap (λ bs. get_or bs (from / w) 0) are)) ∙ ap (λ d. eqb d 1) one,
+)
 
 pub has_past_block : (w from q : ℕ) (ms : List ℕ) (values : List Bool) → 0 < w → ms ≡ blocks_of w values → IsFirstNonzeroBlock ms (from / w + 1) q → SomeFrom values from
 has_past_block w from q ms values pos are found_one =

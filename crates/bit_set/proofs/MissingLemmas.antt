@@ -1,10 +1,15 @@
 -- The walk over what is missing in a range: its making, the step to the next block, the end, and how many are left.
-use Rattle.std.proofs.Common.{◌≡◌, ℕ, zero, suc, ◌+◌, ◌-◌, ◌*◌, ◌/◌, ◌^◌, ◌<◌, ◌≤◌, min, Bool, true, false, not, ◌&&◌, nat_le, nat_lt, cond, List, [], ◌∷◌, ◌++◌, get_or, length, map, take, drop, All, Some, None, refl, sym, ap, ap₂, ◌∙◌, arith, subst, ⊎_elim, get_or-take, get_or-drop, length-take}
-use Rattle.std.proofs.lemmas.{Nat.div-mul-add, Bool.{cases_lt, Decides.nat_tests}, List.{get_or_append_left, get_or-append_right, get_or_past, Elements.{All-cons, All-filter, All-head, All-nil, All-tail}, Sums.sum_by-cons, FromFn.{get_or-map-range_with_len, length-map-range_with_len, length-range_with_len}}}
+use Rattle.std.proofs.Common.{◌≡◌, ℕ, zero, suc, ◌+◌, ◌-◌, ◌*◌, ◌/◌, ◌^◌, ◌<◌, ◌≤◌, min, Bool, true, false, not, ◌&&◌, nat_le, nat_lt, cond, List, [], ◌∷◌, ◌++◌, get_or, length, map, take, drop, All}
+use Rattle.std.proofs.Common.{Some, None, refl, sym, ap, ap₂, ◌∙◌, arith, subst, ⊎_elim, get_or-take, get_or-drop, length-take}
+use Rattle.std.proofs.lemmas.{Nat.div-mul-add, Bool.{cases_lt, Decides.nat_tests}}
+use Rattle.std.proofs.lemmas.List.{get_or_append_left, get_or-append_right, get_or_past, Elements.{All-cons, All-filter, All-head, All-nil, All-tail}, Sums.sum_by-cons}
+use Rattle.std.proofs.lemmas.List.FromFn.{get_or-map-range_with_len, length-map-range_with_len, length-range_with_len}
 use Rattle.std.{proofs.Math.Nat.{div-add-mod', mod-lt, mul-div_cancel}, specs.List.{count_by, range_with_len}}
 use Rattle.bit_blocks.specs.{Digits.is_one, Lowest.{IsCleared, IsLowest}, Ranges.{in_range, values_in_range}}
-use Rattle.bit_set.specs.{Indexes.{digits_from, indexes}, Missing.{IsMissingWalk, MissingWalk, PassesMembers, StartsMissing, StaysInRange, missing_left, missing_values}, Ranges.span, Sets.{AscendsFrom, difference, elements, elements_from, has}}
-use Rattle.bit_set.proofs.{MemberLemmas.takes_least, IndexLemmas.{AscendsFrom-indexes, indexes-lowest, indexes-zero}, RangeLemmas.{IsAscending-span, has-span}, SetLemmas.{AscendsFrom-filter, AscendsFrom-lower, elements-alike, has-below, has-elements, has-elements_from, has-filter, length-elements, same_members}}
+use Rattle.bit_set.specs.{Indexes.{digits_from, indexes}, Missing.{IsMissingWalk, MissingWalk, PassesMembers, StartsMissing, StaysInRange, missing_left, missing_values}, Ranges.span}
+use Rattle.bit_set.specs.Sets.{AscendsFrom, difference, elements, elements_from, has}
+use Rattle.bit_set.proofs.{MemberLemmas.takes_least, IndexLemmas.{AscendsFrom-indexes, indexes-lowest, indexes-zero}, RangeLemmas.{IsAscending-span, has-span}}
+use Rattle.bit_set.proofs.SetLemmas.{AscendsFrom-filter, AscendsFrom-lower, elements-alike, has-below, has-elements, has-elements_from, has-filter, length-elements, same_members}
 
 -- lists of truth values that read alike are true at the same indexes
 elements_from-alike : (p : ℕ) (bs cs : List Bool) → ((k : ℕ) → get_or bs k false ≡ get_or cs k false) → elements_from p bs ≡ elements_from p cs
@@ -34,13 +39,15 @@ get_or-missing a b k values =
     (λ (past : b - a ≤ k). get_or_past (map test (range_with_len a (b - a))) k false (omega (arith, past, length-map-range_with_len test a (b - a))) ∙ grind (arith, nat_tests, past))
     (cases_lt k (b - a))
 
-get_or-in_hand : (w index m end k : ℕ) (values : List Bool) → get_or (digits_from m 0 w ++ missing_values (index + w) end values) k false ≡ cond (nat_lt k w) (is_one m k) (nat_lt (index + k) end && not (get_or values (index + k) false))
+get_or-in_hand : (w index m end k : ℕ) (values : List Bool)
+    → get_or (digits_from m 0 w ++ missing_values (index + w) end values) k false ≡ cond (nat_lt k w) (is_one m k) (nat_lt (index + k) end && not (get_or values (index + k) false))
 get_or-in_hand w index m end k values =
     let front = digits_from m 0 w in
     let rest = missing_values (index + w) end values in
     let long = length-map-range_with_len (is_one m) 0 w in
     ⊎_elim
-    (λ (within : k < w). get_or_append_left front rest false k (omega (arith, within, long)) ∙ get_or-map-range_with_len (is_one m) 0 w k k false within (omega arith) ∙ grind (arith, nat_tests, within))
+    (λ (within : k < w). get_or_append_left front rest false k (omega (arith, within, long))
+    ∙ get_or-map-range_with_len (is_one m) 0 w k k false within (omega arith) ∙ grind (arith, nat_tests, within))
     (λ (past : w ≤ k).
     let at : index + w + (k - w) ≡ index + k = omega (arith, past) in
     get_or-append_right front rest w k false long past ∙ get_or-missing (index + w) end (k - w) values
@@ -50,7 +57,8 @@ get_or-in_hand w index m end k values =
 -- ---- a block is used up
 
 -- the next one has the numbers past it
-pub missing-next : (w index m n end : ℕ) (values : List Bool) → m ≡ 0 → ((j : ℕ) → j < w → is_one n j ≡ (nat_lt (index + w + j) end && not (get_or values (index + w + j) false))) → missing_left w index m end values ≡ missing_left w (index + w) n end values
+pub missing-next : (w index m n end : ℕ) (values : List Bool) → m ≡ 0 → ((j : ℕ) → j < w → is_one n j ≡ (nat_lt (index + w + j) end && not (get_or values (index + w + j) false)))
+    → missing_left w index m end values ≡ missing_left w (index + w) n end values
 unfolding indexes
 missing-next w index m n end values none digits =
     ap (λ k. indexes w index k (missing_values (index + w) end values)) none
@@ -72,7 +80,8 @@ missing-end w index m end values none past =
 
 -- ---- the making of a walk
 
-module _ (w index m a b : ℕ) (values : List Bool) (digits : (j : ℕ) → j < w → is_one m j ≡ (nat_le (min a b - index) j && (nat_lt (index + j) b && not (get_or values (index + j) false)))) (before : index ≤ min a b) (within : min a b < index + w) where
+module _ (w index m a b : ℕ) (values : List Bool) (digits : (j : ℕ) → j < w
+    → is_one m j ≡ (nat_le (min a b - index) j && (nat_lt (index + j) b && not (get_or values (index + j) false)))) (before : index ≤ min a b) (within : min a b < index + w) where
   has-begun : (n : ℕ) → has (missing_left w index m b values) n ≡ (in_range a b n && not (get_or values n false))
   unfolding indexes
   has-begun n =
@@ -150,7 +159,8 @@ module _ (w : ℕ) where
   seen_missing index m end values = record { left = missing_left w index m end values; index = index; end = end }
 
   -- the next block, block k, is in hand where the one before was used up
-  pub IsMissingWalk-next : (before after : Type 0) (index at k m n end : ℕ) (values : List Bool) → 0 < w → IsMissingWalk before w index m end values → after → m ≡ 0 → index + w < end → at ≡ index + w → k ≡ at / w
+  pub IsMissingWalk-next : (before after : Type 0) (index at k m n end : ℕ) (values : List Bool) → 0 < w
+      → IsMissingWalk before w index m end values → after → m ≡ 0 → index + w < end → at ≡ index + w → k ≡ at / w
       → ((j : ℕ) → j < w → is_one n j ≡ (nat_lt (k * w + j) end && not (get_or values (k * w + j) false)))
       → IsMissingWalk after w at n end values × (missing_left w at n end values ≡ missing_left w index m end values)
   IsMissingWalk-next before after index at k m n end values pos walk lawful none inside onward block digits =
@@ -182,7 +192,8 @@ module _ (w : ℕ) where
       let ended = missing-end w index m end values none past in
       record { item = (sym left ∙ ended, ended); first = tt; block = record { at = (onward, inside, past); end = to } }
 
-  pub passes_to : (is_block : Type 0) (s : MissingWalk) (index m r i end : ℕ) (values : List Bool) → 0 < w → IsMissingWalk is_block w index m end values → missing_left w index m end values ≡ s.left → end ≡ s.end
+  pub passes_to : (is_block : Type 0) (s : MissingWalk) (index m r i end : ℕ) (values : List Bool) → 0 < w
+      → IsMissingWalk is_block w index m end values → missing_left w index m end values ≡ s.left → end ≡ s.end
       → IsLowest m i → i < w → IsCleared w m i r
       → PassesMembers w s (Some (index + i)) (seen_missing index r end values)
   unfolding StaysInRange
@@ -219,7 +230,8 @@ trues_in_range a n values =
     ⊎_elim
     (λ (within : k < n). get_or-take n (drop a values) k false within ∙ get_or-drop a values k false ∙ sym (get_or-map-range_with_len (λ i. get_or values i false) a n k (a + k) false within refl))
     (λ (past : n ≤ k).
-    get_or_past (take n (drop a values)) k false (omega (arith, past, length-take n (drop a values))) ∙ sym (get_or_past read k false (omega (arith, past, length-map-range_with_len (λ i. get_or values i false) a n))))
+    get_or_past (take n (drop a values)) k false (omega (arith, past, length-take n (drop a values)))
+    ∙ sym (get_or_past read k false (omega (arith, past, length-map-range_with_len (λ i. get_or values i false) a n))))
     (cases_lt k n)) in
     sym (length-elements (take n (drop a values))) ∙ ap length alike ∙ length-elements read
 

@@ -1,10 +1,14 @@
 -- Sets whose members all move by one distance, and the part of a set in a range.
-use Rattle.std.proofs.{Common.{◌≡◌, ℕ, ◌+◌, ◌-◌, ◌<◌, ◌≤◌, min, Bool, false, ◌&&◌, nat_le, List, [], ◌∷◌, ◌++◌, length, get_or, take, drop, map, replicate, refl, sym, ap, ◌∙◌, arith, length-append, length-drop, length-take, get_or-drop, get_or-take}, lemmas.Bool.Decides.nat_tests}
+use Rattle.std.proofs.Common.{◌≡◌, ℕ, ◌+◌, ◌-◌, ◌<◌, ◌≤◌, min, Bool, false, ◌&&◌, nat_le, List, [], ◌∷◌, ◌++◌, length, get_or, take, drop, map, replicate, refl, sym, ap, ◌∙◌, arith, length-append}
+use Rattle.std.proofs.Common.{length-drop, length-take, get_or-drop, get_or-take}
+use Rattle.std.proofs.{lemmas.Bool.Decides.nat_tests}
 use Rattle.std.proofs.lemmas.List.{get_or-append_right, get_or-replicate, get_or_append_left, get_or_past, length-replicate}
 use Rattle.bit_blocks.specs.Ranges.{in_range, values_in_range}
 use Rattle.bit_words.specs.Bounds.{greatest}
-use Rattle.bit_set.specs.{Changes.{Change.ShiftUp, Changes, Outcome.Done}, Choices.IsGreatest, Members.HasNone, Moved.{IsLowered, IsRaised, KeepsRange, lowered, raised}, Ranges.those_in_range, Sets.{AscendsFrom, IsAscending, bound_of, elements, has, those_from}}
-use Rattle.bit_set.proofs.{MemberLemmas.none_from_members, RangeLemmas.AscendsFrom-those_from, SetLaws.{bound_of-above, bound_of-least}, SetLemmas.{AscendsFrom-lower, elements-kept, get_or_padded, has-elements, has-filter, same_members}}
+use Rattle.bit_set.specs.{Changes.{Change.ShiftUp, Changes, Outcome.Done}, Choices.IsGreatest, Members.HasNone, Moved.{IsLowered, IsRaised, KeepsRange, lowered, raised}, Ranges.those_in_range}
+use Rattle.bit_set.specs.Sets.{AscendsFrom, IsAscending, bound_of, elements, has, those_from}
+use Rattle.bit_set.proofs.{MemberLemmas.none_from_members, RangeLemmas.AscendsFrom-those_from, SetLaws.{bound_of-above, bound_of-least}}
+use Rattle.bit_set.proofs.SetLemmas.{AscendsFrom-lower, elements-kept, get_or_padded, has-elements, has-filter, same_members}
 
 -- ---- up
 
@@ -38,7 +42,8 @@ pub none_raised : (d : ℕ) (s : List ℕ) → HasNone s → raised s d ≡ s
 none_raised d s none = let empty = none_from_members s none in ap (λ u. raised u d) empty ∙ sym empty
 
 -- the list, which was made long enough
-pub members_raised : (d n : ℕ) (bs mid new : List Bool) → bound_of (raised (elements bs) d) ≤ length bs + n → mid ≡ bs ++ replicate n false → new ≡ take (length mid) (replicate d false ++ mid) → IsRaised (elements bs) (elements new) d
+pub members_raised : (d n : ℕ) (bs mid new : List Bool) → bound_of (raised (elements bs) d) ≤ length bs + n
+    → mid ≡ bs ++ replicate n false → new ≡ take (length mid) (replicate d false ++ mid) → IsRaised (elements bs) (elements new) d
 members_raised d n bs mid new long lengthened moved i =
     let front = replicate d false in
     let size : length mid ≡ length bs + n = ap length lengthened ∙ omega (arith, length-append bs (replicate n false), length-replicate n false) in

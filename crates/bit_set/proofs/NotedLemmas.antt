@@ -1,30 +1,37 @@
 -- What a call returns that tells whether it changed a set, in the words of each operation, and how many elements there are
 -- then.
-use Rattle.std.proofs.Common.{length-take, ◌≡◌, ℕ, ◌+◌, ◌≤◌, ◌↔◌, ◌-◌, ◌++◌, max, replicate, length-append, Bool, true, false, not, cond, List, [], ◌∷◌, filter, length, take, refl, sym, ap, ◌∙◌, arith, ⊎_elim, Result, Ok, Err, get_or-take}
+use Rattle.std.proofs.Common.{length-take, ◌≡◌, ℕ, ◌+◌, ◌≤◌, ◌↔◌, ◌-◌, ◌++◌, max, replicate, length-append, Bool, true, false, not, cond, List, [], ◌∷◌, filter, length, take, refl, sym, ap, ◌∙◌}
+use Rattle.std.proofs.Common.{arith, ⊎_elim, Result, Ok, Err, get_or-take}
 use Rattle.std.proofs.lemmas.{Bool.{cases_lt}, List.{get_or_past, length-replicate}}
 use Rattle.std.specs.{Cmp.Lexicographic.bytes_decides, List.list_all, Prelude.{IfOk, OnOk}}
 use Rattle.bit_blocks.{specs.{Merges.merge_of, declared.block.merge.Merge.TheVariants.{Difference, Symmetric, Union}}, proofs.MergeLemmas.{get_or-merged, length-merged}}
-use Rattle.bit_set.specs.{Members.{IsUnionWithDifference}, Order.same_sets, Sets.{IsAscending, difference, elements, has, is_subset, symmetric_difference, those_new, union}}
-use Rattle.bit_set.proofs.{AlgebraLemmas.{IsAscending-merge_of_sets, has-difference, has-symmetric, has-union}, MemberLemmas.none_from_members, SetLaws.{IsAscending-put_all, same_values}, SetLemmas.{AscendsFrom-filter, elements-padded, IsAscending-elements, elements-by_members, has-elements, has-filter, same_members}, SizeLemmas.{has-those_new, length-put_all}, SubsetLemmas.{all_pass, each_passes, is_subset-members, same_tests}}
+use Rattle.bit_set.specs.{Members.{IsUnionWithDifference}, Order.same_sets, Sets.{IsAscending, difference, elements, has, intersection, is_disjoint, is_subset, symmetric_difference, those_new, union}}
+use Rattle.bit_set.proofs.{AlgebraLemmas.{IsAscending-merge_of_sets, has-difference, has-symmetric, has-union}, MemberLemmas.none_from_members, SetLaws.{IsAscending-put_all, same_values}}
+use Rattle.bit_set.proofs.SetLemmas.{AscendsFrom-filter, elements-padded, IsAscending-elements, elements-by_members, has-elements, has-filter, same_members}
+use Rattle.bit_set.proofs.{SizeLemmas.{has-those_new, length-put_all}, SubsetLemmas.{all_pass, each_passes, is_subset-members, same_tests}}
 
 -- ---- a call that succeeded
 
 -- what it told, in other words
-pub told_as : {E : Type 0} (s t new : List ℕ) (kept : Bool) (r : Result Bool E) → OnOk r (new ≡ t) → IfOk r (λ changed. changed ≡ not (same_sets s new)) → same_sets s t ≡ kept → IfOk r (λ changed. changed ≡ not kept)
+pub told_as : {E : Type 0} (s t new : List ℕ) (kept : Bool) (r : Result Bool E) → OnOk r (new ≡ t)
+    → IfOk r (λ changed. changed ≡ not (same_sets s new)) → same_sets s t ≡ kept → IfOk r (λ changed. changed ≡ not kept)
 told_as s t new kept (Ok changed) made tells same = tells ∙ ap (λ u. not (same_sets s u)) made ∙ ap not same
 told_as s t new kept (Err fault) made tells same = tt
 
 -- how many there are more, and how many fewer
-pub told_more : {E : Type 0} (s t new : List ℕ) (kept : Bool) (r : Result Bool E) → OnOk r (new ≡ t) → IfOk r (λ changed. changed ≡ not (same_sets s new)) → same_sets s t ≡ kept → length s + cond (not kept) 1 0 ≤ length t → IfOk r (λ changed. length s + cond changed 1 0 ≤ length new)
+pub told_more : {E : Type 0} (s t new : List ℕ) (kept : Bool) (r : Result Bool E) → OnOk r (new ≡ t) → IfOk r (λ changed. changed ≡ not (same_sets s new))
+    → same_sets s t ≡ kept → length s + cond (not kept) 1 0 ≤ length t → IfOk r (λ changed. length s + cond changed 1 0 ≤ length new)
 told_more s t new kept (Ok changed) made tells same more = rw (tells ∙ ap (λ u. not (same_sets s u)) made ∙ ap not same, made) more
 told_more s t new kept (Err fault) made tells same more = tt
 
-pub told_fewer : {E : Type 0} (s t new : List ℕ) (kept : Bool) (r : Result Bool E) → OnOk r (new ≡ t) → IfOk r (λ changed. changed ≡ not (same_sets s new)) → same_sets s t ≡ kept → length t + cond (not kept) 1 0 ≤ length s → IfOk r (λ changed. length new + cond changed 1 0 ≤ length s)
+pub told_fewer : {E : Type 0} (s t new : List ℕ) (kept : Bool) (r : Result Bool E) → OnOk r (new ≡ t) → IfOk r (λ changed. changed ≡ not (same_sets s new))
+    → same_sets s t ≡ kept → length t + cond (not kept) 1 0 ≤ length s → IfOk r (λ changed. length new + cond changed 1 0 ≤ length s)
 told_fewer s t new kept (Ok changed) made tells same fewer = rw (tells ∙ ap (λ u. not (same_sets s u)) made ∙ ap not same, made) fewer
 told_fewer s t new kept (Err fault) made tells same fewer = tt
 
 -- what was told of lists of one length is so of their sets
-pub told_of_lists : (old mid new : List Bool) (changed : Bool) → elements mid ≡ elements old → length new ≡ length mid → ((changed ≡ false) ↔ (new ≡ mid)) → changed ≡ not (same_sets (elements old) (elements new))
+pub told_of_lists : (old mid new : List Bool) (changed : Bool) → elements mid ≡ elements old → length new ≡ length mid
+    → ((changed ≡ false) ↔ (new ≡ mid)) → changed ≡ not (same_sets (elements old) (elements new))
 told_of_lists old mid new changed same long tells =
     let lists = bytes_decides (elements old) (elements new) in
     let back : elements old ≡ elements new → changed ≡ false = λ e. tells.1 (same_values new mid (sym e ∙ sym same) long) in
@@ -32,9 +39,11 @@ told_of_lists old mid new changed same long tells =
     grind arith
 
 -- lengthened with false, and then changed in place
-pub told_of_lengthened : (old mid new : List Bool) (len : ℕ) (changed : Bool) → mid ≡ old ++ replicate (len - length old) false → length new ≡ max (length old) len → ((changed ≡ false) ↔ (new ≡ mid)) → changed ≡ not (same_sets (elements old) (elements new))
+pub told_of_lengthened : (old mid new : List Bool) (len : ℕ) (changed : Bool) → mid ≡ old ++ replicate (len - length old) false
+    → length new ≡ max (length old) len → ((changed ≡ false) ↔ (new ≡ mid)) → changed ≡ not (same_sets (elements old) (elements new))
 told_of_lengthened old mid new len changed is long tells =
-    told_of_lists old mid new changed (ap elements is ∙ elements-padded old (len - length old)) (omega (arith, long, ap length is, length-append old (replicate (len - length old) false), length-replicate (len - length old) false)) tells
+    told_of_lists old mid new changed (ap elements is ∙ elements-padded old (len - length old))
+    (omega (arith, long, ap length is, length-append old (replicate (len - length old) false), length-replicate (len - length old) false)) tells
 
 -- and where no change was told of there was none
 pub told_unchanged : (s t : List ℕ) (changed : Bool) → changed ≡ not (same_sets s t) → changed ≡ false → t ≡ s
@@ -68,16 +77,9 @@ pub symmetric_kept : (s t : List ℕ) → IsAscending s → (same_sets s (symmet
 symmetric_kept s t up =
     let same = bytes_decides s (symmetric_difference s t) in (
       λ is. none_from_members t (λ n. let member = has-symmetric s t n in let e = ap (λ u. has u n) (same.0 is) in grind arith),
-      λ none. same.1 (same_members s (symmetric_difference s t) up (IsAscending-merge_of_sets Symmetric s t up) (λ n. let member = has-symmetric s t n in let e = ap (λ u. has u n) none in grind arith)),
+      λ none. same.1 (same_members s (symmetric_difference s t) up (IsAscending-merge_of_sets Symmetric s t up)
+          (λ n. let member = has-symmetric s t n in let e = ap (λ u. has u n) none in grind arith)),
     )
-
--- which is what is told then
-pub told_none : {E : Type 0} (s t new : List ℕ) (r : Result Bool E) → IsAscending s → OnOk r (new ≡ symmetric_difference s t) → IfOk r (λ changed. changed ≡ not (same_sets s new)) → IfOk r (λ changed. (changed ≡ false) ↔ (t ≡ []))
-told_none s t new (Ok changed) up made tells =
-    let kept = symmetric_kept s t up in
-    let e = tells ∙ ap (λ u. not (same_sets s u)) made in
-    grind arith
-told_none s t new (Err fault) up made tells = tt
 
 -- ---- how many there are
 
@@ -116,11 +118,27 @@ elements-except xs ys =
     (λ late. let past = get_or_past xs k false late in grind arith)
     (cases_lt k (length xs)))
 
-pub length-lengthened-except : (xs ys zs : List Bool) → length (merge_of Union (xs ++ replicate (length ys - length xs) false) (merge_of Difference ys (take (length ys) zs))) ≡ max (length xs) (length ys)
+pub length-lengthened-except : (xs ys zs : List Bool)
+    → length (merge_of Union (xs ++ replicate (length ys - length xs) false) (merge_of Difference ys (take (length ys) zs))) ≡ max (length xs) (length ys)
 length-lengthened-except xs ys zs =
     let front = xs ++ replicate (length ys - length xs) false in
     let apart = merge_of Difference ys (take (length ys) zs) in
-    omega (arith, length-merged Union front apart, length-merged Difference ys (take (length ys) zs), length-take (length ys) zs, length-append xs (replicate (length ys - length xs) false), length-replicate (length ys - length xs) false)
+    omega (
+      arith,
+      length-merged Union front apart,
+      length-merged Difference ys (take (length ys) zs),
+      length-take (length ys) zs,
+      length-append xs (replicate (length ys - length xs) false),
+      length-replicate (length ys - length xs) false,
+    )
 
 pub members-except : (s t u r : List ℕ) → r ≡ union s (difference t u) → IsUnionWithDifference s t u r
 members-except s t u r is n = let member = has-union s (difference t u) n in let apart = has-difference t u n in ap (λ v. has v n) is ∙ grind arith
+
+pub intersection_kept : (s t : List ℕ) → IsAscending s → same_sets s (intersection s t) ≡ is_subset s t
+intersection_kept s t = filter_kept (λ n. has t n) s
+
+pub difference_kept : (s t : List ℕ) → IsAscending s → same_sets s (difference s t) ≡ is_disjoint s t
+difference_kept s t = filter_kept (λ n. not (has t n)) s
+
+pub ruleset merges_that_keep = (union_kept, intersection_kept, difference_kept, symmetric_kept)

@@ -1,9 +1,12 @@
 -- Calls of `next` in a row, of which those within one block may be left out.
-use Rattle.std.proofs.Common.{◌≡◌, ℕ, zero, suc, ◌+◌, ◌-◌, ◌*◌, ◌/◌, ◌^◌, ◌<◌, ◌≤◌, List, [], ◌∷◌, ◌++◌, drop, take, map, length, slice_get, All, Option, Some, None, count_ones, refl, sym, ap, ap₂, ◌∙◌, subst, arith}
-use Rattle.std.proofs.{lemmas.List.{append_assoc, drop_all, drop-append-le, drop-map, length-append, length-drop, length-map, take-append-drop, Elements.{All-drop, All-take}}, Math.Seq.{drop-append_seam, drop-drop}}
+use Rattle.std.proofs.Common.{◌≡◌, ℕ, zero, suc, ◌+◌, ◌-◌, ◌*◌, ◌/◌, ◌^◌, ◌<◌, ◌≤◌, List, [], ◌∷◌, ◌++◌, drop, take, map, length, slice_get, All, Option, Some, None, count_ones, refl, sym, ap, ap₂}
+use Rattle.std.proofs.Common.{◌∙◌, subst, arith}
+use Rattle.std.proofs.lemmas.List.{append_assoc, drop_all, drop-append-le, drop-map, length-append, length-drop, length-map, take-append-drop, Elements.{All-drop, All-take}}
+use Rattle.std.proofs.Math.Seq.{drop-append_seam, drop-drop}
 use Rattle.std.specs.{Iterator.YieldsLast, List.last_or}
 use Rattle.bit_words.specs.Nonzero.{Hand, Nonzeros, SkipsBlocks}
-use Rattle.bit_set.{specs.{Sets.{AscendsFrom, IsAscending}, Indexes.{indexes, indexes_of, left_between, seen_of, IsSparseWalk, Passes}, Walk.{Walk, Advances, PullsBlocks, PullsBlocksAlong, Skips}}, proofs.{IndexLemmas.{indexes-none, length-indexes}, PartLaws.rank_of, PartLemmas.indexes_of-append, SetLemmas.AscendsFrom-lower, SparseLemmas.ones_of_entries}}
+use Rattle.bit_set.specs.{Sets.{AscendsFrom, IsAscending}, Indexes.{indexes, indexes_of, left_between, seen_of, IsSparseWalk, Passes}, Walk.{Walk, Advances, PullsBlocks, PullsBlocksAlong, Skips}}
+use Rattle.bit_set.proofs.{IndexLemmas.{indexes-none, length-indexes}, PartLaws.rank_of, PartLemmas.indexes_of-append, SetLemmas.AscendsFrom-lower, SparseLemmas.ones_of_entries}
 
 -- ---- lists
 
@@ -55,8 +58,10 @@ some_more w s u t calls n so more = record {
 
 module _ {X : Type 0} (w : ℕ) (number : X → ℕ) (is_block : X → Type 0) (small : (x : X) → is_block x → number x < 2 ^ w) where
   -- what holds of what was left holds of what is past the first n of it
-  kept : (n : ℕ) (front back new : Hand X) (s t : Nonzeros X) → IsSparseWalk w number is_block front s back → is_block new.block → All (λ (entry : ℕ × X). is_block entry.1) t.left → new.index ≡ front.index
-      → AscendsFrom (front.index / w + 1) (map (λ (entry : ℕ × X). entry.0) t.left ++ (back.index / w + 1) ∷ []) → t.blocks ≡ s.blocks → left_between w number new t.left back ≡ drop n (left_between w number front s.left back)
+  kept : (n : ℕ) (front back new : Hand X) (s t : Nonzeros X) → IsSparseWalk w number is_block front s back
+      → is_block new.block → All (λ (entry : ℕ × X). is_block entry.1) t.left → new.index ≡ front.index
+      → AscendsFrom (front.index / w + 1) (map (λ (entry : ℕ × X). entry.0) t.left ++ (back.index / w + 1) ∷ [])
+      → t.blocks ≡ s.blocks → left_between w number new t.left back ≡ drop n (left_between w number front s.left back)
       → IsSparseWalk w number is_block new t back
   kept n front back new s t is lawful each index past same left =
       let old = left_between w number front s.left back in
@@ -70,7 +75,7 @@ module _ {X : Type 0} (w : ℕ) (number : X → ℕ) (is_block : X → Type 0) (
         inside = let count = ap length same in omega (arith, is.inside, count);
         fits = subst (λ xs. (length xs - 1) * w < 2 ^ 64) (sym same) is.fits;
         ascends = subst IsAscending (sym left) (ascends_drop n 0 old is.ascends);
-        below = subst (All (λ i. i < 2 ^ 64)) (sym left) (All-drop (λ i. i < 2 ^ 64) n old is.below);
+        below = subst (All (λ i. i < 2 ^ 64 - 1)) (sym left) (All-drop (λ i. i < 2 ^ 64 - 1) n old is.below);
         count_fits = let count = ap length left in omega (arith, count, length-drop n old, is.count_fits);
       }
 

@@ -1,8 +1,11 @@
 -- How two sets compare, from the least number that just one of them has.
-use Rattle.std.proofs.{Common.{◌≡◌, ℕ, ◌+◌, ◌<◌, ◌≤◌, Bool, true, false, not, ltb, List, [], ◌∷◌, refl, sym, ap, ◌∙◌, arith, inl, inr, ◌||◌}, Math.Bool.not-not, lemmas.Bool.{true≢false, lt-ltb, not-false, cases_order}}
-use Rattle.std.{proofs.lemmas.Bool.{ne_eqb, Decides.nat_tests}, specs.{Cmp.{nat_cmp_total, tied_itself, Lexicographic.{nat_list_cmp_total, bytes_decides}}, Ordering.{ordering_then, ordering_reverse, MatchOrdering}}}
+use Rattle.std.proofs.{Common.{◌≡◌, ℕ, ◌+◌, ◌<◌, ◌≤◌, Bool, true, false, not, ltb, List, [], ◌∷◌, refl, sym, ap, ◌∙◌, arith, inl, inr, ◌||◌}, Math.Bool.not-not}
+use Rattle.std.proofs.lemmas.Bool.{true≢false, lt-ltb, not-false, cases_order}
+use Rattle.std.proofs.lemmas.Bool.{ne_eqb, Decides.nat_tests}
+use Rattle.std.specs.{Cmp.{nat_cmp_total, tied_itself, Lexicographic.{nat_list_cmp_total, bytes_decides}}, Ordering.{ordering_then, ordering_reverse, MatchOrdering}}
 use Rattle.std.specs.declared.cmp.Ordering.{Ordering, TheVariants.{Less, Equal, Greater}}
-use Rattle.bit_set.{specs.{Sets.{elements, has, AscendsFrom}, Order.{order_of_sets, same_sets}, Mismatches.IsFirstMismatch}, proofs.SetLemmas.{IsAscending-elements, same_members, has-below, has-first}}
+use Rattle.bit_set.specs.{Sets.{elements, has, AscendsFrom}, Order.{order_of_sets, same_sets}, Mismatches.IsFirstMismatch}
+use Rattle.bit_set.proofs.SetLemmas.{IsAscending-elements, same_members, has-below, has-first}
 
 -- lists with one first number compare as the others do
 pub order-cons : (p : ℕ) (s t : List ℕ) → order_of_sets (p ∷ s) (p ∷ t) ≡ order_of_sets s t
@@ -41,7 +44,11 @@ by_members low n (x ∷ xs) (y ∷ ys) r up up_too d holds told =
           let second : y ∷ ys ≡ x ∷ ys = ap (λ z. z ∷ ys) (sym same) in
           let rest = rest_apart x n xs ys up.1 (d.here ∙ ap (λ u. not (has u n)) second) holds in
           by_members (x + 1) n xs ys r up.1 there
-          (record { below = λ k under. (let one = has-below (x + 1) xs k up.1 in let other = has-below (x + 1) ys k there in let alike = d.below k under in grind (arith, nat_tests)); here = rest.1 }) rest.2
+          (record {
+            below = λ k under. (let one = has-below (x + 1) xs k up.1 in let other = has-below (x + 1) ys k there in
+                let alike = d.below k under in grind (arith, nat_tests));
+            here = rest.1;
+          }) rest.2
           (tells_alike r n (y ∷ ys) ys (λ k from. ap (λ b. b || has ys k) (ne_eqb y k (λ e. omega (arith, e, same, rest.0, from)))) told)
           ∙ sym (order-cons x xs ys)
           ∙ ap (order_of_sets (x ∷ xs)) (sym second)
@@ -65,7 +72,8 @@ order-swapped s t = nat_list_cmp_total.antisymm s t
 -- ---- what the walk over the blocks found
 
 -- the holder's side of the order, as found
-pub by_holder : (xs ys : List Bool) (n : ℕ) (r : Ordering) → IsFirstMismatch (elements xs) (elements ys) n → has (elements xs) n ≡ true → Tells r n (elements ys) → r ≡ order_of_sets (elements xs) (elements ys)
+pub by_holder : (xs ys : List Bool) (n : ℕ) (r : Ordering) → IsFirstMismatch (elements xs) (elements ys) n
+    → has (elements xs) n ≡ true → Tells r n (elements ys) → r ≡ order_of_sets (elements xs) (elements ys)
 by_holder xs ys n r = by_members 0 n (elements xs) (elements ys) r (IsAscending-elements xs) (IsAscending-elements ys)
 
 -- the other side of the order, where the other set has the number

@@ -5,7 +5,8 @@ use Rattle.bit_blocks.specs.{Digits.is_one, Merges.{merge_of_values, merge_of}, 
 use Rattle.bit_words.specs.Source.{Source, PullsIf}
 use Rattle.bit_blocks.proofs.{Masks.is_one-zero, MergeLemmas.length-merged, BitsLemmas.blocks_for-le}
 use Rattle.bit_set.specs.{Sets.{elements, intersection, merge_of_sets, has}, Indexes.{digits_from, values_in, Ahead, PullsBlock, PullsBlockIf, IsWalkable, IsMergedBlock, IsMergedPull}}
-use Rattle.bit_set.proofs.{AlgebraLemmas.{elements-merged, IsAscending-merge_of_sets, has-intersection}, WalkLemmas.{length-values_of_blocks, length-blocks, elements-values_of_blocks, IsWalkable-of, All-pulled}}
+use Rattle.bit_set.proofs.AlgebraLemmas.{elements-merged, IsAscending-merge_of_sets, has-intersection}
+use Rattle.bit_set.proofs.WalkLemmas.{length-values_of_blocks, length-blocks, elements-values_of_blocks, IsWalkable-of, All-pulled}
 use Rattle.bit_set.proofs.SetLemmas.{IsAscending-elements, length-elements-le, same_members}
 
 -- ---- what two lists of blocks have
@@ -22,12 +23,22 @@ length-intersection a b =
     let up = IsAscending-merge_of_sets Intersection in
     let same = same_members (intersection s t) (intersection t s) (up s t (IsAscending-elements a)) (up t s (IsAscending-elements b))
     (λ n. has-intersection s t n ∙ and_comm (has s n) (has t n) ∙ sym (has-intersection t s n)) in
-    omega (arith, ap length same, length-filter (λ n. has t n) s, count_by-le-length (λ n. has t n) s, length-filter (λ n. has s n) t, count_by-le-length (λ n. has s n) t, length-elements-le 0 a, length-elements-le 0 b)
+    omega (
+      arith,
+      ap length same,
+      length-filter (λ n. has t n) s,
+      count_by-le-length (λ n. has t n) s,
+      length-filter (λ n. has s n) t,
+      count_by-le-length (λ n. has s n) t,
+      length-elements-le 0 a,
+      length-elements-le 0 b,
+    )
 
 -- ---- a pull of both
 
 -- the digits of two blocks, and what is past them
-pub both_digits : (merge : Merge) (m n r a w : ℕ) (xs ys : List Bool) → ((i : ℕ) → a ≤ i → i < a + w → is_one r i ≡ merge_of_values merge (is_one m i) (is_one n i)) → merge_of merge (digits_from m a w ++ xs) (digits_from n a w ++ ys) ≡ digits_from r a w ++ merge_of merge xs ys
+pub both_digits : (merge : Merge) (m n r a w : ℕ) (xs ys : List Bool) → ((i : ℕ) → a ≤ i → i < a + w → is_one r i ≡ merge_of_values merge (is_one m i) (is_one n i))
+    → merge_of merge (digits_from m a w ++ xs) (digits_from n a w ++ ys) ≡ digits_from r a w ++ merge_of merge xs ys
 both_digits merge m n r a zero xs ys each = refl
 both_digits merge m n r a (suc w) xs ys each = ap₂ ◌∷◌ (sym (each a (omega arith) (omega arith))) (both_digits merge m n r (a + 1) w xs ys (λ i low high. each i (omega arith) (omega arith)))
 
@@ -36,21 +47,25 @@ pub first_digits : (merge : Merge) (m r a w : ℕ) (xs : List Bool) → ((i : �
     → merge_of merge (digits_from m a w ++ xs) [] ≡ digits_from r a w ++ merge_of merge xs []
 first_digits merge m r a zero xs each = refl
 first_digits merge m r a (suc w) xs each =
-    ap₂ ◌∷◌ (sym (each a (omega arith) (omega arith) ∙ ap (merge_of_values merge (is_one m a)) (is_one-zero a))) (first_digits merge m r (a + 1) w xs (λ i low high. each i (omega arith) (omega arith)))
+    ap₂ ◌∷◌ (sym (each a (omega arith) (omega arith) ∙ ap (merge_of_values merge (is_one m a)) (is_one-zero a)))
+    (first_digits merge m r (a + 1) w xs (λ i low high. each i (omega arith) (omega arith)))
 
 pub second_digits : (merge : Merge) (n r a w : ℕ) (ys : List Bool) → ((i : ℕ) → a ≤ i → i < a + w → is_one r i ≡ merge_of_values merge (is_one 0 i) (is_one n i))
     → merge_of merge [] (digits_from n a w ++ ys) ≡ digits_from r a w ++ merge_of merge [] ys
 second_digits merge n r a zero ys each = refl
 second_digits merge n r a (suc w) ys each =
-    ap₂ ◌∷◌ (sym (each a (omega arith) (omega arith) ∙ ap (λ v. merge_of_values merge v (is_one n a)) (is_one-zero a))) (second_digits merge n r (a + 1) w ys (λ i low high. each i (omega arith) (omega arith)))
+    ap₂ ◌∷◌ (sym (each a (omega arith) (omega arith) ∙ ap (λ v. merge_of_values merge v (is_one n a)) (is_one-zero a)))
+    (second_digits merge n r (a + 1) w ys (λ i low high. each i (omega arith) (omega arith)))
 
 -- a call of `next_if` gives a block, and leaves such
-pub All-next_if : {X : Type 0} (number : X → ℕ) (is_block : X → Type 0) (wanted : Bool) (s t : Source X) (r : Option X) → All is_block s.left → PullsIf is_block number wanted s r t → IfSome r is_block × All is_block t.left
+pub All-next_if : {X : Type 0} (number : X → ℕ) (is_block : X → Type 0) (wanted : Bool) (s t : Source X) (r : Option X)
+    → All is_block s.left → PullsIf is_block number wanted s r t → IfSome r is_block × All is_block t.left
 All-next_if number is_block true s t r each next = All-pulled is_block s.left t.left r each (next.pulled refl).item
 All-next_if number is_block false s t None each next = absurd (next.zeros refl)
 All-next_if number is_block false s t (Some x) each next = ((next.zeros refl).0, subst (λ u. All is_block u.left) (sym (next.same refl)) each)
 
-pub same_pulls_if : {X : Type 0} (number : X → ℕ) (is_block : X → Type 0) (wanted : Bool) (s s' t t' : Source X) (o p : Option X) → PullsIf is_block number wanted s o s' → PullsIf is_block number wanted t p t' → t.pulls ≡ s.pulls → t'.pulls ≡ s'.pulls
+pub same_pulls_if : {X : Type 0} (number : X → ℕ) (is_block : X → Type 0) (wanted : Bool) (s s' t t' : Source X) (o p : Option X)
+    → PullsIf is_block number wanted s o s' → PullsIf is_block number wanted t p t' → t.pulls ≡ s.pulls → t'.pulls ≡ s'.pulls
 same_pulls_if number is_block wanted s s' t t' o p next other same = grind arith
 
 module _ {X : Type 0} (w : ℕ) (number : X → ℕ) (merge : Merge) where
@@ -61,9 +76,11 @@ module _ {X : Type 0} (w : ℕ) (number : X → ℕ) (merge : Merge) where
   abbrev pub both_ahead : List X → List X → ℕ → Ahead
   both_ahead xs ys pulls = record { values = both_held xs ys; blocks = max (length xs) (length ys); pulls = pulls }
 
-  pub both_pulled : (xs xs' ys ys' : List X) (pulls pulls' : ℕ) (a b r : Option X) → YieldsFirst (λ zs. zs) xs a xs' → YieldsFirst (λ zs. zs) ys b ys' → IsMergedPull w number merge a b r → pulls' ≡ pulls + 1
+  pub both_pulled : (xs xs' ys ys' : List X) (pulls pulls' : ℕ) (a b r : Option X) → YieldsFirst (λ zs. zs) xs a xs'
+      → YieldsFirst (λ zs. zs) ys b ys' → IsMergedPull w number merge a b r → pulls' ≡ pulls + 1
       → PullsBlock w number (both_ahead xs ys pulls) r (both_ahead xs' ys' pulls')
-  both_pulled xs xs' ys ys' pulls pulls' None None r first second is counted = rw (is, first.0, first.1, second.0, second.1) (record { values = (refl, refl); blocks = (omega arith, omega arith); counted = counted })
+  both_pulled xs xs' ys ys' pulls pulls' None None r first second is counted =
+      rw (is, first.0, first.1, second.0, second.1) (record { values = (refl, refl); blocks = (omega arith, omega arith); counted = counted })
   both_pulled xs xs' ys ys' pulls pulls' (Some a) None None first second is counted = absurd is
   both_pulled xs xs' ys ys' pulls pulls' (Some a) None (Some x) first second is counted =
       rw (first, second.0, second.1) (record {
@@ -87,7 +104,8 @@ module _ {X : Type 0} (w : ℕ) (number : X → ℕ) (merge : Merge) where
       })
 
   -- a pull that may be left out, of both
-  pub both_pulled_if : (is_block : X → Type 0) (wanted : Bool) (s s' t t' : Source X) (o p : Option X) (a b r : X) → o ≡ Some a → p ≡ Some b → PullsIf is_block number wanted s o s' → PullsIf is_block number wanted t p t'
+  pub both_pulled_if : (is_block : X → Type 0) (wanted : Bool) (s s' t t' : Source X) (o p : Option X) (a b r : X)
+      → o ≡ Some a → p ≡ Some b → PullsIf is_block number wanted s o s' → PullsIf is_block number wanted t p t'
       → IsMergedBlock w merge (number a) (number b) (number r) → PullsBlockIf w number wanted (both_ahead s.left t.left s.pulls) (Some r) (both_ahead s'.left t'.left s'.pulls)
   both_pulled_if is_block wanted s s' t t' o p a b r first second next other is = record {
     pulled = λ yes.
@@ -99,13 +117,15 @@ module _ {X : Type 0} (w : ℕ) (number : X → ℕ) (merge : Merge) where
 
   -- the lists of truth values become what their blocks become
   pub walkable_both : (xs ys : List X) (a b : List Bool) (pulls : ℕ) → 0 < w → map number xs ≡ blocks_of w a → map number ys ≡ blocks_of w b → length a < 2 ^ 64 → length b < 2 ^ 64
-      → IsWalkable w (both_ahead xs ys pulls) × (elements (both_held xs ys) ≡ merge_of_sets merge (elements a) (elements b)) × (max (length xs) (length ys) ≡ max (blocks_for w (length a)) (blocks_for w (length b)))
+      → IsWalkable w (both_ahead xs ys pulls) × (elements (both_held xs ys) ≡ merge_of_sets merge (elements a) (elements b))
+      × (max (length xs) (length ys) ≡ max (blocks_for w (length a)) (blocks_for w (length b)))
   walkable_both xs ys a b pulls pos first second first_fits second_fits =
       let all = elements-merged merge _ _ ∙ ap₂ (merge_of_sets merge) (elements-values_of_blocks w number xs a pos first) (elements-values_of_blocks w number ys b pos second) in
       let blocks = ap₂ max (length-blocks w number xs a first) (length-blocks w number ys b second) in
       let long = length-merged merge a b in (
         IsWalkable-of w (both_ahead xs ys pulls) (merge_of merge a b)
-            (length-merged merge _ _ ∙ ap₂ max (length-values_of_blocks w number xs) (length-values_of_blocks w number ys) ∙ max_of (λ k. k * w) (length xs) (length ys) (λ m n le. mul-le-mul_right w le))
+            (length-merged merge _ _ ∙ ap₂ max (length-values_of_blocks w number xs) (length-values_of_blocks w number ys)
+            ∙ max_of (λ k. k * w) (length xs) (length ys) (λ m n le. mul-le-mul_right w le))
             (blocks ∙ max_of (blocks_for w) (length a) (length b) (λ m n le. blocks_for-le w m n pos le) ∙ ap (blocks_for w) (sym long))
             (all ∙ sym (elements-merged merge a b))
             (omega (arith, long)),

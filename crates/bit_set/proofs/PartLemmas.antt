@@ -1,9 +1,13 @@
 -- A walk over a part of a set: the block in which it ends is in hand at the back.
-use Rattle.std.proofs.Common.{◌≡◌, ℕ, zero, suc, ◌+◌, ◌-◌, ◌*◌, ◌/◌, ◌^◌, ◌<◌, ◌≤◌, ◌&&◌, if◌then◌else◌, nat_lt, Bool, true, false, List, [], ◌∷◌, ◌++◌, map, length, drop, ◌==◌, max, nat_le, All, min, refl, sym, ap, ap₂, ◌∙◌, subst, inl, inr, arith, mul-le-mul_right, mod-lt, div-add-mod', ◌⊎◌}
-use Rattle.std.proofs.lemmas.{Bool.{cond_both, eqb-false, cases_lt, Decides.nat_tests}, List.{append-nil, append_assoc, map-append, Elements.{All-nil, All-cons, All-head, All-tail, All-filter, filter-append}, Sums.{count_by-le-length, length-filter}}}
+use Rattle.std.proofs.Common.{◌≡◌, ℕ, zero, suc, ◌+◌, ◌-◌, ◌*◌, ◌/◌, ◌^◌, ◌<◌, ◌≤◌, ◌&&◌, if◌then◌else◌, nat_lt, Bool, true, false, List, [], ◌∷◌, ◌++◌, map, length, drop, ◌==◌, max, nat_le, All, min}
+use Rattle.std.proofs.Common.{refl, sym, ap, ap₂, ◌∙◌, subst, inl, inr, arith, mul-le-mul_right, mod-lt, div-add-mod', ◌⊎◌}
+use Rattle.std.proofs.lemmas.Bool.{cond_both, eqb-false, cases_lt, Decides.nat_tests}
+use Rattle.std.proofs.lemmas.List.{append-nil, append_assoc, map-append, Elements.{All-nil, All-cons, All-head, All-tail, All-filter, filter-append}, Sums.{count_by-le-length, length-filter}}
 use Rattle.bit_blocks.specs.{Bits.blocks_for, Ranges.in_range, Digits.is_one}
 use Rattle.bit_words.specs.Nonzero.{CutsAt, Hand, Nonzeros, nonzero_from}
-use Rattle.bit_set.{specs.{Sets.{AscendsFrom, IsAscending, elements, elements_from, those_below, those_from}, Ranges.those_in_range, Indexes.{digits_from, indexes, indexes_of, left_between, seen_of, IsSparseWalk}, Walk.{blocks_past, IsAtBlockOf, IsAtBlocksOf, IsAtStartOfPart}}, proofs.{EntryLemmas.{blocks_of_entry, passed_in_block, some_index}, IndexLemmas.{AscendsFrom-indexes, indexes-below, indexes-none}}}
+use Rattle.bit_set.specs.{Sets.{AscendsFrom, IsAscending, elements, elements_from, those_below, those_from}, Ranges.those_in_range}
+use Rattle.bit_set.specs.{Indexes.{digits_from, indexes, indexes_of, left_between, seen_of, IsSparseWalk}, Walk.{blocks_past, IsAtBlockOf, IsAtBlocksOf, IsAtStartOfPart}}
+use Rattle.bit_set.proofs.{EntryLemmas.{blocks_of_entry, passed_in_block, some_index}, IndexLemmas.{AscendsFrom-indexes, indexes-below, indexes-none}}
 use Rattle.bit_set.proofs.{FromLemmas.BeginsFrom, SetLemmas.{AscendsFrom-filter, AscendsFrom-reach, IsAscending-elements, has-filter, same_members}, SparseLemmas.{ends_apart, whole_index}}
 
 -- ---- those of a block below a number
@@ -11,7 +15,8 @@ use Rattle.bit_set.proofs.{FromLemmas.BeginsFrom, SetLemmas.{AscendsFrom-filter,
 below_step : (end p : ℕ) (b c : Bool) (xs ys : List ℕ) → c ≡ (nat_lt p end && b) → ys ≡ those_below xs end → (if c then p ∷ ys else ys) ≡ those_below (if b then p ∷ xs else xs) end
 below_step end p b c xs ys here rest = grind (arith, nat_tests)
 
-digits_below : (m r end a n p : ℕ) → ((j : ℕ) → a ≤ j → j < a + n → is_one r j ≡ (nat_lt (p + (j - a)) end && is_one m j)) → elements_from p (digits_from r a n ++ []) ≡ those_below (elements_from p (digits_from m a n ++ [])) end
+digits_below : (m r end a n p : ℕ) → ((j : ℕ) → a ≤ j → j < a + n → is_one r j ≡ (nat_lt (p + (j - a)) end && is_one m j))
+    → elements_from p (digits_from r a n ++ []) ≡ those_below (elements_from p (digits_from m a n ++ [])) end
 digits_below m r end a zero p cut = refl
 digits_below m r end a (suc n) p cut =
     let e : p + (a - a) ≡ p = omega arith in
@@ -56,7 +61,8 @@ module _ {X : Type 0} (w : ℕ) (number : X → ℕ) where
       let here = indexes w (entry.0 * w) (number entry.1) [] in
       let first = mul_step entry.0 k (All-head (λ (e : ℕ × X). e.0 < k) entry entries before) in
       filter-append (λ x. nat_lt x end) here (indexes_of w number entries)
-      ∙ ap₂ ◌++◌ (all_kept end here (all_less (entry.0 * w + w) end here (omega (arith, first, to)) (indexes-below w (entry.0 * w) (number entry.1)))) (entries_before end k entries to (All-tail (λ (e : ℕ × X). e.0 < k) entry entries before))
+      ∙ ap₂ ◌++◌ (all_kept end here (all_less (entry.0 * w + w) end here (omega (arith, first, to)) (indexes-below w (entry.0 * w) (number entry.1))))
+      (entries_before end k entries to (All-tail (λ (e : ℕ × X). e.0 < k) entry entries before))
     where
       mul_step : (q k : ℕ) → q < k → q * w + w ≤ k * w
       mul_step q k less = let product = mul-le-mul_right w (let e : q + 1 ≤ k = omega (arith, less) in e) in omega (arith, product)
@@ -68,7 +74,8 @@ module _ {X : Type 0} (w : ℕ) (number : X → ℕ) where
       let over = All-head (λ (e : ℕ × X). k < e.0) entry entries past in
       let first = mul-le-mul_right w (let e : k + 1 ≤ entry.0 = omega (arith, over) in e) in
       filter-append (λ x. nat_lt x end) here (indexes_of w number entries)
-      ∙ ap₂ ◌++◌ (none_kept end (entry.0 * w) here (omega (arith, first, from)) (AscendsFrom-indexes w (entry.0 * w) (number entry.1) [])) (entries_past end k entries from (All-tail (λ (e : ℕ × X). k < e.0) entry entries past))
+      ∙ ap₂ ◌++◌ (none_kept end (entry.0 * w) here (omega (arith, first, from)) (AscendsFrom-indexes w (entry.0 * w) (number entry.1) []))
+      (entries_past end k entries from (All-tail (λ (e : ℕ × X). k < e.0) entry entries past))
 
   pub indexes_of-append : (xs ys : List (ℕ × X)) → indexes_of w number (xs ++ ys) ≡ indexes_of w number xs ++ indexes_of w number ys
   indexes_of-append [] ys = refl
@@ -124,16 +131,19 @@ module _ {X : Type 0} (w : ℕ) (number : X → ℕ) (is_block : X → Type 0) (
 
   each_before : (k : ℕ) (entries : List (ℕ × X)) → All (λ (entry : ℕ × X). entry.0 < k) entries → All (λ x. x < k) (map index_of entries)
   each_before k [] each = All-nil (λ x. x < k)
-  each_before k (entry ∷ entries) each = All-cons (λ x. x < k) entry.0 _ (All-head (λ (e : ℕ × X). e.0 < k) entry entries each) (each_before k entries (All-tail (λ (e : ℕ × X). e.0 < k) entry entries each))
+  each_before k (entry ∷ entries) each = All-cons (λ x. x < k) entry.0 _ (All-head (λ (e : ℕ × X). e.0 < k) entry entries each)
+      (each_before k entries (All-tail (λ (e : ℕ × X). e.0 < k) entry entries each))
 
-  kept_before : (first k end : ℕ) (entries : List (ℕ × X)) (more : List ℕ) → AscendsFrom (first + 1) (map index_of entries ++ more) → All (λ (entry : ℕ × X). entry.0 < k) entries → (first < k → k * w ≤ end) → those_below (indexes_of w number entries) end ≡ indexes_of w number entries
+  kept_before : (first k end : ℕ) (entries : List (ℕ × X)) (more : List ℕ) → AscendsFrom (first + 1) (map index_of entries ++ more)
+      → All (λ (entry : ℕ × X). entry.0 < k) entries → (first < k → k * w ≤ end) → those_below (indexes_of w number entries) end ≡ indexes_of w number entries
   kept_before first k end [] more up before to = refl
   kept_before first k end (entry ∷ entries) more up before to =
       let least = up.0 in
       let here = All-head (λ (e : ℕ × X). e.0 < k) entry entries before in
       entries_before w number end k (entry ∷ entries) (to (omega (arith, least, here))) before
 
-  dropped_past : (low k last end : ℕ) (xs : List ℕ) (entries : List (ℕ × X)) → AscendsFrom low (xs ++ (map index_of entries ++ (last + 1) ∷ [])) → All (λ (entry : ℕ × X). k < entry.0) entries → (k < last → end ≤ (k + 1) * w) → those_below (indexes_of w number entries) end ≡ []
+  dropped_past : (low k last end : ℕ) (xs : List ℕ) (entries : List (ℕ × X)) → AscendsFrom low (xs ++ (map index_of entries ++ (last + 1) ∷ []))
+      → All (λ (entry : ℕ × X). k < entry.0) entries → (k < last → end ≤ (k + 1) * w) → those_below (indexes_of w number entries) end ≡ []
   dropped_past low k last end xs [] up past from = refl
   dropped_past low k last end xs (entry ∷ entries) up past from =
       let reach = ascends_past low (last + 1) entry.0 xs (map index_of entries) up in
@@ -162,12 +172,15 @@ module _ {X : Type 0} (w : ℕ) (number : X → ℕ) (is_block : X → Type 0) (
         let at = indexes_of w number is.cut.at in
         let past = indexes_of w number is.cut.past in
         let none : indexes w back.index (number back.block) [] ≡ [] = indexes-none w back.index (number back.block) is.used_up in
-        let parts : indexes_of w number s.left ≡ inner ++ (at ++ past) = ap (indexes_of w number) is.cut.split ∙ indexes_of-append w number t.left (is.cut.at ++ is.cut.past) ∙ ap (λ ys. inner ++ ys) (indexes_of-append w number is.cut.at is.cut.past) in
+        let parts : indexes_of w number s.left ≡ inner ++ (at ++ past) = ap (indexes_of w number) is.cut.split
+        ∙ indexes_of-append w number t.left (is.cut.at ++ is.cut.past) ∙ ap (λ ys. inner ++ ys) (indexes_of-append w number is.cut.at is.cut.past) in
         let old : left_between w number front s.left back ≡ ones ++ (inner ++ (at ++ past)) =
         ap₂ (λ xs ys. ones ++ (xs ++ ys)) parts none ∙ ap (λ xs. ones ++ xs) (append-nil (inner ++ (at ++ past))) in
-        let reassociated = subst (AscendsFrom (front.index / w + 1)) (sym (append_assoc (map index_of t.left) (map index_of is.cut.at) (map index_of is.cut.past ++ (back.index / w + 1) ∷ []))) up_parts in
+        let reassociated = subst (AscendsFrom (front.index / w + 1))
+        (sym (append_assoc (map index_of t.left) (map index_of is.cut.at) (map index_of is.cut.past ++ (back.index / w + 1) ∷ []))) up_parts in
         let kept : below inner ≡ inner = kept_before (front.index / w) k end t.left _ up_parts is.cut.before (λ on. let e = is.before on in omega (arith, e, is.whole)) in
-        let dropped : below past ≡ [] = dropped_past (front.index / w + 1) k (back.index / w) end (map index_of t.left ++ map index_of is.cut.at) is.cut.past reassociated is.cut.after (λ on. let e = is.after on in omega (arith, e, is.whole)) in
+        let dropped : below past ≡ [] = dropped_past (front.index / w + 1) k (back.index / w) end
+        (map index_of t.left ++ map index_of is.cut.at) is.cut.past reassociated is.cut.after (λ on. let e = is.after on in omega (arith, e, is.whole)) in
         let here : below at ≡ indexes w new.index (number new.block) [] =
         ap below (indexes_at k new.index is.cut.whole is.cut.at is.whole is.cut.entry) ∙ sym (indexes-cut w new.index is.cut.whole (number new.block) end is.cut.digit) in
         let split = λ (xs ys : List ℕ). filter-append (λ x. nat_lt x end) xs ys in
@@ -195,7 +208,7 @@ module _ {X : Type 0} (w : ℕ) (number : X → ℕ) (is_block : X → Type 0) (
           inside = omega (arith, is.to, is.walk.inside, count);
           fits = subst (λ xs. (length xs - 1) * w < 2 ^ 64) (sym is.cut.same) is.walk.fits;
           ascends = subst IsAscending (sym cut_left) (AscendsFrom-filter 0 (λ n. nat_lt n end) old is.walk.ascends);
-          below = subst (All (λ n. n < 2 ^ 64)) (sym cut_left) (All-filter (λ n. nat_lt n end) (λ n. n < 2 ^ 64) old is.walk.below);
+          below = subst (All (λ n. n < 2 ^ 64 - 1)) (sym cut_left) (All-filter (λ n. nat_lt n end) (λ n. n < 2 ^ 64 - 1) old is.walk.below);
           count_fits = omega (arith, ap length cut_left, few, fewer, is.walk.count_fits);
         }
 
@@ -211,19 +224,22 @@ module _ {X : Type 0} (w : ℕ) (number : X → ℕ) (is_block : X → Type 0) (
               )
               )
           | inr found ↦
-              let up = subst (λ (at : List (ℕ × X)). AscendsFrom (front.index / w + 1) (map index_of t.left ++ (map index_of at ++ (map index_of is.cut.past ++ (back.index / w + 1) ∷ [])))) found.1 up_parts in
+              let up = subst (λ (at : List (ℕ × X)). AscendsFrom (front.index / w + 1)
+              (map index_of t.left ++ (map index_of at ++ (map index_of is.cut.past ++ (back.index / w + 1) ∷ [])))) found.1 up_parts in
               let reach = ascends_past (front.index / w + 1) (back.index / w + 1) (new.index / w) (map index_of t.left) (map index_of is.cut.past) up in
               omega (arith, reach)
         ]
 
   -- the blocks past block q are those that are left
-  blocks_of_walk : (q k : ℕ) (r : X) (entries : List (ℕ × X)) → is_block r → AscendsFrom (q + 1) (map index_of entries ++ (k + 1) ∷ []) → All (λ (entry : ℕ × X). entry.0 < k) entries → All (λ (entry : ℕ × X). is_block entry.1) entries → All (λ (entry : ℕ × X). 0 < number entry.1) entries → (0 < number r → q < k)
+  blocks_of_walk : (q k : ℕ) (r : X) (entries : List (ℕ × X)) → is_block r → AscendsFrom (q + 1) (map index_of entries ++ (k + 1) ∷ [])
+      → All (λ (entry : ℕ × X). entry.0 < k) entries → All (λ (entry : ℕ × X). is_block entry.1) entries → All (λ (entry : ℕ × X). 0 < number entry.1) entries → (0 < number r → q < k)
       → length (blocks_past w q (indexes_of w number entries ++ indexes w (k * w) (number r) [])) ≡ length entries + min 1 (number r)
   blocks_of_walk q k r [] lawful up before each some within =
       elim (cases_lt 0 (number r)) [
         | inl is ↦
             let ones = indexes w (k * w) (number r) [] in
-            let one = ap (λ xs. length (blocks_past w q xs)) (sym (append-nil ones)) ∙ ap length (blocks_of_entry w number q k (number r) ones [] pos (within is) refl (some_index w (k * w) (number r) is (small r lawful))) in
+            let one = ap (λ xs. length (blocks_past w q xs)) (sym (append-nil ones))
+            ∙ ap length (blocks_of_entry w number q k (number r) ones [] pos (within is) refl (some_index w (k * w) (number r) is (small r lawful))) in
             omega (arith, one, is)
         | inr none ↦ ap (λ xs. length (blocks_past w q xs)) (indexes-none w (k * w) (number r) (omega (arith, none))) ∙ omega (arith, none)
       ]
@@ -234,8 +250,10 @@ module _ {X : Type 0} (w : ℕ) (number : X → ℕ) (is_block : X → Type 0) (
       let least = up.0 in
       let below = All-head (λ (e : ℕ × X). e.0 < k) entry entries before in
       let here = ap (λ xs. length (blocks_past w q xs)) (append_assoc ones (indexes_of w number entries) (indexes w (k * w) (number r) []))
-      ∙ ap length (blocks_of_entry w number q entry.0 m ones rest pos (omega (arith, least)) refl (some_index w (entry.0 * w) m (All-head (λ (e : ℕ × X). 0 < number e.1) entry entries some) (small entry.1 (All-head (λ (e : ℕ × X). is_block e.1) entry entries each)))) in
-      let more = blocks_of_walk entry.0 k r entries lawful up.1 (All-tail (λ (e : ℕ × X). e.0 < k) entry entries before) (All-tail (λ (e : ℕ × X). is_block e.1) entry entries each) (All-tail (λ (e : ℕ × X). 0 < number e.1) entry entries some) (λ _. below) in
+      ∙ ap length (blocks_of_entry w number q entry.0 m ones rest pos (omega (arith, least)) refl
+      (some_index w (entry.0 * w) m (All-head (λ (e : ℕ × X). 0 < number e.1) entry entries some) (small entry.1 (All-head (λ (e : ℕ × X). is_block e.1) entry entries each)))) in
+      let more = blocks_of_walk entry.0 k r entries lawful up.1 (All-tail (λ (e : ℕ × X). e.0 < k) entry entries before)
+      (All-tail (λ (e : ℕ × X). is_block e.1) entry entries each) (All-tail (λ (e : ℕ × X). 0 < number e.1) entry entries some) (λ _. below) in
       omega (arith, here, more)
 
 -- ---- the making
@@ -254,7 +272,8 @@ both_tests xs a b up =
     (λ n. grind (arith, nat_tests, has-filter (λ m. nat_lt m b) (those_from xs a) n, has-filter (λ m. nat_le a m) xs n, has-filter (in_range a b) xs n))
 
 -- What was made and cut: `front` and `back` were in hand of a walk from `from` on, over blocks of which the last is that of `back`.
-pub record IsPart {X : Type 0} (w : ℕ) (number : X → ℕ) (is_block : X → Type 0) (values : List Bool) (from : ℕ) (front back : Hand X) (s : Nonzeros X) (end : ℕ) (block : X) (t : Nonzeros X) (new : Hand X) : Type 0 where
+pub record IsPart {X : Type 0} (w : ℕ) (number : X → ℕ) (is_block : X → Type 0) (values : List Bool) (from : ℕ)
+    (front back : Hand X) (s : Nonzeros X) (end : ℕ) (block : X) (t : Nonzeros X) (new : Hand X) : Type 0 where
   pub begins : BeginsFrom w number is_block values from front s back
   pub used_up : number back.block ≡ 0
   pub start : s.left ≡ nonzero_from number (front.index / w + 1) (drop (front.index / w + 1) s.blocks)
@@ -269,7 +288,8 @@ pub record IsPart {X : Type 0} (w : ℕ) (number : X → ℕ) (is_block : X → 
   pub few : t.summary_left ≤ blocks_for w (new.index / w) - 1 - front.index / w / w
 
 module _ {X : Type 0} (w : ℕ) (number : X → ℕ) (is_block : X → Type 0) (pos : 0 < w) (small : (x : X) → is_block x → number x < 2 ^ w) where
-  is_cut_by : (values : List Bool) (from end : ℕ) (front back new : Hand X) (s t : Nonzeros X) (block : X) → IsPart w number is_block values from front back s end block t new → IsCutBy w number is_block front back s end block t new
+  is_cut_by : (values : List Bool) (from end : ℕ) (front back new : Hand X) (s t : Nonzeros X) (block : X)
+      → IsPart w number is_block values from front back s end block t new → IsCutBy w number is_block front back s end block t new
   is_cut_by values from end front back new s t block is =
       let apart = ends_apart w number is_block pos front back s is.begins.walk in
       let k = new.index / w in
@@ -292,7 +312,8 @@ module _ {X : Type 0} (w : ℕ) (number : X → ℕ) (is_block : X → Type 0) (
       }
 
   pub begins_part : (values : List Bool) (from end : ℕ) (front back new : Hand X) (s t : Nonzeros X) (block : X) → IsPart w number is_block values from front back s end block t new
-      → IsSparseWalk w number is_block (record { block = block; index = front.index }) t new × IsAtStartOfPart w values from end (seen_of w number (record { block = block; index = front.index }) t new)
+      → IsSparseWalk w number is_block (record { block = block; index = front.index }) t new
+      × IsAtStartOfPart w values from end (seen_of w number (record { block = block; index = front.index }) t new)
   unfolding IsAtBlockOf IsAtBlocksOf
   begins_part values from end front back new s t block part =
       let is = is_cut_by values from end front back new s t block part in
@@ -305,9 +326,11 @@ module _ {X : Type 0} (w : ℕ) (number : X → ℕ) (is_block : X → Type 0) (
       let ones = indexes w front.index (number block) [] in
       let next : front.index + w ≡ (first + 1) * w = omega (arith, is.walk.whole) in
       let count : length (blocks_past w first (left_between w number (record { block = block; index = front.index }) t.left new)) ≡ length t.left + min 1 (number new.block) =
-      ap length (passed_in_block w first ones (indexes_of w number t.left ++ indexes w new.index (number new.block) []) pos (subst (λ n. All (λ i. i < n) ones) next (indexes-below w front.index (number block))))
+      ap length (passed_in_block w first ones (indexes_of w number t.left ++ indexes w new.index (number new.block) []) pos
+      (subst (λ n. All (λ i. i < n) ones) next (indexes-below w front.index (number block))))
       ∙ ap (λ p. length (blocks_past w first (indexes_of w number t.left ++ indexes w p (number new.block) []))) is.whole
-      ∙ blocks_of_walk w number is_block pos small first k new.block t.left is.at_back walk.past is.cut.before walk.each (front_some is) (entry_in w number is_block pos small front back new s t end block is) in
+      ∙ blocks_of_walk w number is_block pos small first k new.block t.left is.at_back walk.past is.cut.before walk.each
+      (front_some is) (entry_in w number is_block pos small front back new s t end block is) in
       let at_first : first ≡ min (from / w) (blocks_for w (length values) - 1) = ap (λ n. n / w) start.at.index ∙ whole_index w (min (from / w) (blocks_for w (length values) - 1)) pos in (
         walk,
         record {

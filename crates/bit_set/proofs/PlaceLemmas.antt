@@ -1,5 +1,6 @@
 -- Members by their places in an ascending list, by which std speaks of what a chain meets; tests of lists by places.
-use Rattle.std.proofs.{Common.{◌≡◌, ℕ, zero, suc, ◌+◌, ◌<◌, ◌≤◌, ◌↔◌, Bool, All, Any, IsTrue, List, [], ◌∷◌, get_or, inl, inr, length, refl, arith}, lemmas.Bool.{cases_Bool, cases_eq, Decides.nat_tests}}
+use Rattle.std.proofs.Common.{◌≡◌, ℕ, zero, suc, ◌+◌, ◌<◌, ◌≤◌, ◌↔◌, Bool, All, Any, IsTrue, List, [], ◌∷◌, get_or, inl, inr, length, refl, arith}
+use Rattle.std.proofs.lemmas.Bool.{cases_Bool, cases_eq, Decides.nat_tests}
 use Rattle.std.specs.List.{list_all, list_any}
 use Rattle.bit_set.specs.Sets.{AscendsFrom, IsAscending, has}
 

@@ -1,10 +1,13 @@
 -- What calls on a range do to a set, by its members.
-use Rattle.std.proofs.Common.{◌≡◌, ℕ, zero, suc, ◌+◌, ◌-◌, ◌<◌, ◌≤◌, max, min, Bool, true, false, not, ◌&&◌, nat_le, nat_lt, cond, List, [], ◌∷◌, filter, ◌++◌, eqb, get_or, length, refl, sym, ap, ◌∙◌, arith, ⊎_elim}
+use Rattle.std.proofs.Common.{◌≡◌, ℕ, zero, suc, ◌+◌, ◌-◌, ◌<◌, ◌≤◌, max, min, Bool, true, false, not, ◌&&◌, nat_le, nat_lt, cond, List, [], ◌∷◌, filter, ◌++◌, eqb, get_or, length, refl, sym, ap, ◌∙◌}
+use Rattle.std.proofs.Common.{arith, ⊎_elim}
 use Rattle.std.{proofs.lemmas.{Bool.{cases_lt, Decides.nat_tests}, List.{Folds.list_any-append, FromFn.length-range_with_len}}, specs.List.range_with_len}
 use Rattle.bit_blocks.specs.{declared.block.merge.Merge.TheVariants.Symmetric, Ranges.{changed_in_range, in_range}}
 use Rattle.bit_words.proofs.RangeLemmas.{get_or-changed}
-use Rattle.bit_set.specs.{Members.UpdatesRange, Ranges.{span, span_end, those_in_range}, Sets.{AscendsFrom, IsAscending, bound_of, difference, elements, has, intersection, symmetric_difference, those_below, those_from, union}}
-use Rattle.bit_set.proofs.{AlgebraLemmas.{IsAscending-merge_of_sets, has-symmetric, has-union}, SetLaws.IsAscending-put_all, SetLemmas.{AscendsFrom-filter, AscendsFrom-lower, has-elements, has-filter, has-first, same_members}, ValueLemmas.has-past}
+use Rattle.bit_set.specs.{Members.UpdatesRange, Ranges.{span, span_end, those_in_range}}
+use Rattle.bit_set.specs.Sets.{AscendsFrom, IsAscending, bound_of, difference, elements, has, intersection, symmetric_difference, those_below, those_from, union}
+use Rattle.bit_set.proofs.{AlgebraLemmas.{IsAscending-merge_of_sets, has-symmetric, has-union}, SetLaws.IsAscending-put_all}
+use Rattle.bit_set.proofs.{SetLemmas.{AscendsFrom-filter, AscendsFrom-lower, has-elements, has-filter, has-first, same_members}, ValueLemmas.has-past}
 
 -- ---- the numbers of a range
 
@@ -31,7 +34,8 @@ length-span a b = length-range_with_len a (b - a)
 -- ---- the list of truth values
 
 -- a changed range of a list that keeps the set changes these members
-pub members_changed : (f : Bool → Bool) (a b : ℕ) (s : List ℕ) (mid new : List Bool) → elements mid ≡ s → (a < b → b ≤ length mid) → new ≡ changed_in_range f a b mid → UpdatesRange f s (elements new) a b
+pub members_changed : (f : Bool → Bool) (a b : ℕ) (s : List ℕ) (mid new : List Bool) → elements mid ≡ s
+    → (a < b → b ≤ length mid) → new ≡ changed_in_range f a b mid → UpdatesRange f s (elements new) a b
 members_changed f a b s mid new same within is n =
     has-elements new n
     ∙ ap (λ bs. get_or bs n false) is
@@ -104,7 +108,8 @@ count_removed a b s t up also members =
 
 pub count_inserted : (a b : ℕ) (s t : List ℕ) → IsAscending s → IsAscending t → UpdatesRange (λ _. true) s t a b → length t + length (those_in_range s a b) ≡ length s + (b - a)
 count_inserted a b s t up also members =
-    let all : those_in_range t a b ≡ span a b = same_members _ (span a b) (AscendsFrom-filter 0 _ t also) (IsAscending-span a b) (λ n. let in_both = has-filter (in_range a b) t n in let number = has-span a b n in let is = members n in grind arith) in
+    let all : those_in_range t a b ≡ span a b = same_members _ (span a b) (AscendsFrom-filter 0 _ t also) (IsAscending-span a b)
+    (λ n. let in_both = has-filter (in_range a b) t n in let number = has-span a b n in let is = members n in grind arith) in
     omega (arith, filtered_apart (in_range a b) s, filtered_apart (in_range a b) t, ap length (same_outside (λ _. true) a b s t up also members), ap length all, length-span a b)
 
 -- ---- the laws of `src/laws.rt`

@@ -1,10 +1,14 @@
 -- The text that is written of the runs of a set reads as just these runs.
-use Rattle.std.proofs.{Common.{◌≡◌, ◌≢◌, ℕ, ◌+◌, ◌-◌, ◌<◌, ◌≤◌, true, cond, eqb, List, [], ◌∷◌, ◌++◌, length, Ok, refl, sym, ap, ap₂, ◌∙◌, arith, append-nil, length-append, eq-eqb, ne_eqb, subst, ⊎_elim}, lemmas.{Bool.{and_parts, cases_eq, or_right, Decides.nat_tests}, Fmt.{decimal_nonempty, digits_decimal, digits_value-decimal}, List.Elements.{All-append, All-cons, All-nil}, Str.Parse.{IsNumeralModel, numerals_by_value, tells_all_ascii_digits}}}
+use Rattle.std.proofs.Common.{◌≡◌, ◌≢◌, ℕ, ◌+◌, ◌-◌, ◌<◌, ◌≤◌, true, cond, eqb, List, [], ◌∷◌, ◌++◌, length, Ok, refl, sym, ap, ap₂, ◌∙◌, arith, append-nil, length-append, eq-eqb, ne_eqb, subst}
+use Rattle.std.proofs.Common.{⊎_elim}
+use Rattle.std.proofs.lemmas.{Bool.{and_parts, cases_eq, or_right, Decides.nat_tests}, Fmt.{decimal_nonempty, digits_decimal, digits_value-decimal}, List.Elements.{All-append, All-cons, All-nil}}
+use Rattle.std.proofs.lemmas.Str.Parse.{IsNumeralModel, numerals_by_value, tells_all_ascii_digits}
 use Rattle.std.specs.{Prelude.{codes, decimal}, Char.is_ascii_digit, List.{All, flat_map}, Str.all_ascii_digits, Str.Parse.digits_value}
 use Rattle.std.specs.declared.ops.Range.{Range}
 use Rattle.bit_words.specs.Bounds.{greatest}
 use Rattle.bit_blocks.specs.Ranges.{in_range}
-use Rattle.bit_set.specs.{RangeReading.{before_ranges, items_of, number_of, range_between, range_of, ranges_in, ranges_of}, RangeTexts.{ranges_text, run_text}, Runs.{AreApartFrom, in_ranges, runs_of}, Sets.{IsAscending, has}}
+use Rattle.bit_set.specs.{RangeReading.{before_ranges, items_of, number_of, range_between, range_of, ranges_in, ranges_of}, RangeTexts.{ranges_text, run_text}, Runs.{AreApartFrom, in_ranges, runs_of}}
+use Rattle.bit_set.specs.Sets.{IsAscending, has}
 use Rattle.bit_set.proofs.{RangeTextLemmas.{ends_alone, ends_apart, more_items, one_item}, RunLemmas.runs_are}
 
 own : IsNumeralModel (λ ds. all_ascii_digits ds ≡ true) (digits_value 10)
@@ -47,7 +51,8 @@ module _ (a b : ℕ) (some : a < b) (within : b ≤ greatest) where
       let lacks = decimal_lacks 45 a (omega arith) small in
       ⊎_elim
       (λ (alone : a + 1 ≡ b). ap range_of (alone_text alone) ∙ ends_alone (decimal a) lacks ∙ ap₂ range_between first first ∙ between a a b (omega arith) alone)
-      (λ (longer : a + 1 ≢ b). ap range_of (longer_text longer) ∙ ends_apart (decimal a) (decimal (b - 1)) lacks ∙ ap₂ range_between first (number_of-decimal (b - 1) also) ∙ between a (b - 1) b (omega (arith, some)) (omega (arith, some)))
+      (λ (longer : a + 1 ≢ b). ap range_of (longer_text longer) ∙ ends_apart (decimal a) (decimal (b - 1)) lacks
+      ∙ ap₂ range_between first (number_of-decimal (b - 1) also) ∙ between a (b - 1) b (omega (arith, some)) (omega (arith, some)))
       (cases_eq (a + 1) b)
 
   text_lacks : All (λ x. x ≢ 44) (run_text (record { start = a; end = b }))
@@ -55,7 +60,8 @@ module _ (a b : ℕ) (some : a < b) (within : b ≤ greatest) where
       let first = decimal_lacks 44 a (omega arith) (omega (arith, some, within)) in
       ⊎_elim
       (λ (alone : a + 1 ≡ b). subst (All (λ x. x ≢ 44)) (sym (alone_text alone)) first)
-      (λ (longer : a + 1 ≢ b). subst (All (λ x. x ≢ 44)) (sym (longer_text longer)) (All-append (λ x. x ≢ 44) (decimal a) (45 ∷ decimal (b - 1)) first (All-cons (λ x. x ≢ 44) 45 (decimal (b - 1)) (λ same. omega (arith, same)) (decimal_lacks 44 (b - 1) (omega arith) (omega (arith, some, within))))))
+      (λ (longer : a + 1 ≢ b). subst (All (λ x. x ≢ 44)) (sym (longer_text longer)) (All-append (λ x. x ≢ 44) (decimal a) (45 ∷ decimal (b - 1)) first
+      (All-cons (λ x. x ≢ 44) 45 (decimal (b - 1)) (λ same. omega (arith, same)) (decimal_lacks 44 (b - 1) (omega arith) (omega (arith, some, within))))))
       (cases_eq (a + 1) b)
 
 -- ---- the runs
@@ -66,7 +72,8 @@ last_within low r rs apart small = let last = small (r.end - 1) (grind (arith, n
 texts : (low : ℕ) (r : Range ℕ) (rs : List (Range ℕ)) → AreApartFrom low (r ∷ rs) → ((n : ℕ) → in_ranges (r ∷ rs) n ≡ true → n < greatest) → ranges_of (items_of (ranges_text (r ∷ rs))) ≡ Ok (r ∷ rs)
 texts low r [] apart small =
     let within = last_within low r [] apart small in
-    ap (λ t. ranges_of (items_of t)) (append-nil (run_text r)) ∙ ap ranges_of (one_item (run_text r) (text_lacks r.start r.end apart.1 within)) ∙ ap (λ x. before_ranges x (Ok [])) (reads_back r.start r.end apart.1 within)
+    ap (λ t. ranges_of (items_of t)) (append-nil (run_text r)) ∙ ap ranges_of (one_item (run_text r) (text_lacks r.start r.end apart.1 within))
+    ∙ ap (λ x. before_ranges x (Ok [])) (reads_back r.start r.end apart.1 within)
 texts low r (q ∷ qs) apart small =
     let within = last_within low r (q ∷ qs) apart small in
     let others = texts (r.end + 1) q qs apart.2 (λ n is. small n (or_right (in_range r.start r.end n) (in_ranges (q ∷ qs) n) is)) in
@@ -82,7 +89,12 @@ whole (r ∷ rs) apart small =
     let within = last_within 0 r rs apart small in
     let first = decimal_nonempty r.start (omega (arith, apart.1, within)) in
     let behind = flat_map (λ q. codes ", " ++ run_text q) rs in
-    let some : 0 < length (run_text r ++ behind) = omega (arith, first, length-append (run_text r) behind, length-append (decimal r.start) (cond (eqb (r.start + 1) r.end) [] (codes "-" ++ decimal (r.end - 1)))) in
+    let some : 0 < length (run_text r ++ behind) = omega (
+      arith,
+      first,
+      length-append (run_text r) behind,
+      length-append (decimal r.start) (cond (eqb (r.start + 1) r.end) [] (codes "-" ++ decimal (r.end - 1))),
+    ) in
     some_read (ranges_text (r ∷ rs)) some ∙ texts 0 r rs apart small
 
 pub text_of_runs : (s : List ℕ) → IsAscending s → ((n : ℕ) → has s n ≡ true → n < greatest) → ranges_in (ranges_text (runs_of s)) ≡ Ok (runs_of s)

@@ -1,9 +1,15 @@
 -- How the text of ranges is read: its digits, its items, and what each adds to a set.
-use Rattle.std.proofs.{Math.Bool.or-false, Common.{◌≡◌, ◌≢◌, ℕ, zero, suc, ◌+◌, ◌-◌, ◌*◌, ◌^◌, ◌<◌, ◌≤◌, max, min, nat_le, nat_lt, Bool, true, false, ◌&&◌, ◌||◌, cond, eqb, List, [], ◌∷◌, ◌++◌, length, map, take, get_or, Option, Some, None, Result, Ok, Err, refl, sym, ap, subst, ◌∙◌, arith, ne_eqb, eq-eqb, ⊎_elim}, lemmas.{Bool.{and_parts, cases_eq, false≢true, Decides.nat_tests}, Int.Digits.digits_value_more, Str.digit_value_digit, List.{Elements.{All-head, All-tail, All-weaker}, Splits.{length-slice_split, slice_split_at, slice_split_none}}}}
-use Rattle.std.specs.{Borrow.Bor, Prelude.{IfNone, IfSome, MatchOption, ⊤}, Option.option_map_or, Result.{is_ok, result_unwrap_or}, Char.{IsAsciiDigit, is_ascii_digit}, List.{All, slice_split}, Str.all_ascii_digits, Str.Parse.digits_value}
+use Rattle.std.proofs.{Math.Bool.or-false}
+use Rattle.std.proofs.Common.{◌≡◌, ◌≢◌, ℕ, zero, suc, ◌+◌, ◌-◌, ◌*◌, ◌^◌, ◌<◌, ◌≤◌, max, min, nat_le, nat_lt, Bool, true, false, ◌&&◌, ◌||◌, cond, eqb, List, [], ◌∷◌, ◌++◌, length, map, take, get_or}
+use Rattle.std.proofs.Common.{Option, Some, None, Result, Ok, Err, refl, sym, ap, subst, ◌∙◌, arith, ne_eqb, eq-eqb, ⊎_elim}
+use Rattle.std.proofs.lemmas.{Bool.{and_parts, cases_eq, false≢true, Decides.nat_tests}, Int.Digits.digits_value_more, Str.digit_value_digit}
+use Rattle.std.proofs.lemmas.List.{Elements.{All-head, All-tail, All-weaker}, Splits.{length-slice_split, slice_split_at, slice_split_none}}
+use Rattle.std.specs.{Borrow.Bor, Prelude.{IfNone, IfSome, MatchOption, ⊤}, Option.option_map_or, Result.{is_ok, result_unwrap_or}, Char.{IsAsciiDigit, is_ascii_digit}, List.{All, slice_split}}
+use Rattle.std.specs.{Str.all_ascii_digits, Str.Parse.digits_value}
 use Rattle.std.specs.declared.ops.Range.{Range}
 use Rattle.bit_words.specs.Bounds.{greatest}
-use Rattle.bit_set.specs.{RangeReading.{IsRangesFault, before_ranges, cut_at, end_of, items_left, items_of, number_of, range_between, range_of, ranges_in, ranges_of, without_space, without_spaces}, Members.{HasNone, UpdatesRange}, Ranges.span_end, Runs.in_ranges, Sets.has, declared.range_texts.RangesError.{RangesError, TheVariants.{Memory, Number, Text}}}
+use Rattle.bit_set.specs.RangeReading.{IsRangesFault, before_ranges, cut_at, end_of, items_left, items_of, number_of, range_between, range_of, ranges_in, ranges_of, without_space, without_spaces}
+use Rattle.bit_set.specs.{Members.{HasNone, UpdatesRange}, Ranges.span_end, Runs.in_ranges, Sets.has, declared.range_texts.RangesError.{RangesError, TheVariants.{Memory, Number, Text}}}
 
 -- ---- numbers
 
@@ -23,7 +29,8 @@ pub number_of-other : (ds : List ℕ) (i : ℕ) → i < length ds → is_ascii_d
 number_of-other ds i below other = let no = not_all_digits ds i below other in grind (arith, nat_tests, no)
 
 -- one more digit, where the greatest stands for that or more
-pub saturated_more : (ds : List ℕ) (i number ten next : ℕ) → i < length ds → IsAsciiDigit (get_or ds i 0) → number ≡ min (digits_value 10 (take i ds)) (2 ^ 64 - 1) → ten ≡ min (number * 10) (2 ^ 64 - 1) → next ≡ min (ten + (get_or ds i 0 - 48)) (2 ^ 64 - 1) → next ≡ min (digits_value 10 (take (i + 1) ds)) (2 ^ 64 - 1)
+pub saturated_more : (ds : List ℕ) (i number ten next : ℕ) → i < length ds → IsAsciiDigit (get_or ds i 0) → number ≡ min (digits_value 10 (take i ds)) (2 ^ 64 - 1)
+    → ten ≡ min (number * 10) (2 ^ 64 - 1) → next ≡ min (ten + (get_or ds i 0 - 48)) (2 ^ 64 - 1) → next ≡ min (digits_value 10 (take (i + 1) ds)) (2 ^ 64 - 1)
 saturated_more ds i number ten next below digit so_far tens more =
     omega (arith, digits_value_more 10 ds i below, digit_value_digit (get_or ds i 0) digit, so_far, tens, more)
 

@@ -1,10 +1,17 @@
 -- What a test that is asked of one member after another leaves of a set.
-use Rattle.std.proofs.Common.{◌≡◌, ◌≢◌, ℕ, ◌+◌, ◌-◌, ◌*◌, ◌/◌, ◌^◌, ◌<◌, ◌≤◌, min, Bool, true, false, not, ◌&&◌, ◌||◌, cond, eqb, ltb, nat_le, List, [], ◌∷◌, ◌++◌, get_or, length, refl, sym, ap, ap₂, ◌∙◌, arith, subst, append_assoc, filter, All, ⊎_elim, div-add-mod', mod-lt, mul-le-mul_right, zero, suc}
-use Rattle.std.{proofs.lemmas.{Bool.{cases_lt, false≢true, Decides.nat_tests}, List.{append-nil, get_or_past, length-append, Elements.{All-cons, All-nil, filter-append}, Folds.list_any-append, FromFn.{get_or-map-range_with_len, length-map-range_with_len}}}, specs.List.{items_where_true, Retain.{IsFiltered, ReturnsInTurn}}}
+use Rattle.std.proofs.Common.{◌≡◌, ◌≢◌, ℕ, ◌+◌, ◌-◌, ◌*◌, ◌/◌, ◌^◌, ◌<◌, ◌≤◌, min, Bool, true, false, not, ◌&&◌, ◌||◌, cond, eqb, ltb, nat_le, List, [], ◌∷◌, ◌++◌, get_or, length, refl, sym, ap, ap₂}
+use Rattle.std.proofs.Common.{◌∙◌, arith, subst, append_assoc, filter, All, inl, inr, ⊎_elim, div-add-mod', mod-lt, mul-le-mul_right, zero, suc}
+use Rattle.std.proofs.lemmas.Bool.{cases_eq, cases_lt, false≢true, Decides.nat_tests}
+use Rattle.std.proofs.lemmas.List.{append-nil, get_or_past, length-append, Elements.{All-cons, All-nil, filter-append}, Folds.list_any-append}
+use Rattle.std.proofs.lemmas.List.FromFn.{get_or-map-range_with_len, length-map-range_with_len}
+use Rattle.std.specs.{Bool.MatchBool, List.{items_where_true, Retain.{IsFiltered, ReturnsInTurn}}}
 use Rattle.bit_blocks.{proofs.BitsLemmas.block_past, specs.Digits.is_one}
 use Rattle.bit_words.specs.Kept.{KeepsInBlock}
 use Rattle.bit_set.specs.{Indexes.{digits_from, indexes}, Retained.{HasTested, ones}, Sets.{AscendsFrom, IsAscending, elements, has, those_from, without}}
-use Rattle.bit_set.proofs.{IndexLemmas.AscendsFrom-indexes, RangeLemmas.{AscendsFrom-joined, AscendsFrom-those_from}, SetLemmas.{AscendsFrom-filter, AscendsFrom-lower, IsAscending-elements, elements-kept, has-below, has-elements, has-elements_from, has-filter, has-first, has-without, same_members, same_members_from}, SizeLemmas.without-first, ValueLemmas.has-past}
+use Rattle.bit_set.proofs.{IndexLemmas.AscendsFrom-indexes, RangeLemmas.{AscendsFrom-joined, AscendsFrom-those_from}}
+use Rattle.bit_set.proofs.SetLemmas.{AscendsFrom-filter, AscendsFrom-lower, IsAscending-elements, elements-kept, has-below, has-elements, has-elements_from, has-filter, has-first, has-without}
+use Rattle.bit_set.proofs.SetLemmas.{same_members, same_members_from}
+use Rattle.bit_set.proofs.{SizeLemmas.without-first, ValueLemmas.has-past}
 
 -- ---- what is kept of a list
 
@@ -34,7 +41,8 @@ without-append [] t n = refl
 without-append (x ∷ xs) t n = let rest = without-append xs t n in grind (arith, rest)
 
 -- what is left where the first of the others was tested
-kept_next : (b : Bool) (front : List ℕ) (x : ℕ) (rest new : List ℕ) → new ≡ front ++ x ∷ rest → has front x ≡ false → IsAscending (x ∷ rest) → cond b new (without new x) ≡ front ++ cond b (x ∷ []) [] ++ rest
+kept_next : (b : Bool) (front : List ℕ) (x : ℕ) (rest new : List ℕ) → new ≡ front ++ x ∷ rest
+    → has front x ≡ false → IsAscending (x ∷ rest) → cond b new (without new x) ≡ front ++ cond b (x ∷ []) [] ++ rest
 kept_next true front x rest new is absent up = is ∙ sym (append_assoc front (x ∷ []) rest)
 kept_next false front x rest new is absent up =
     ap (λ s. without s x) is
@@ -59,7 +67,8 @@ ascends_rest low [] ys up = up
 ascends_rest low (x ∷ xs) ys up = AscendsFrom-lower (x + 1) low ys (omega (arith, up.0)) (ascends_rest (x + 1) xs ys up.1)
 
 module _ {P : Type 0} (R : P → ℕ → Bool → P → Type 0) where
-  ran-append : (p : P) (bs : List Bool) (xs : List ℕ) (q : P) (cs : List Bool) (ys : List ℕ) (r : P) → ReturnsInTurn R p bs xs q → length bs ≡ length xs → ReturnsInTurn R q cs ys r → ReturnsInTurn R p (bs ++ cs) (xs ++ ys) r
+  ran-append : (p : P) (bs : List Bool) (xs : List ℕ) (q : P) (cs : List Bool) (ys : List ℕ) (r : P)
+      → ReturnsInTurn R p bs xs q → length bs ≡ length xs → ReturnsInTurn R q cs ys r → ReturnsInTurn R p (bs ++ cs) (xs ++ ys) r
   ran-append p [] [] q cs ys r ran long on = subst (λ s. ReturnsInTurn R s cs ys r) (sym ran) on
   ran-append p [] (x ∷ xs) q cs ys r ran long on = absurd (omega (arith, long))
   ran-append p (b ∷ bs) [] q cs ys r ran long on = absurd (omega (arith, long))
@@ -69,7 +78,8 @@ module _ {P : Type 0} (R : P → ℕ → Bool → P → Type 0) where
   tested-none p old = record { tested = []; answers = []; ran = refl; long = refl; whole = refl; kept = refl }
 
   -- one number more
-  pub tested-more : (low : ℕ) (p : P) (old : List ℕ) (q : P) (new : List ℕ) (x : ℕ) (rest others : List ℕ) (b : Bool) (r : P) (next : List ℕ) → AscendsFrom low old → HasTested R p old q new others → others ≡ x ∷ rest → R q x b r → next ≡ cond b new (without new x)
+  pub tested-more : (low : ℕ) (p : P) (old : List ℕ) (q : P) (new : List ℕ) (x : ℕ) (rest others : List ℕ) (b : Bool) (r : P) (next : List ℕ)
+      → AscendsFrom low old → HasTested R p old q new others → others ≡ x ∷ rest → R q x b r → next ≡ cond b new (without new x)
       → HasTested R p old r next rest
   tested-more low p old q new x rest others b r next up before here step is =
       let front = items_where_true before.answers before.tested in
@@ -234,7 +244,8 @@ module _ (w k m : ℕ) (values : List Bool) (digits : (j : ℕ) → j < w → is
       -- past the block all members stayed
       rest_same : those_from (elements left) next ≡ those_from (elements values) next
       rest_same =
-          same_members _ _ (AscendsFrom-filter 0 (λ y. nat_le next y) (elements left) (IsAscending-elements left)) (AscendsFrom-filter 0 (λ y. nat_le next y) (elements values) (IsAscending-elements values)) (λ i.
+          same_members _ _ (AscendsFrom-filter 0 (λ y. nat_le next y) (elements left) (IsAscending-elements left))
+          (AscendsFrom-filter 0 (λ y. nat_le next y) (elements values) (IsAscending-elements values)) (λ i.
           let a = has-filter (λ y. nat_le next y) (elements left) i in
           let b = has-filter (λ y. nat_le next y) (elements values) i in
           let value : has (elements left) i ≡ (stays i && has (elements values) i) = has-elements left i ∙ read i ∙ ap (λ x. stays i && x) (sym (has-elements values i)) in
@@ -253,7 +264,8 @@ module _ (w k m : ℕ) (values : List Bool) (digits : (j : ℕ) → j < w → is
           (cases_lt i (k * w)))
 
       -- and before it all
-      pub left_parts : (front : List ℕ) → those_from (elements values) n ≡ ones w (k * w) m ++ those_from (elements values) next → elements values ≡ front ++ ones w (k * w) m ++ those_from (elements values) next → elements left ≡ front ++ ones w (k * w) m' ++ those_from (elements left) next
+      pub left_parts : (front : List ℕ) → those_from (elements values) n ≡ ones w (k * w) m ++ those_from (elements values) next
+          → elements values ≡ front ++ ones w (k * w) m ++ those_from (elements values) next → elements left ≡ front ++ ones w (k * w) m' ++ those_from (elements left) next
       left_parts front others is =
           let s = elements values in
           let xs = ones w (k * w) m in
@@ -277,7 +289,8 @@ module _ (w k m : ℕ) (values : List Bool) (digits : (j : ℕ) → j < w → is
           ∙ ap₂ (λ a b. a ++ b) (filter-append stays front xs ∙ ap₂ (λ a b. a ++ b) (kept_all stays front before) block_kept) (kept_all stays rest after ∙ sym rest_same)
 
 -- a block was tested, and the members from there on are next
-pub retained-block : {P : Type 0} (R : P → ℕ → Bool → P → Type 0) (w k m m' n next : ℕ) (values left : List Bool) (p : P) (old : List ℕ) (q r : P) → 0 < w → ((j : ℕ) → j < w → is_one m j ≡ get_or values (k * w + j) false)
+pub retained-block : {P : Type 0} (R : P → ℕ → Bool → P → Type 0) (w k m m' n next : ℕ) (values left : List Bool) (p : P) (old : List ℕ) (q r : P)
+    → 0 < w → ((j : ℕ) → j < w → is_one m j ≡ get_or values (k * w + j) false)
     → n ≤ k * w → next ≡ min (k * w + w) (2 ^ 64 - 1) → length values ≤ 2 ^ 64 - 1 → ((i : ℕ) → n ≤ i → i < k * w → has (elements values) i ≡ false)
     → HasTested R p old q (elements values) (those_from (elements values) n) → HasTested R q (ones w (k * w) m) r (ones w (k * w) m') [] → KeepsInBlock w k m' values left
     → HasTested R p old r (elements left) (those_from (elements left) next)
@@ -288,7 +301,8 @@ retained-block R w k m m' n next values left p old q r pos digits on to fits non
     let fewer = λ (i : ℕ) (member : has (ones w (k * w) m') i ≡ true). ap (λ s. has s i) (sym all) ∙ has-kept after.answers after.tested i (ap (λ s. has s i) (sym kept) ∙ member) in
     let others = from_block w k m values digits n next on to fits none in
     let same = rest_same w k m values digits n next on to fits m' left keeps fewer pos in
-    tested-some R p old q (elements values) (those_from (elements values) n) xs (ones w (k * w) m') (those_from (elements left) next) r (elements left) before after (others ∙ ap (λ s. xs ++ s) (sym same))
+    tested-some R p old q (elements values) (those_from (elements values) n) xs (ones w (k * w) m')
+    (those_from (elements left) next) r (elements left) before after (others ∙ ap (λ s. xs ++ s) (sym same))
     (λ front is. left_parts w k m values digits n next on to fits m' left keeps fewer pos front others (is ∙ ap (λ s. front ++ xs ++ s) same))
 
 -- the block after one begins at or past it, whatever comes from there on is in it or past it
@@ -301,3 +315,34 @@ next_at_block w k next pos to below i past =
 pub positive : (n : ℕ) → (n ≡ 0 → false ≡ true) → 0 < n
 positive zero none = absurd (false≢true (none refl))
 positive (suc n) none = omega arith
+
+-- ---- which calls of a test that stays as it was tell what is kept
+
+module _ {P : Type 0} (R : P → ℕ → Bool → P → Type 0) (p : P) (stays : (x : ℕ) (b : Bool) (q : P) → R p x b q → q ≡ p) where
+  abbrev IsAsked : ℕ → Bool → Bool → Type 0
+  IsAsked n was is = MatchBool was (R p n is p) (is ≡ false)
+
+  asked_here : (n : ℕ) (was is b : Bool) → was ≡ true → is ≡ b → R p n b p → IsAsked n was is
+  asked_here n true is b member same met = subst (λ c. R p n c p) (sym same) met
+  asked_here n false is b member same met = absurd (false≢true member)
+
+  asked_there : (n : ℕ) (was is was' is' : Bool) → was ≡ was' → is ≡ is' → IsAsked n was' is' → IsAsked n was is
+  asked_there n was is was' is' before after asked = subst (λ c. IsAsked n c is) (sym before) (subst (λ c. IsAsked n was' c) (sym after) asked)
+
+  asked_from : (low : ℕ) (bs : List Bool) (xs : List ℕ) (q : P) → AscendsFrom low xs → length bs ≡ length xs → ReturnsInTurn R p bs xs q
+      → (n : ℕ) → IsAsked n (has xs n) (has (items_where_true bs xs) n)
+  asked_from low [] [] q up long ran n = refl
+  asked_from low [] (x ∷ xs) q up long ran n = absurd (omega (arith, long))
+  asked_from low (b ∷ bs) [] q up long ran n = absurd (omega (arith, long))
+  asked_from low (b ∷ bs) (x ∷ xs) q up long (next, met, ran) n =
+      let rest = asked_from (x + 1) bs xs q up.1 (omega (arith, long)) (subst (λ j. ReturnsInTurn R j bs xs q) (stays x b next met) ran) n in
+      let past = has-below (x + 1) xs n up.1 in
+      let kept_past = has-kept bs xs n in
+      elim (cases_eq x n) [
+        | inl same ↦ asked_here n (has (x ∷ xs) n) (has (items_where_true (b ∷ bs) (x ∷ xs)) n) b (grind (arith, nat_tests))
+            (grind (arith, nat_tests)) (subst (λ m. R p m b p) same (subst (λ j. R p x b j) (stays x b next met) met))
+        | inr other ↦ asked_there n (has (x ∷ xs) n) (has (items_where_true (b ∷ bs) (x ∷ xs)) n) (has xs n) (has (items_where_true bs xs) n) (grind (arith, nat_tests)) (grind (arith, nat_tests)) rest
+      ]
+
+  pub asked_each : (old new : List ℕ) → IsAscending old → IsFiltered R p old new → (n : ℕ) → IsAsked n (has old n) (has new n)
+  asked_each old new up (bs, q, long, ran, kept) n = subst (λ s. IsAsked n (has old n) (has s n)) (sym kept) (asked_from 0 bs old q up long ran n)

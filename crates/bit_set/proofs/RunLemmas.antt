@@ -1,11 +1,14 @@
 -- What the runs of a set are, and how one after another is found.
-use Rattle.std.proofs.Common.{◌≡◌, ℕ, zero, suc, ◌+◌, ◌-◌, ◌<◌, ◌≤◌, Bool, true, false, not, ◌*◌, ◌/◌, ◌&&◌, ◌||◌, eqb, nat_le, List, [], ◌∷◌, ◌++◌, Option, Some, None, length, refl, sym, ap, ap₂, ◌∙◌, arith}
+use Rattle.std.proofs.Common.{◌≡◌, ℕ, zero, suc, ◌+◌, ◌-◌, ◌<◌, ◌≤◌, Bool, true, false, not, ◌*◌, ◌/◌, ◌&&◌, ◌||◌, eqb, nat_le, List, [], ◌∷◌, ◌++◌, Option, Some, None, length, refl, sym, ap, ap₂}
+use Rattle.std.proofs.Common.{◌∙◌, arith}
 use Rattle.std.{proofs.iter.runs.Sources.{from_front, as_is}, specs.Iterator.Runs.YieldsInOrder}
 use Rattle.std.proofs.lemmas.{Bool.{Decides.nat_tests}, List.Folds.list_any-append}
 use Rattle.std.specs.{Option.unwrap_or, List.range_with_len, declared.ops.Range.Range}
 use Rattle.bit_blocks.specs.Ranges.{in_range}
-use Rattle.bit_set.specs.{Members.{TakesLeast}, Missing.{MissingWalk, PassesMembers}, Ranges.{span, those_in_range}, Runs.{AreApartFrom, AreRuns, IsFirstRun, PassesRun, RunsWalk, in_ranges, put_before, runs_of}, Sets.{AscendsFrom, IsAscending, elements, has, those_from}}
-use Rattle.bit_set.proofs.{RangeLemmas.{AscendsFrom-joined, AscendsFrom-those_from, IsAscending-span, has-span}, SetLemmas.{AscendsFrom-filter, AscendsFrom-lower, IsAscending-elements, has-filter, same_members}, ValueLemmas.has-past}
+use Rattle.bit_set.specs.{Members.{TakesLeast}, Missing.{MissingWalk, PassesMembers}, Ranges.{span, those_in_range}}
+use Rattle.bit_set.specs.{Runs.{AreApartFrom, AreRuns, IsFirstRun, PassesRun, RunsWalk, in_ranges, put_before, runs_of}, Sets.{AscendsFrom, IsAscending, elements, has, those_from}}
+use Rattle.bit_set.proofs.RangeLemmas.{AscendsFrom-joined, AscendsFrom-those_from, IsAscending-span, has-span}
+use Rattle.bit_set.proofs.{SetLemmas.{AscendsFrom-filter, AscendsFrom-lower, IsAscending-elements, has-filter, same_members}, ValueLemmas.has-past}
 
 -- ---- what they are
 
@@ -39,7 +42,8 @@ before_touching a b c rs e = grind (arith, nat_tests, e)
 
 runs-span : (k a end : ℕ) (t : List ℕ) → end ≡ a + k + 1 → AscendsFrom (end + 1) t → runs_of (range_with_len a (suc k) ++ t) ≡ record { start = a; end = end } ∷ runs_of t
 runs-span zero a end t e up =
-    alone a (runs_of t) (apart_from (a + 2) t (AscendsFrom-lower (end + 1) (a + 2) t (omega (arith, e)) up)) ∙ ap (λ n. record { start = a; end = n } ∷ runs_of t) (let last : a + 1 ≡ end = omega (arith, e) in last)
+    alone a (runs_of t) (apart_from (a + 2) t (AscendsFrom-lower (end + 1) (a + 2) t (omega (arith, e)) up))
+    ∙ ap (λ n. record { start = a; end = n } ∷ runs_of t) (let last : a + 1 ≡ end = omega (arith, e) in last)
 runs-span (suc k) a end t e up =
     ap (put_before a) (runs-span k (a + 1) end t (omega (arith, e)) up) ∙ before_touching a (a + 1) end (runs_of t) refl
 
@@ -84,7 +88,8 @@ module _ (s : List ℕ) (start end : ℕ) (up : IsAscending s) where
       past = grind (arith, nat_tests, has-filter (in_range start end) s end);
     }
 
-    pub run_found : (w : ℕ) (a b : MissingWalk) (r : Option ℕ) (past : ℕ) → a.left ≡ missing → PassesMembers w a r b → past ≡ unwrap_or r end → IsFirstRun (those_in_range s start end) (record { start = first; end = past })
+    pub run_found : (w : ℕ) (a b : MissingWalk) (r : Option ℕ) (past : ℕ) → a.left ≡ missing → PassesMembers w a r b
+        → past ≡ unwrap_or r end → IsFirstRun (those_in_range s start end) (record { start = first; end = past })
     run_found w a b None past is step e = rw e (ends_with_range (sym is ∙ step.item.0))
     run_found w a b (Some x) past is step e = rw e (ends_before x b.left (rw is at step.first))
 
@@ -101,7 +106,8 @@ module _ (s : List ℕ) (start end : ℕ) (up : IsAscending s) where
       → PassesRun a (Some (record { start = first; end = past })) t
   passes_run first past a t old new on run =
       let rest = λ (n : ℕ). rest_of_part past n (omega (arith, on, run.some)) in
-      let kept : those_in_range s past end ≡ those_from (those_in_range s start end) past = same_members _ _ (AscendsFrom-filter 0 _ s up) (AscendsFrom-filter 0 _ _ (AscendsFrom-filter 0 _ s up)) (λ n. rest n ∙ sym (has-filter (λ x. nat_le past x) (those_in_range s start end) n)) in
+      let kept : those_in_range s past end ≡ those_from (those_in_range s start end) past = same_members _ _ (AscendsFrom-filter 0 _ s up)
+      (AscendsFrom-filter 0 _ _ (AscendsFrom-filter 0 _ s up)) (λ n. rest n ∙ sym (has-filter (λ x. nat_le past x) (those_in_range s start end) n)) in
       rw (← old, new) (record {
         item = runs_from_first (those_in_range s start end) _ first past (AscendsFrom-filter 0 _ s up) run kept;
         first = run;

@@ -1,8 +1,10 @@
 -- What `put_all` and `bound_of` do, and the sets of `specs/Sets.antt` as finite sets of std.
-use Rattle.std.proofs.{Common.{◌≡◌, ℕ, ◌+◌, ◌<◌, ◌≤◌, Bool, true, false, ◌||◌, List, [], ◌∷◌, length, filter, slice_get, IsTrue, ◌↔◌, Some, sym, ap, ◌∙◌, refl, arith}, lemmas.Bool.{eqb-true, Decides.nat_tests}}
+use Rattle.std.proofs.Common.{◌≡◌, ℕ, ◌+◌, ◌<◌, ◌≤◌, Bool, true, false, ◌||◌, List, [], ◌∷◌, length, filter, slice_get, IsTrue, ◌↔◌, Some, sym, ap, ◌∙◌, refl, arith}
+use Rattle.std.proofs.lemmas.Bool.{eqb-true, Decides.nat_tests}
 use Rattle.std.{proofs.lemmas.{List.{ext_get_or, get_or_past}, Option.{get_or_from_slice_get, slice_get_cases}}, specs.{Cmp.{nat_cmp_total, unsigned_tied}, Ordering.{nat_cmp, is_eq}}}
 use Rattle.std.specs.FinSet as set
-use Rattle.bit_set.{specs.Sets.{AscendsFrom, IsAscending, has, put, without, elements, put_all, bound_of}, proofs.SetLemmas.{AscendsFrom-put, has-below, has-put, has-filter, has-without, has-elements, same_members}}
+use Rattle.bit_set.specs.Sets.{AscendsFrom, IsAscending, has, put, without, elements, put_all, bound_of}
+use Rattle.bit_set.proofs.SetLemmas.{AscendsFrom-put, has-below, has-put, has-filter, has-without, has-elements, same_members}
 
 pub has-put_all : (s items : List ℕ) (m : ℕ) → has (put_all s items) m ≡ (has items m || has s m)
 has-put_all s [] m = refl
@@ -53,7 +55,8 @@ finite-put s n =
 
 pub finite-filter : (p : ℕ → Bool) (s : List ℕ) → finite (filter p s) ≡ set.retain (finite s) p
 finite-filter p s =
-    same_finite (filter p s) _ (λ m. let theirs = set.contains-retain (finite s) p m (λ x e. ap p (sym (eqb-true m x (sym (unsigned_tied m x) ∙ ap is_eq e)))) in grind (arith, has-filter p s m, contains-has s m))
+    same_finite (filter p s) _ (λ m. let theirs = set.contains-retain (finite s) p m (λ x e. ap p (sym (eqb-true m x (sym (unsigned_tied m x) ∙ ap is_eq e)))) in
+    grind (arith, has-filter p s m, contains-has s m))
 
 pub finite-without : (s : List ℕ) (n : ℕ) → finite (without s n) ≡ set.remove (finite s) n
 finite-without s n =
@@ -61,7 +64,8 @@ finite-without s n =
 
 pub finite-put_all : (s items : List ℕ) → finite (put_all s items) ≡ set.union (finite s) (finite items)
 finite-put_all s items =
-    same_finite (put_all s items) _ (λ m. let ours = has-put_all s items m in let theirs = set.contains-union nat_cmp_total (finite s) (finite items) m in grind (arith, contains-has s m, contains-has items m))
+    same_finite (put_all s items) _ (λ m. let ours = has-put_all s items m in
+    let theirs = set.contains-union nat_cmp_total (finite s) (finite items) m in grind (arith, contains-has s m, contains-has items m))
 
 -- an ascending list has as many members as it is long
 pub len-finite : (low : ℕ) (s : List ℕ) → AscendsFrom low s → set.len (finite s) ≡ length s

@@ -1,6 +1,8 @@
 -- What the operations of `specs/Sets.antt` do to the members, that they keep the order, and that the members fix a set.
-use Rattle.std.proofs.Common.{◌≡◌, ℕ, ◌+◌, ◌-◌, ◌<◌, ◌≤◌, Bool, true, false, not, ◌||◌, ◌&&◌, cond, eqb, List, [], ◌∷◌, length, get_or, filter, ◌++◌, suc, zero, count_by, set, replicate, refl, sym, ap, ◌∙◌, arith}
-use Rattle.std.proofs.lemmas.{Bool.{eqb-true, Decides.nat_tests}, List.{get_or-set_same, get_or-set_other, get_or_append_left, get_or-append_right, get_or-replicate, get_or_past, length-replicate, Recursion.is_count_by}}
+use Rattle.std.proofs.Common.{◌≡◌, ℕ, ◌+◌, ◌-◌, ◌<◌, ◌≤◌, Bool, true, false, not, ◌||◌, ◌&&◌, cond, eqb, List, [], ◌∷◌, length, get_or, filter, ◌++◌, suc, zero, count_by, set, replicate, refl, sym}
+use Rattle.std.proofs.Common.{ap, ◌∙◌, arith}
+use Rattle.std.proofs.lemmas.Bool.{eqb-true, Decides.nat_tests}
+use Rattle.std.proofs.lemmas.List.{get_or-set_same, get_or-set_other, get_or_append_left, get_or-append_right, get_or-replicate, get_or_past, length-replicate, Recursion.is_count_by}
 use Rattle.std.proofs.lemmas.{List.Sums.count_by-le-length, Map.Views.any-filter_same}
 use Rattle.bit_set.specs.Sets.{AscendsFrom, IsAscending, has, put, without, elements_from, elements}
 

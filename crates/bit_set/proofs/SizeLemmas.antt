@@ -1,6 +1,7 @@
 -- How many numbers a set has after a call, which items were new, and what a first member is.
 use Rattle.std.proofs.{Common.{◌≡◌, ℕ, ◌+◌, ◌≤◌, not, ◌&&◌, cond, List, [], ◌∷◌, ◌++◌, length, refl, arith, IsTrue}, lemmas.Bool.Decides.nat_tests}
-use Rattle.bit_set.{specs.Sets.{AscendsFrom, IsAscending, has, put, without, put_all, those_new}, proofs.SetLemmas.{AscendsFrom-lower, AscendsFrom-put, has-below, has-put, without_absent, length-elements-le}}
+use Rattle.bit_set.specs.Sets.{AscendsFrom, IsAscending, has, put, without, put_all, those_new}
+use Rattle.bit_set.proofs.SetLemmas.{AscendsFrom-lower, AscendsFrom-put, has-below, has-put, without_absent, length-elements-le}
 
 -- ---- how many there are
 

@@ -1,11 +1,14 @@
 -- A walk that goes by the blocks that are not 0, with one of them in hand at either end: a step to the next such block, an
 -- element taken out of it, and the end.
-use Rattle.std.proofs.Common.{◌≡◌, ℕ, ◌+◌, ◌-◌, ◌*◌, ◌/◌, ◌^◌, ◌<◌, ◌≤◌, ◌==◌, min, Bool, true, false, if◌then◌else◌, List, [], ◌∷◌, ◌++◌, map, length, All, Some, None, count_ones, refl, sym, ap, ◌∙◌, subst, arith, inl, inr, ap₂, length-append}
-use Rattle.std.proofs.lemmas.{Bool.{ne_eqb, eq-eqb, true≢false, Decides.nat_tests}, Nat.div-mul-add, List.{append-nil, append_assoc, map-append, Elements.{All-nil, All-cons, All-head, All-tail}, Sums.{sum_by-cons}}}
+use Rattle.std.proofs.Common.{◌≡◌, ℕ, ◌+◌, ◌-◌, ◌*◌, ◌/◌, ◌^◌, ◌<◌, ◌≤◌, ◌==◌, min, Bool, true, false, if◌then◌else◌, List, [], ◌∷◌, ◌++◌, map, length, All, Some, None, count_ones, refl, sym, ap, ◌∙◌}
+use Rattle.std.proofs.Common.{subst, arith, inl, inr, ap₂, length-append}
+use Rattle.std.proofs.lemmas.{Bool.{ne_eqb, eq-eqb, true≢false, Decides.nat_tests}, Nat.div-mul-add}
+use Rattle.std.proofs.lemmas.List.{append-nil, append_assoc, map-append, Elements.{All-nil, All-cons, All-head, All-tail}, Sums.{sum_by-cons}}
 use Rattle.std.proofs.Math.Nat.{mul-div_cancel}
 use Rattle.bit_blocks.specs.{Highest.IsHighest, Lowest.{IsLowest, IsCleared}}
 use Rattle.bit_words.specs.Nonzero.{Hand, Nonzeros, PullsLast, PullsNonzero, Refills, RunsOut, TakesFirst, TakesLast, ones_left}
-use Rattle.bit_set.{specs.{Sets.{AscendsFrom, IsAscending}, Indexes.{indexes, indexes_of, left_between, seen_of, IsSparseWalk}, Walk.{Walk, Advances, AdvancesBack, PullsBlocks, PullsBlocksBack}}, proofs.{MemberLemmas.{takes_greatest, takes_least}, SetLemmas.{AscendsFrom-init, AscendsFrom-lower, AscendsFrom-reach}}}
+use Rattle.bit_set.specs.{Sets.{AscendsFrom, IsAscending}, Indexes.{indexes, indexes_of, left_between, seen_of, IsSparseWalk}, Walk.{Walk, Advances, AdvancesBack, PullsBlocks, PullsBlocksBack}}
+use Rattle.bit_set.proofs.{MemberLemmas.{takes_greatest, takes_least}, SetLemmas.{AscendsFrom-init, AscendsFrom-lower, AscendsFrom-reach}}
 use Rattle.bit_set.proofs.IndexLemmas.{indexes-zero, indexes-lowest, indexes-highest, length-indexes}
 
 pub whole_index : (w q : ℕ) → 0 < w → q * w / w ≡ q
@@ -80,8 +83,10 @@ module _ {X : Type 0} (w : ℕ) (number : X → ℕ) (is_block : X → Type 0) (
       omega (arith, whole_p, whole_q, e)
 
   -- what holds of what is left goes over
-  moved : (front back new other : Hand X) (s t : Nonzeros X) → IsSparseWalk w number is_block front s back → is_block new.block → is_block other.block → All (λ (entry : ℕ × X). is_block entry.1) t.left → t.blocks ≡ s.blocks → new.index ≡ new.index / w * w → other.index ≡ other.index / w * w
-      → AscendsFrom (new.index / w + 1) (map (λ entry. entry.0) t.left ++ (other.index / w + 1) ∷ []) → other.index / w ≤ back.index / w → left_between w number new t.left other ≡ left_between w number front s.left back
+  moved : (front back new other : Hand X) (s t : Nonzeros X) → IsSparseWalk w number is_block front s back → is_block new.block → is_block other.block
+      → All (λ (entry : ℕ × X). is_block entry.1) t.left → t.blocks ≡ s.blocks → new.index ≡ new.index / w * w → other.index ≡ other.index / w * w
+      → AscendsFrom (new.index / w + 1) (map (λ entry. entry.0) t.left ++ (other.index / w + 1) ∷ [])
+      → other.index / w ≤ back.index / w → left_between w number new t.left other ≡ left_between w number front s.left back
       → IsSparseWalk w number is_block new t other
   moved front back new other s t is lawful lawful_too each blocks whole whole_too past inside same = record {
     in_hand = lawful;
@@ -93,7 +98,7 @@ module _ {X : Type 0} (w : ℕ) (number : X → ℕ) (is_block : X → Type 0) (
     inside = let count = ap length blocks in omega (arith, inside, is.inside, count);
     fits = subst (λ xs. (length xs - 1) * w < 2 ^ 64) (sym blocks) is.fits;
     ascends = subst IsAscending (sym same) is.ascends;
-    below = subst (All (λ n. n < 2 ^ 64)) (sym same) is.below;
+    below = subst (All (λ n. n < 2 ^ 64 - 1)) (sym same) is.below;
     count_fits = subst (λ xs. length xs < 2 ^ 64) (sym same) is.count_fits;
   }
 
@@ -109,7 +114,8 @@ module _ {X : Type 0} (w : ℕ) (number : X → ℕ) (is_block : X → Type 0) (
     summary = refl;
   }
 
-  fills_next : (front back new : Hand X) (s t : Nonzeros X) (k : ℕ) → IsSparseWalk w number is_block front s back → is_block new.block → number front.block ≡ 0 → TakesFirst s (Some (k, new.block)) t → new.index ≡ k * w
+  fills_next : (front back new : Hand X) (s t : Nonzeros X) (k : ℕ) → IsSparseWalk w number is_block front s back
+      → is_block new.block → number front.block ≡ 0 → TakesFirst s (Some (k, new.block)) t → new.index ≡ k * w
       → ReachesNext w number is_block (seen_of w number front s back) new t back
   fills_next front back new s t k is lawful used_up pull index =
       let at : new.index / w ≡ k = ap (λ n. n / w) index ∙ whole_index w k pos in
@@ -128,7 +134,9 @@ module _ {X : Type 0} (w : ℕ) (number : X → ℕ) (is_block : X → Type 0) (
       let whole : new.index ≡ new.index / w * w = index ∙ ap (λ n. n * w) (sym at) in
       record {
         reached = record {
-          walk = moved front back new back s t is lawful is.at_back (All-tail (λ (entry : ℕ × X). is_block entry.1) (k, new.block) t.left (subst (All (λ (entry : ℕ × X). is_block entry.1)) pull.item is.each)) pull.same whole is.whole_back (subst (λ n. AscendsFrom (n + 1) (map (λ entry. entry.0) t.left ++ (back.index / w + 1) ∷ [])) (sym at) up.1) (omega arith) same;
+          walk = moved front back new back s t is lawful is.at_back (All-tail (λ (entry : ℕ × X). is_block entry.1) (k, new.block) t.left
+              (subst (All (λ (entry : ℕ × X). is_block entry.1)) pull.item is.each)) pull.same whole is.whole_back
+              (subst (λ n. AscendsFrom (n + 1) (map (λ entry. entry.0) t.left ++ (back.index / w + 1) ∷ [])) (sym at) up.1) (omega arith) same;
           same = same;
           kept = omega (arith, pull.counted, count);
         };
@@ -139,7 +147,8 @@ module _ {X : Type 0} (w : ℕ) (number : X → ℕ) (is_block : X → Type 0) (
         summary = pull.summary;
       }
 
-  takes_over_next : (front back new other : Hand X) (s t : Nonzeros X) → IsSparseWalk w number is_block front s back → is_block other.block → number front.block ≡ 0 → TakesFirst s None t → new ≡ back → other.index ≡ back.index → number other.block ≡ 0
+  takes_over_next : (front back new other : Hand X) (s t : Nonzeros X) → IsSparseWalk w number is_block front s back
+      → is_block other.block → number front.block ≡ 0 → TakesFirst s None t → new ≡ back → other.index ≡ back.index → number other.block ≡ 0
       → ReachesNext w number is_block (seen_of w number front s back) new t other
   takes_over_next front back new other s t is lawful used_up look taken index other_used_up =
       let apart = ends_apart front back s is in
@@ -152,7 +161,8 @@ module _ {X : Type 0} (w : ℕ) (number : X → ℕ) (is_block : X → Type 0) (
       let was = ap length look.item.0 in
       let at = ap (λ n. n / w) index in
       let whole : other.index ≡ other.index / w * w = index ∙ is.whole_back ∙ ap (λ n. n * w) (sym at) in
-      let past : AscendsFrom (back.index / w + 1) (map (λ entry. entry.0) t.left ++ (other.index / w + 1) ∷ []) = subst (λ entries. AscendsFrom (back.index / w + 1) (map (λ (entry : ℕ × X). entry.0) entries ++ (other.index / w + 1) ∷ [])) (sym look.item.1) (omega (arith, at), tt) in
+      let past : AscendsFrom (back.index / w + 1) (map (λ entry. entry.0) t.left ++ (other.index / w + 1) ∷ []) =
+      subst (λ entries. AscendsFrom (back.index / w + 1) (map (λ (entry : ℕ × X). entry.0) entries ++ (other.index / w + 1) ∷ [])) (sym look.item.1) (omega (arith, at), tt) in
       rw taken (record {
         reached = record {
           walk = moved front back back other s t is is.at_back lawful (no_entries look.item.1) look.same is.whole_back whole past (omega (arith, at)) same;
@@ -167,7 +177,8 @@ module _ {X : Type 0} (w : ℕ) (number : X → ℕ) (is_block : X → Type 0) (
       })
 
   -- a refill that found a block, or had one
-  pub refilled : (front back new other : Hand X) (s t : Nonzeros X) → IsSparseWalk w number is_block front s back → is_block new.block → is_block other.block → Refills TakesFirst PullsNonzero w number s front back true t new other
+  pub refilled : (front back new other : Hand X) (s t : Nonzeros X) → IsSparseWalk w number is_block front s back
+      → is_block new.block → is_block other.block → Refills TakesFirst PullsNonzero w number s front back true t new other
       → ReachesNext w number is_block (seen_of w number front s back) new t other
   refilled front back new other s t is lawful lawful_too found =
       elim found [
@@ -183,7 +194,8 @@ module _ {X : Type 0} (w : ℕ) (number : X → ℕ) (is_block : X → Type 0) (
 
   -- one that found none
   pub refilled-end : (front back new other : Hand X) (s t : Nonzeros X) → IsSparseWalk w number is_block front s back → Refills TakesFirst PullsNonzero w number s front back false t new other
-      → (IsSparseWalk w number is_block (record { block = new.block; index = back.index }) t other × Advances w (seen_of w number front s back) None (seen_of w number (record { block = new.block; index = back.index }) t other))
+      → (IsSparseWalk w number is_block (record { block = new.block; index = back.index }) t other
+      × Advances w (seen_of w number front s back) None (seen_of w number (record { block = new.block; index = back.index }) t other))
   unfolding PullsBlocks
   refilled-end front back new other s t is found =
       elim found [
@@ -198,13 +210,16 @@ module _ {X : Type 0} (w : ℕ) (number : X → ℕ) (is_block : X → Type 0) (
       ]
     where
       ended : RunsOut PullsNonzero number s front back false t new other
-          → (IsSparseWalk w number is_block (record { block = front.block; index = back.index }) t back × Advances w (seen_of w number front s back) None (seen_of w number (record { block = front.block; index = back.index }) t back))
+          → (IsSparseWalk w number is_block (record { block = front.block; index = back.index }) t back
+          × Advances w (seen_of w number front s back) None (seen_of w number (record { block = front.block; index = back.index }) t back))
       ended out =
           let apart = ends_apart front back s is in
           let was : left_between w number front s.left back ≡ [] =
-          ap₂ (λ xs entries. xs ++ (indexes_of w number entries ++ indexes w back.index (number back.block) [])) (no_indexes w front.index (number front.block) out.used_up) out.end.item.0 ∙ no_indexes w back.index (number back.block) out.other_used_up in
+          ap₂ (λ xs entries. xs ++ (indexes_of w number entries ++ indexes w back.index (number back.block) [])) (no_indexes w front.index (number front.block) out.used_up) out.end.item.0
+          ∙ no_indexes w back.index (number back.block) out.other_used_up in
           let now : left_between w number (record { block = front.block; index = back.index }) t.left back ≡ [] =
-          ap₂ (λ xs entries. xs ++ (indexes_of w number entries ++ indexes w back.index (number back.block) [])) (no_indexes w back.index (number front.block) out.used_up) out.end.item.1 ∙ no_indexes w back.index (number back.block) out.other_used_up in
+          ap₂ (λ xs entries. xs ++ (indexes_of w number entries ++ indexes w back.index (number back.block) [])) (no_indexes w back.index (number front.block) out.used_up) out.end.item.1
+          ∙ no_indexes w back.index (number back.block) out.other_used_up in
           let none = ap length out.end.item.1 in
           let none_before = ap length out.end.item.0 in (
             moved front back (record { block = front.block; index = back.index }) back s t is is.in_hand is.at_back (no_entries out.end.item.1) out.end.same is.whole_back is.whole_back
@@ -213,6 +228,7 @@ module _ {X : Type 0} (w : ℕ) (number : X → ℕ) (is_block : X → Type 0) (
             record {
               item = (was, now);
               first = tt;
+              fits = tt;
               pulls = record {
                 goes_on = omega (arith, out.end.counted);
                 pulled = omega (arith, out.end.counted);
@@ -226,8 +242,10 @@ module _ {X : Type 0} (w : ℕ) (number : X → ℕ) (is_block : X → Type 0) (
           )
 
   -- the lowest one of the block that was reached is taken
-  pub given_one : (s : Walk) (front back : Hand X) (i : ℕ) (r : X) (it : Nonzeros X) → ReachesNext w number is_block s front it back → is_block r → IsLowest (number front.block) i → i < w → IsCleared w (number front.block) i (number r)
-      → (IsSparseWalk w number is_block (record { block = r; index = front.index }) it back × (front.index + i < 2 ^ 64) × Advances w s (Some (front.index + i)) (seen_of w number (record { block = r; index = front.index }) it back))
+  pub given_one : (s : Walk) (front back : Hand X) (i : ℕ) (r : X) (it : Nonzeros X) → ReachesNext w number is_block s front it back
+      → is_block r → IsLowest (number front.block) i → i < w → IsCleared w (number front.block) i (number r)
+      → (IsSparseWalk w number is_block (record { block = r; index = front.index }) it back × (front.index + i < 2 ^ 64 - 1)
+      × Advances w s (Some (front.index + i)) (seen_of w number (record { block = r; index = front.index }) it back))
   unfolding PullsBlocks
   given_one s front back i r it to lawful low within cleared =
       let is = to.reached.walk in
@@ -236,7 +254,7 @@ module _ {X : Type 0} (w : ℕ) (number : X → ℕ) (is_block : X → Type 0) (
       let taken : left_between w number front it.left back ≡ (front.index + i) ∷ left_between w number new it.left back =
       ap (λ xs. xs ++ rest) (indexes-lowest w front.index (number front.block) (number r) i [] low within cleared) in
       let up = subst IsAscending taken is.ascends in
-      let below = subst (All (λ n. n < 2 ^ 64)) taken is.below in
+      let below = subst (All (λ n. n < 2 ^ 64 - 1)) taken is.below in
       let item : s.left ≡ (front.index + i) ∷ left_between w number new it.left back = sym to.reached.same ∙ taken in
       let index_is : (front.index + i) / w ≡ front.index / w = ap (λ n. (n + i) / w) is.whole ∙ div-mul-add (front.index / w) w i within in
       let most : (if s.index / w == front.index / w then 0 else min 1 s.nonzero_left) ≤ front.index / w - s.index / w = grind (arith, nat_tests, to.onward) in (
@@ -250,13 +268,14 @@ module _ {X : Type 0} (w : ℕ) (number : X → ℕ) (is_block : X → Type 0) (
           inside = is.inside;
           fits = is.fits;
           ascends = AscendsFrom-lower (front.index + i + 1) 0 _ (omega arith) up.1;
-          below = All-tail (λ n. n < 2 ^ 64) (front.index + i) _ below;
+          below = All-tail (λ n. n < 2 ^ 64 - 1) (front.index + i) _ below;
           count_fits = omega (arith, is.count_fits, ap length taken);
         },
-        All-head (λ n. n < 2 ^ 64) (front.index + i) _ below,
+        All-head (λ n. n < 2 ^ 64 - 1) (front.index + i) _ below,
         record {
           item = item;
           first = takes_least 0 s.left (front.index + i) _ (subst IsAscending to.reached.same is.ascends) item;
+          fits = All-head (λ n. n < 2 ^ 64 - 1) (front.index + i) _ below;
           pulls = record {
             goes_on = omega (arith, to.pulls);
             pulled = omega (arith, to.pulls, most, to.fewer);
@@ -285,12 +304,15 @@ module _ {X : Type 0} (w : ℕ) (number : X → ℕ) (is_block : X → Type 0) (
     summary_left = omega arith;
   }
 
-  fills_last : (front back new : Hand X) (s t : Nonzeros X) (k : ℕ) → IsSparseWalk w number is_block front s back → is_block new.block → number back.block ≡ 0 → TakesLast s (Some (k, new.block)) t → new.index ≡ k * w
+  fills_last : (front back new : Hand X) (s t : Nonzeros X) (k : ℕ) → IsSparseWalk w number is_block front s back
+      → is_block new.block → number back.block ≡ 0 → TakesLast s (Some (k, new.block)) t → new.index ≡ k * w
       → ReachesLast w number is_block (seen_of w number front s back) front t new
   fills_last front back new s t k is lawful used_up pull index =
       let at : new.index / w ≡ k = ap (λ n. n / w) index ∙ whole_index w k pos in
-      let numbers : map (λ (entry : ℕ × X). entry.0) s.left ≡ map (λ (entry : ℕ × X). entry.0) t.left ++ k ∷ [] = ap (map (λ (entry : ℕ × X). entry.0)) pull.item ∙ map-append (λ (entry : ℕ × X). entry.0) t.left ((k, new.block) ∷ []) in
-      let up = ascends-cut (front.index / w + 1) k (back.index / w + 1) (map (λ entry. entry.0) t.left) (subst (λ ks. AscendsFrom (front.index / w + 1) (ks ++ (back.index / w + 1) ∷ [])) numbers is.past) in
+      let numbers : map (λ (entry : ℕ × X). entry.0) s.left ≡ map (λ (entry : ℕ × X). entry.0) t.left ++ k ∷ [] =
+      ap (map (λ (entry : ℕ × X). entry.0)) pull.item ∙ map-append (λ (entry : ℕ × X). entry.0) t.left ((k, new.block) ∷ []) in
+      let up = ascends-cut (front.index / w + 1) k (back.index / w + 1) (map (λ entry. entry.0) t.left)
+      (subst (λ ks. AscendsFrom (front.index / w + 1) (ks ++ (back.index / w + 1) ∷ [])) numbers is.past) in
       let at_front = indexes w front.index (number front.block) [] in
       let same : left_between w number front t.left new ≡ left_between w number front s.left back =
       sym (
@@ -304,7 +326,9 @@ module _ {X : Type 0} (w : ℕ) (number : X → ℕ) (is_block : X → Type 0) (
       let count = ap length pull.item ∙ length-append t.left ((k, new.block) ∷ []) in
       record {
         reached = record {
-          walk = moved front back front new s t is is.in_hand lawful (All-init (λ (entry : ℕ × X). is_block entry.1) t.left (k, new.block) (subst (All (λ (entry : ℕ × X). is_block entry.1)) pull.item is.each)) pull.same is.whole (index ∙ ap (λ n. n * w) (sym at)) (subst (λ n. AscendsFrom (front.index / w + 1) (map (λ entry. entry.0) t.left ++ (n + 1) ∷ [])) (sym at) up.0) (omega (arith, at, up.1)) same;
+          walk = moved front back front new s t is is.in_hand lawful (All-init (λ (entry : ℕ × X). is_block entry.1) t.left (k, new.block)
+              (subst (All (λ (entry : ℕ × X). is_block entry.1)) pull.item is.each)) pull.same is.whole (index ∙ ap (λ n. n * w) (sym at))
+              (subst (λ n. AscendsFrom (front.index / w + 1) (map (λ entry. entry.0) t.left ++ (n + 1) ∷ [])) (sym at) up.0) (omega (arith, at, up.1)) same;
           same = same;
           kept = omega (arith, pull.counted, count);
         };
@@ -315,7 +339,8 @@ module _ {X : Type 0} (w : ℕ) (number : X → ℕ) (is_block : X → Type 0) (
         summary_left = pull.summary_left;
       }
 
-  takes_over_last : (front back new other : Hand X) (s t : Nonzeros X) → IsSparseWalk w number is_block front s back → is_block other.block → number back.block ≡ 0 → TakesLast s None t → new ≡ front → other.index ≡ front.index → number other.block ≡ 0
+  takes_over_last : (front back new other : Hand X) (s t : Nonzeros X) → IsSparseWalk w number is_block front s back
+      → is_block other.block → number back.block ≡ 0 → TakesLast s None t → new ≡ front → other.index ≡ front.index → number other.block ≡ 0
       → ReachesLast w number is_block (seen_of w number front s back) other t new
   takes_over_last front back new other s t is lawful used_up look taken index other_used_up =
       let apart = ends_apart front back s is in
@@ -328,7 +353,8 @@ module _ {X : Type 0} (w : ℕ) (number : X → ℕ) (is_block : X → Type 0) (
       let was = ap length look.item.0 in
       let at = ap (λ n. n / w) index in
       let whole : other.index ≡ other.index / w * w = index ∙ is.whole ∙ ap (λ n. n * w) (sym at) in
-      let past : AscendsFrom (other.index / w + 1) (map (λ entry. entry.0) t.left ++ (front.index / w + 1) ∷ []) = subst (λ entries. AscendsFrom (other.index / w + 1) (map (λ (entry : ℕ × X). entry.0) entries ++ (front.index / w + 1) ∷ [])) (sym look.item.1) (omega (arith, at), tt) in
+      let past : AscendsFrom (other.index / w + 1) (map (λ entry. entry.0) t.left ++ (front.index / w + 1) ∷ []) =
+      subst (λ entries. AscendsFrom (other.index / w + 1) (map (λ (entry : ℕ × X). entry.0) entries ++ (front.index / w + 1) ∷ [])) (sym look.item.1) (omega (arith, at), tt) in
       rw taken (record {
         reached = record {
           walk = moved front back other front s t is lawful is.in_hand (no_entries look.item.1) look.same whole is.whole past apart same;
@@ -342,7 +368,8 @@ module _ {X : Type 0} (w : ℕ) (number : X → ℕ) (is_block : X → Type 0) (
         summary_left = look.summary_left;
       })
 
-  pub refilled_back : (front back new other : Hand X) (s t : Nonzeros X) → IsSparseWalk w number is_block front s back → is_block new.block → is_block other.block → Refills TakesLast PullsLast w number s back front true t new other
+  pub refilled_back : (front back new other : Hand X) (s t : Nonzeros X) → IsSparseWalk w number is_block front s back
+      → is_block new.block → is_block other.block → Refills TakesLast PullsLast w number s back front true t new other
       → ReachesLast w number is_block (seen_of w number front s back) other t new
   refilled_back front back new other s t is lawful lawful_too found =
       elim found [
@@ -357,7 +384,8 @@ module _ {X : Type 0} (w : ℕ) (number : X → ℕ) (is_block : X → Type 0) (
       ]
 
   pub refilled_back-end : (front back new other : Hand X) (s t : Nonzeros X) → IsSparseWalk w number is_block front s back → Refills TakesLast PullsLast w number s back front false t new other
-      → (IsSparseWalk w number is_block other t (record { block = new.block; index = front.index }) × AdvancesBack w (seen_of w number front s back) None (seen_of w number other t (record { block = new.block; index = front.index })))
+      → (IsSparseWalk w number is_block other t (record { block = new.block; index = front.index })
+      × AdvancesBack w (seen_of w number front s back) None (seen_of w number other t (record { block = new.block; index = front.index })))
   unfolding PullsBlocksBack
   refilled_back-end front back new other s t is found =
       elim found [
@@ -372,19 +400,23 @@ module _ {X : Type 0} (w : ℕ) (number : X → ℕ) (is_block : X → Type 0) (
       ]
     where
       ended : RunsOut PullsLast number s back front false t new other
-          → (IsSparseWalk w number is_block front t (record { block = back.block; index = front.index }) × AdvancesBack w (seen_of w number front s back) None (seen_of w number front t (record { block = back.block; index = front.index })))
+          → (IsSparseWalk w number is_block front t (record { block = back.block; index = front.index })
+          × AdvancesBack w (seen_of w number front s back) None (seen_of w number front t (record { block = back.block; index = front.index })))
       ended out =
           let apart = ends_apart front back s is in
           let was : left_between w number front s.left back ≡ [] =
-          ap₂ (λ xs entries. xs ++ (indexes_of w number entries ++ indexes w back.index (number back.block) [])) (no_indexes w front.index (number front.block) out.other_used_up) out.end.item.0 ∙ no_indexes w back.index (number back.block) out.used_up in
+          ap₂ (λ xs entries. xs ++ (indexes_of w number entries ++ indexes w back.index (number back.block) [])) (no_indexes w front.index (number front.block) out.other_used_up) out.end.item.0
+          ∙ no_indexes w back.index (number back.block) out.used_up in
           let now : left_between w number front t.left (record { block = back.block; index = front.index }) ≡ [] =
-          ap₂ (λ xs entries. xs ++ (indexes_of w number entries ++ indexes w front.index (number back.block) [])) (no_indexes w front.index (number front.block) out.other_used_up) out.end.item.1 ∙ no_indexes w front.index (number back.block) out.used_up in (
+          ap₂ (λ xs entries. xs ++ (indexes_of w number entries ++ indexes w front.index (number back.block) [])) (no_indexes w front.index (number front.block) out.other_used_up) out.end.item.1
+          ∙ no_indexes w front.index (number back.block) out.used_up in (
             moved front back front (record { block = back.block; index = front.index }) s t is is.in_hand is.at_back (no_entries out.end.item.1) out.end.same is.whole is.whole
                 (subst (λ entries. AscendsFrom (front.index / w + 1) (map (λ (entry : ℕ × X). entry.0) entries ++ (front.index / w + 1) ∷ [])) (sym out.end.item.1) (omega arith, tt))
                 apart (now ∙ sym was),
             record {
               item = (was, now);
               last = tt;
+              fits = tt;
               pulls = record {
                 pulled = (out.end.counted, ap length out.end.item.0, ap length out.end.item.1);
                 goes_on = omega (arith, out.end.counted);
@@ -398,8 +430,10 @@ module _ {X : Type 0} (w : ℕ) (number : X → ℕ) (is_block : X → Type 0) (
           )
 
   -- the highest one of the block that was reached is taken
-  pub given_last : (s : Walk) (front back : Hand X) (i : ℕ) (r : X) (it : Nonzeros X) → ReachesLast w number is_block s front it back → is_block r → number r < 2 ^ w → IsHighest (number back.block) i → i < w → IsCleared w (number back.block) i (number r)
-      → (IsSparseWalk w number is_block front it (record { block = r; index = back.index }) × (back.index + i < 2 ^ 64) × AdvancesBack w s (Some (back.index + i)) (seen_of w number front it (record { block = r; index = back.index })))
+  pub given_last : (s : Walk) (front back : Hand X) (i : ℕ) (r : X) (it : Nonzeros X) → ReachesLast w number is_block s front it back
+      → is_block r → number r < 2 ^ w → IsHighest (number back.block) i → i < w → IsCleared w (number back.block) i (number r)
+      → (IsSparseWalk w number is_block front it (record { block = r; index = back.index }) × (back.index + i < 2 ^ 64 - 1)
+      × AdvancesBack w s (Some (back.index + i)) (seen_of w number front it (record { block = r; index = back.index })))
   unfolding PullsBlocksBack
   given_last s front back i r it to lawful small high within cleared =
       let is = to.reached.walk in
@@ -414,7 +448,7 @@ module _ {X : Type 0} (w : ℕ) (number : X → ℕ) (is_block : X → Type 0) (
       ∙ ap (λ xs. at_front ++ xs) (sym (append_assoc inner last (x ∷ [])))
       ∙ sym (append_assoc at_front (inner ++ last) (x ∷ [])) in
       let up : IsAscending (left_between w number front it.left new ++ x ∷ []) = subst IsAscending taken is.ascends in
-      let below = subst (All (λ n. n < 2 ^ 64)) taken is.below in
+      let below = subst (All (λ n. n < 2 ^ 64 - 1)) taken is.below in
       let item : s.left ≡ left_between w number front it.left new ++ x ∷ [] = sym to.reached.same ∙ taken in
       let index_is : x / w ≡ back.index / w = ap (λ n. (n + i) / w) is.whole_back ∙ div-mul-add (back.index / w) w i within in (
         record {
@@ -427,13 +461,14 @@ module _ {X : Type 0} (w : ℕ) (number : X → ℕ) (is_block : X → Type 0) (
           inside = is.inside;
           fits = is.fits;
           ascends = AscendsFrom-init 0 _ x up;
-          below = All-init (λ n. n < 2 ^ 64) (left_between w number front it.left new) x below;
+          below = All-init (λ n. n < 2 ^ 64 - 1) (left_between w number front it.left new) x below;
           count_fits = omega (arith, is.count_fits, ap length taken ∙ length-append (left_between w number front it.left new) (x ∷ []));
         },
-        All-last (λ n. n < 2 ^ 64) (left_between w number front it.left new) x below,
+        All-last (λ n. n < 2 ^ 64 - 1) (left_between w number front it.left new) x below,
         record {
           item = item;
           last = takes_greatest s.left _ x (subst IsAscending to.reached.same is.ascends) item;
+          fits = All-last (λ n. n < 2 ^ 64 - 1) (left_between w number front it.left new) x below;
           pulls = record {
             pulled = to.reached.kept;
             goes_on = to.goes_on;
@@ -460,9 +495,17 @@ module _ {X : Type 0} (w : ℕ) (number : X → ℕ) (is_block : X → Type 0) (
       omega (arith, rest, first, length-append (indexes w (entry.0 * w) (number entry.1) []) (indexes_of w number entries), sum_by-cons (λ (e : ℕ × X). count_ones (number e.1)) entry entries)
 
   -- those of the block in hand, of the blocks to pull, and of the one at the back
-  pub ones_ahead : (front back : Hand X) (it : Nonzeros X) → IsSparseWalk w number is_block front it back → count_ones (number front.block) + ones_left number it.left + count_ones (number back.block) ≡ length (left_between w number front it.left back)
+  pub ones_ahead : (front back : Hand X) (it : Nonzeros X) → IsSparseWalk w number is_block front it back
+      → count_ones (number front.block) + ones_left number it.left + count_ones (number back.block) ≡ length (left_between w number front it.left back)
   ones_ahead front back it is =
       let first = indexes w front.index (number front.block) [] in
       let inner = indexes_of w number it.left in
       let last = indexes w back.index (number back.block) [] in
-      omega (arith, length-append first (inner ++ last), length-append inner last, ones_of_block front.index front.block is.in_hand, ones_of_entries it.left is.each, ones_of_block back.index back.block is.at_back)
+      omega (
+        arith,
+        length-append first (inner ++ last),
+        length-append inner last,
+        ones_of_block front.index front.block is.in_hand,
+        ones_of_entries it.left is.each,
+        ones_of_block back.index back.block is.at_back,
+      )

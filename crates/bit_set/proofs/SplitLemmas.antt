@@ -1,5 +1,6 @@
 -- A set in two parts: those below a number, and the others.
-use Rattle.std.proofs.{Common.{◌≡◌, ℕ, ◌-◌, ◌<◌, ◌≤◌, max, min, false, ltb, if◌then◌else◌, nat_lt, nat_le, List, Bool, [], ◌++◌, length, drop, replicate, ap₂, ◌∙◌, arith, IsTrue}, lemmas.Bool.Decides.nat_tests}
+use Rattle.std.proofs.Common.{◌≡◌, ℕ, ◌-◌, ◌<◌, ◌≤◌, max, min, false, ltb, if◌then◌else◌, nat_lt, nat_le, List, Bool, [], ◌++◌, length, drop, replicate, ap₂, ◌∙◌, arith, IsTrue}
+use Rattle.std.proofs.{lemmas.Bool.Decides.nat_tests}
 use Rattle.std.proofs.lemmas.List.{get_or-drop, get_or-replicate, get_or_append_left, get_or-append_right, get_or_past, length-replicate}
 use Rattle.bit_set.{specs.Sets.{IsAscending, has, elements, those_below, those_from, union}, proofs.SetLemmas.{AscendsFrom-filter, IsAscending-elements, elements-kept, has-filter, same_members}}
 use Rattle.bit_set.proofs.SetLaws.{IsAscending-put_all, has-put_all, same_values}
@@ -39,6 +40,7 @@ pub apart : (s : List ℕ) (at m n : ℕ) → IsTrue (has (those_below s at) m) 
 apart s at m n low high = let below = has-filter (λ x. ltb x at) s m in let above = has-filter (λ x. nat_le at x) s n in grind (arith, nat_tests)
 
 -- the list is as it was once what was returned is put in again
-pub rejoined : (a b c d : List Bool) (at : ℕ) → elements b ≡ those_below (elements a) at → length b ≡ min (length a) at → elements c ≡ those_from (elements a) at → length c ≡ (if nat_lt at (length a) then length a else 0) → elements d ≡ union (elements b) (elements c) → length d ≡ max (length b) (length c) → d ≡ a
+pub rejoined : (a b c d : List Bool) (at : ℕ) → elements b ≡ those_below (elements a) at → length b ≡ min (length a) at → elements c ≡ those_from (elements a) at
+    → length c ≡ (if nat_lt at (length a) then length a else 0) → elements d ≡ union (elements b) (elements c) → length d ≡ max (length b) (length c) → d ≡ a
 rejoined a b c d at first first_length second second_length both both_length =
     same_values d a (both ∙ ap₂ union first second ∙ joined (elements a) at (IsAscending-elements a)) (grind (arith, nat_tests))

@@ -1,8 +1,10 @@
 -- Which sets are in which, and which have nothing in common.
-use Rattle.std.proofs.{Common.{◌≡◌, ℕ, Bool, true, not, ◌↔◌, eqb, List, [], ◌∷◌, filter, slice_get, Some, refl, sym, ap, ◌∙◌, ⊎_elim, arith}, Math.Bool.not-not, lemmas.Bool.{true≢false, and_from, or_right, not-true}}
+use Rattle.std.proofs.{Common.{◌≡◌, ℕ, Bool, true, not, ◌↔◌, eqb, List, [], ◌∷◌, filter, slice_get, Some, refl, sym, ap, ◌∙◌, ⊎_elim, arith}, Math.Bool.not-not}
+use Rattle.std.proofs.lemmas.Bool.{true≢false, and_from, or_right, not-true}
 use Rattle.std.{proofs.lemmas.Bool.{not_from_false, cases_Bool, Decides.nat_tests}, specs.{List.list_all, Cmp.nat_cmp_total}}
 use Rattle.std.specs.FinSet as set
-use Rattle.bit_set.{specs.Sets.{IsAscending, has, elements, intersection, difference, is_subset, is_disjoint}, proofs.{SetLemmas.{same_members, has-first}, SetLaws.{slice_get-elements, contains-has, finite}}}
+use Rattle.bit_set.specs.Sets.{IsAscending, has, elements, intersection, difference, is_subset, is_disjoint}
+use Rattle.bit_set.proofs.{SetLemmas.{same_members, has-first}, SetLaws.{slice_get-elements, contains-has, finite}}
 
 -- ---- a test that each member passes
 

@@ -1,7 +1,9 @@
 -- What tests and choices among the members of a set say of the members.
-use Rattle.std.proofs.{Common.{◌≡◌, ℕ, ◌+◌, ◌-◌, ◌≤◌, ◌&&◌, ◌⊎◌, inl, max, min, Bool, false, filter, nat_le, List, [], ◌∷◌, map, length, Option, Some, None, IsTrue, MatchOption, refl, arith}, lemmas.Bool.Decides.nat_tests}
+use Rattle.std.proofs.Common.{◌≡◌, ℕ, ◌+◌, ◌-◌, ◌≤◌, ◌&&◌, ◌⊎◌, inl, max, min, Bool, false, filter, nat_le, List, [], ◌∷◌, map, length, Option, Some, None, IsTrue, MatchOption, refl, arith}
+use Rattle.std.proofs.{lemmas.Bool.Decides.nat_tests}
 use Rattle.std.specs.List.{find, fold, last_or, list_any, position_or_len, reduce}
-use Rattle.bit_set.{specs.{Choices.{IsGreatest, IsLeast, IsLeastPassing}, Members.HasNone, Sets.{AscendsFrom, IsAscending, has, those_below}}, proofs.{SetLemmas.{has-below, has-filter}, SetLaws.has-put_all}}
+use Rattle.bit_set.specs.{Choices.{IsGreatest, IsLeast, IsLeastPassing}, Members.HasNone, Sets.{AscendsFrom, IsAscending, has, those_below}}
+use Rattle.bit_set.proofs.{SetLemmas.{has-below, has-filter}, SetLaws.has-put_all}
 
 -- ---- some member passes a test
 

@@ -1,5 +1,6 @@
 -- What a bit vector does to the set that it keeps.
-use Rattle.std.proofs.{Common.{◌≡◌, ℕ, ◌<◌, ◌≤◌, Bool, true, false, ◌↔◌, ltb, List, [], length, set, take, replicate, slice_get, Some, sym, ap, ◌∙◌, arith, length-take}, lemmas.{Bool.Decides.nat_tests, List.get_or-take}}
+use Rattle.std.proofs.Common.{◌≡◌, ℕ, ◌<◌, ◌≤◌, Bool, true, false, ◌↔◌, ltb, List, [], length, set, take, replicate, slice_get, Some, sym, ap, ◌∙◌, arith, length-take}
+use Rattle.std.proofs.lemmas.{Bool.Decides.nat_tests, List.get_or-take}
 use Rattle.std.{proofs.lemmas.{List.{get_or_default, get_or_past, set-get_or}, Option.{get_or_from_slice_get, unwrap_or-slice_get}}, specs.{Option.unwrap_or, List.All}}
 use Rattle.bit_set.{specs.Sets.{has, elements, those_below}, proofs.SetLemmas.{has-elements, elements-by_members, elements-kept, elements-padded}}
 

@@ -1,9 +1,12 @@
 -- What whole walks give, by one step after another, how often they pull, and which blocks they pass.
-use Rattle.std.proofs.Common.{◌≡◌, ℕ, ◌+◌, ◌-◌, ◌*◌, ◌/◌, ◌<◌, ◌≤◌, max, Bool, List, [], ◌∷◌, length, length-append, min, Option, Some, None, refl, sym, ap, ◌∙◌, arith, ◌==◌, ◌&&◌, true, false, nat_lt, if◌then◌else◌, map, div-add-mod', ap₂, subst, ◌++◌, take, cond, ◌||◌, drop}
+use Rattle.std.proofs.Common.{◌≡◌, ℕ, ◌+◌, ◌-◌, ◌*◌, ◌/◌, ◌<◌, ◌≤◌, max, Bool, List, [], ◌∷◌, length, length-append, min, Option, Some, None, refl, sym, ap, ◌∙◌, arith, ◌==◌, ◌&&◌, true, false}
+use Rattle.std.proofs.Common.{nat_lt, if◌then◌else◌, map, div-add-mod', ap₂, subst, ◌++◌, take, cond, ◌||◌, drop}
 use Rattle.std.proofs.{Math.{Bool.{or-false, and-false}, Nat.{mod-lt, lt_of_mul-lt-mul_left}, Seq.{drop-append_seam, take-append_seam}}, lemmas.{Nat.le-div, Bool.{ne_eqb, cond_both, ltb-true}}}
 use Rattle.std.{proofs.lemmas.{Bool.Decides.nat_tests, List.append-nil}, specs.Iterator.{Yields, YieldsFirst, YieldsThen, Drains}}
 use Rattle.bit_blocks.specs.{Bits.blocks_for, declared.block.merge.Merge.Merge}
-use Rattle.bit_set.specs.{Agreement.WalksAgree, Sets.{IsAscending, has, elements, put_all, merge_of_sets, AscendsFrom}, Walk.{Walk, TwoSetWalk, Advances, AdvancesBack, CallsEnd, GivesFromEnds, in_order, PullsBlocks, PullsBlocksBack, PullsEachBlock, IsAtFirstBlock, IsAtFirstBlocks, AdvancesByEach, IsWalkedOut, IsWalkedOutByEach, IsAtStart}}
+use Rattle.bit_set.specs.{Agreement.WalksAgree, Sets.{IsAscending, has, elements, put_all, merge_of_sets, AscendsFrom}}
+use Rattle.bit_set.specs.Walk.{Walk, TwoSetWalk, Advances, AdvancesBack, CallsEnd, GivesFromEnds, in_order, PullsBlocks, PullsBlocksBack, PullsEachBlock, IsAtFirstBlock, IsAtFirstBlocks}
+use Rattle.bit_set.specs.Walk.{AdvancesByEach, IsWalkedOut, IsWalkedOutByEach, IsAtStart}
 use Rattle.bit_set.{specs.Walk.{StartsOverTwo, WalksOverTwo, blocks_past}, proofs.{SetLemmas.{same_members, IsAscending-elements}, SetLaws.{has-put_all, IsAscending-put_all}}}
 use Rattle.bit_set.proofs.{AlgebraLemmas.IsAscending-merge_of_sets, SparseLemmas.whole_index}
 
@@ -31,7 +34,8 @@ module _ {S : Type 0} (left : S → List ℕ) (steps : S → Option ℕ → S �
   pub none_after : (s t : S) (r : Option ℕ) → left s ≡ [] → steps s r t → (r ≡ None) × (left t ≡ [])
   none_after s t r ended step = let item = first s t r step in grind arith
 
-  pub collected : (merge : Merge) (a b c : List Bool) (s : S) (items : List ℕ) → left s ≡ merge_of_sets merge (elements a) (elements b) → Drains steps s items → elements c ≡ put_all [] items → elements c ≡ merge_of_sets merge (elements a) (elements b)
+  pub collected : (merge : Merge) (a b c : List Bool) (s : S) (items : List ℕ) → left s ≡ merge_of_sets merge (elements a) (elements b)
+      → Drains steps s items → elements c ≡ put_all [] items → elements c ≡ merge_of_sets merge (elements a) (elements b)
   collected merge a b c s items over run puts =
       puts
       ∙ ap (put_all []) ((all_left s run.0 items run.1).0 ∙ over)
@@ -40,7 +44,8 @@ module _ {S : Type 0} (left : S → List ℕ) (steps : S → Option ℕ → S �
 -- each call goes along the blocks
 module _ {S : Type 0} (w : ℕ) (index blocks : S → ℕ) (steps : S → Option ℕ → S → Type 0) (each : (s t : S) (r : Option ℕ) → steps s r t → index t + w * blocks t ≡ index s + w * blocks s) where
   -- after an item the block in hand is the one that has it
-  in_hand_of : ((s t : S) (x : ℕ) → steps s (Some x) t → (index t ≤ x) × (x < index t + w)) → (past : ℕ) (s t : S) (items : List ℕ) (x : ℕ) → 0 < w → index s ≡ 0 → blocks s ≡ past → YieldsThen steps s items (Some x) t → blocks t ≡ past - x / w
+  in_hand_of : ((s t : S) (x : ℕ) → steps s (Some x) t → (index t ≤ x) × (x < index t + w)) → (past : ℕ) (s t : S) (items : List ℕ) (x : ℕ)
+      → 0 < w → index s ≡ 0 → blocks s ≡ past → YieldsThen steps s items (Some x) t → blocks t ≡ past - x / w
   in_hand_of has_item past s t items x pos start ahead run =
       let at = has_item run.0 t x run.2 in
       let along = kept steps (λ u. index u + w * blocks u ≡ index s + w * blocks s) (λ u v y step is. each u v (Some y) step ∙ is) s run.0 items run.1 refl in
@@ -59,7 +64,8 @@ module _ (w : ℕ) where
       let passed = kept (Advances w) (λ u. u.pulls + u.blocks ≤ s.pulls + s.blocks) (λ u v x step le. omega (arith, step.pulls.pulled, le)) s run.0 items run.1 (omega arith) in
       record { all = all.0; ended = all.1; pulled = let last = run.2.pulls.pulled in omega (arith, last, passed) }
 
-  pub walked_whole : (values : List Bool) (s t : Walk) (items : List ℕ) → IsAtStart w values s → YieldsThen (Advances w) s items None t → (items ≡ elements values) × (t.pulls ≤ max 1 (blocks_for w (length values)) + 1)
+  pub walked_whole : (values : List Bool) (s t : Walk) (items : List ℕ) → IsAtStart w values s
+      → YieldsThen (Advances w) s items None t → (items ≡ elements values) × (t.pulls ≤ max 1 (blocks_for w (length values)) + 1)
   unfolding IsAtFirstBlock
   walked_whole values s t items start run =
       let out = walked_out s t items run in
@@ -71,10 +77,12 @@ module _ (w : ℕ) where
   pub counted : (s : Walk) (items : List ℕ) → Drains (Advances w) s items → length items ≡ length s.left
   counted s items run = ap length (walked_out s run.0 items run.1).all
 
-  pub in_hand : 0 < w → (values : List Bool) (s t : Walk) (items : List ℕ) (x : ℕ) → IsAtStart w values s → YieldsThen (Advances w) s items (Some x) t → t.blocks ≡ blocks_for w (length values) - 1 - x / w
+  pub in_hand : 0 < w → (values : List Bool) (s t : Walk) (items : List ℕ) (x : ℕ) → IsAtStart w values s
+      → YieldsThen (Advances w) s items (Some x) t → t.blocks ≡ blocks_for w (length values) - 1 - x / w
   unfolding PullsBlocks IsAtFirstBlock
   in_hand pos values s t items x start run =
-      in_hand_of w (λ u. u.index) (λ u. u.blocks) (Advances w) (λ u v r step. step.pulls.along) (λ u v y step. step.pulls.at) (blocks_for w (length values) - 1) s t items x pos start.at.index start.at.blocks run
+      in_hand_of w (λ u. u.index) (λ u. u.blocks) (Advances w) (λ u v r step. step.pulls.along)
+      (λ u v y step. step.pulls.at) (blocks_for w (length values) - 1) s t items x pos start.at.index start.at.blocks run
 
   pub full_walk : (a : List Bool) (s t : Walk) (items : List ℕ) → IsAtStart w a s → YieldsThen (Advances w) s items None t → t.pulls ≤ blocks_for w (length a) + 2
   full_walk a s t items start run = let whole = (walked_whole a s t items start run).1 in omega arith
@@ -95,18 +103,21 @@ module _ {S : Type 0} (w : ℕ) (walk : S → TwoSetWalk) (next : S → Option �
     rest = out;
     whole = λ a b s t items left start run. let ended = out s t items run in (ended.all ∙ left, omega (arith, ended.pulled, start.at.pulls, start.at.blocks));
     in_hand = λ a b s t items x start run.
-        in_hand_of w (λ u. (walk u).index) (λ u. (walk u).blocks) next (λ u v r step. (each u v r step).pulls.along) (λ u v y step. (each u v (Some y) step).pulls.at) (max (blocks_for w (length a)) (blocks_for w (length b)) - 1) s t items x pos start.at.index start.at.blocks run;
+        in_hand_of w (λ u. (walk u).index) (λ u. (walk u).blocks) next (λ u v r step. (each u v r step).pulls.along)
+        (λ u v y step. (each u v (Some y) step).pulls.at) (max (blocks_for w (length a)) (blocks_for w (length b)) - 1) s t items x pos start.at.index start.at.blocks run;
     for_good = λ s t r. none_after (λ u. (walk u).left) next (λ u v q step. (each u v q step).item) s t r;
     count = λ s items run. ap length (out s run.0 items run.1).all;
   }
 
-  pub full_walk_by_each : (a b : List Bool) (s t : S) (items : List ℕ) → StartsOverTwo w a b (walk s) → YieldsThen next s items None t → (walk t).pulls ≤ max (blocks_for w (length a)) (blocks_for w (length b)) + 2
+  pub full_walk_by_each : (a b : List Bool) (s t : S) (items : List ℕ) → StartsOverTwo w a b (walk s)
+      → YieldsThen next s items None t → (walk t).pulls ≤ max (blocks_for w (length a)) (blocks_for w (length b)) + 2
   unfolding IsAtFirstBlocks
   full_walk_by_each a b s t items start run = let ended = out s t items run in omega (arith, ended.pulled, start.at.pulls, start.at.blocks)
 
 -- ---- walks over two block types
 
-module _ {S T : Type 0} (left : S → List ℕ) (next : S → Option ℕ → S → Type 0) (left_too : T → List ℕ) (next_too : T → Option ℕ → T → Type 0) (first : (s u : S) (r : Option ℕ) → next s r u → YieldsFirst left s r u) (first_too : (t v : T) (r : Option ℕ) → next_too t r v → YieldsFirst left_too t r v) where
+module _ {S T : Type 0} (left : S → List ℕ) (next : S → Option ℕ → S → Type 0) (left_too : T → List ℕ) (next_too : T → Option ℕ → T → Type 0)
+    (first : (s u : S) (r : Option ℕ) → next s r u → YieldsFirst left s r u) (first_too : (t v : T) (r : Option ℕ) → next_too t r v → YieldsFirst left_too t r v) where
   step_agrees : (s u : S) (t v : T) (r q : Option ℕ) → left s ≡ left_too t → next s r u → next_too t q v → (r ≡ q) × (left u ≡ left_too v)
   step_agrees s u t v r q same run other = let one = first s u r run in let two = first_too t v q other in grind arith
 
@@ -154,7 +165,8 @@ has-blocks_past w k low [] q pos up = sym (and-false (nat_lt k q))
 has-blocks_past w k low (x ∷ xs) q pos up =
     let next : x / w ≤ (x + 1) / w = le-div (x / w) (x + 1) w pos (omega (arith, div-add-mod' x w)) in
     at_cond (λ ys. has ys q) (nat_lt k (x / w)) (x / w ∷ blocks_past w (x / w) xs) (blocks_past w k xs)
-    ∙ past_step k q (x / w) _ _ _ (has-blocks_past w (x / w) (x + 1) xs q pos up.1) (has-blocks_past w k (x + 1) xs q pos up.1) (λ before. none_before w (x + 1) xs q pos up.1 (omega (arith, next, before)))
+    ∙ past_step k q (x / w) _ _ _ (has-blocks_past w (x / w) (x + 1) xs q pos up.1)
+    (has-blocks_past w k (x + 1) xs q pos up.1) (λ before. none_before w (x + 1) xs q pos up.1 (omega (arith, next, before)))
 
 -- they are as many as the blocks that a walk over the numbers goes on to
 length-blocks_past : (w k x : ℕ) (xs : List ℕ) → k ≤ x / w → length (blocks_past w k (x ∷ xs)) ≡ (if k == x / w then 0 else 1) + length (blocks_past w (x / w) xs)
@@ -180,7 +192,13 @@ pulled_at_most w s t (x ∷ xs) pos run =
     let mid = run.1.0 in
     let found = run.1.1.pulls.sparse in
     let block : mid.index / w ≡ x / w = ap (λ n. n / w) found.index ∙ whole_index w (x / w) pos in
-    rw run.1.1.item (omega (arith, rw block at (pulled_at_most w mid t xs pos (run.0, run.1.2, run.2)), found.pulls, at_most_one (s.index / w == x / w) s.nonzero_left, length-blocks_past w (s.index / w) x mid.left found.onward))
+    rw run.1.1.item (omega (
+      arith,
+      rw block at (pulled_at_most w mid t xs pos (run.0, run.1.2, run.2)),
+      found.pulls,
+      at_most_one (s.index / w == x / w) s.nonzero_left,
+      length-blocks_past w (s.index / w) x mid.left found.onward,
+    ))
 
 pub pulled_whole : (w : ℕ) (values : List Bool) (s t : Walk) (items : List ℕ) → IsAtStart w values s → YieldsThen (Advances w) s items None t → t.pulls ≡ length (blocks_past w 0 (elements values)) + 2
 unfolding IsAtFirstBlock
@@ -199,12 +217,14 @@ from_ends w s t ((false, x) ∷ calls) run none =
     let rest = from_ends w run.0 t calls run.2 none in
     (run.1.item ∙ ap (λ xs. xs ++ x ∷ []) rest.0, rest.1 ∙ run.1.pulls.pulled)
 
-pub both_ends : (w : ℕ) (s t u : Walk) (calls : List (Bool × ℕ)) (front : Bool) → GivesFromEnds w s calls t → CallsEnd w front t None u → (s.left ≡ in_order calls) × (u.left ≡ []) × (u.pulls ≡ s.pulls + s.nonzero_left + 1)
+pub both_ends : (w : ℕ) (s t u : Walk) (calls : List (Bool × ℕ)) (front : Bool) → GivesFromEnds w s calls t
+    → CallsEnd w front t None u → (s.left ≡ in_order calls) × (u.left ≡ []) × (u.pulls ≡ s.pulls + s.nonzero_left + 1)
 unfolding PullsBlocks PullsBlocksBack
 both_ends w s t u calls true run end = let all = from_ends w s t calls run end.item.0 in (all.0, end.item.1, omega (arith, all.1, end.pulls.sparse, end.pulls.nonzero))
 both_ends w s t u calls false run end = let all = from_ends w s t calls run end.item.0 in (all.0, end.item.1, omega (arith, all.1, end.pulls.pulled))
 
-pub both_ends_whole : (w : ℕ) (values : List Bool) (s t u : Walk) (calls : List (Bool × ℕ)) (front : Bool) → IsAtStart w values s → GivesFromEnds w s calls t → CallsEnd w front t None u → (in_order calls ≡ elements values) × (u.pulls ≡ length (blocks_past w 0 (elements values)) + 2)
+pub both_ends_whole : (w : ℕ) (values : List Bool) (s t u : Walk) (calls : List (Bool × ℕ)) (front : Bool) → IsAtStart w values s
+    → GivesFromEnds w s calls t → CallsEnd w front t None u → (in_order calls ≡ elements values) × (u.pulls ≡ length (blocks_past w 0 (elements values)) + 2)
 unfolding IsAtFirstBlock
 both_ends_whole w values s t u calls front start run end =
     let all = both_ends w s t u calls front run end in

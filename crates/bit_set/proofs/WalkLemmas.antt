@@ -1,11 +1,14 @@
 -- What a pull and a taken item do to a walk.
-use Rattle.std.proofs.Common.{◌≡◌, ℕ, ◌+◌, ◌-◌, ◌*◌, ◌^◌, ◌<◌, ◌≤◌, ◌/◌, Bool, List, [], ◌∷◌, ◌++◌, map, length, All, Option, Some, None, true, false, ◌⊎◌, inl, inr, refl, count_ones, sym, ap, ◌∙◌, subst, arith}
-use Rattle.std.{proofs.{Math.Nat.{mul-suc, mul-le-mul_left, mul-div-le}, lemmas.List.{length-map, Elements.{All-nil, All-head, All-tail, All-same, All-rest}}}, specs.{Prelude.IfSome, Option.{SomeIff, unwrap_or}}}
+use Rattle.std.proofs.Common.{◌≡◌, ℕ, ◌+◌, ◌-◌, ◌*◌, ◌^◌, ◌<◌, ◌≤◌, ◌/◌, Bool, List, [], ◌∷◌, ◌++◌, map, length, All, Option, Some, None, true, false, ◌⊎◌, inl, inr, refl, sym, ap, ◌∙◌}
+use Rattle.std.proofs.Common.{subst, arith}
+use Rattle.std.proofs.{Math.Nat.{mul-suc, mul-le-mul_left, mul-div-le}, lemmas.List.{length-map, Elements.{All-nil, All-head, All-tail, All-same, All-rest}}}
+use Rattle.std.specs.{Prelude.IfSome, Option.{SomeIff, unwrap_or}}
 use Rattle.std.specs.Iterator.{UpTo, at_most, YieldsFirst}
 use mir.Val.{bool_byte}
 use Rattle.bit_blocks.{specs.{Bits.{blocks_of, blocks_for}, Lowest.{IsLowest, IsCleared}}, proofs.BitsLemmas.length-blocks_of}
 use Rattle.bit_set.specs.{Sets.{elements_from, elements}, Walk.{GoesOn, TwoSetWalk}, Indexes.{digits_from, values_in, indexes, Ahead, PullsBlock, PullsBlockIf, IsWalkable, CanWalk, IsWalk}}
-use Rattle.bit_set.proofs.{SetLemmas.length-elements-le, IndexLemmas.{indexes-zero, indexes-next, indexes-lowest, length-digits_from, length-values_in, length-indexes-le, length-elements-block, elements-blocks_of}}
+use Rattle.bit_set.proofs.{SetLemmas.length-elements-le}
+use Rattle.bit_set.proofs.IndexLemmas.{indexes-zero, indexes-next, indexes-lowest, length-digits_from, length-values_in, length-indexes-le, elements-blocks_of}
 use Rattle.bit_set.proofs.IndexLemmas.{elements-below}
 
 -- a pull takes one block on
@@ -31,21 +34,28 @@ pub CanWalk-moved : (w index at m n : ℕ) (s t : Ahead) → CanWalk w index m s
 CanWalk-moved w index at m n s t can long along same = record {
   long = long;
   fits = omega (arith, can.fits, along);
-  below = subst (All (λ i. i < 2 ^ 64)) (sym same) can.below;
+  below = subst (All (λ i. i < 2 ^ 64 - 1)) (sym same) can.below;
   count_fits = subst (λ xs. length xs < 2 ^ 64) (sym same) can.count_fits;
 }
 
 pub CanWalk-pulled : {X : Type 0} (w index m : ℕ) (number : X → ℕ) (x : X) (s t : Ahead) → CanWalk w index m s → m ≡ 0 → PullsBlock w number s (Some x) t → CanWalk w (index + w) (number x) t
 CanWalk-pulled w index m number x s t can zero pull =
-    CanWalk-moved w index _ m _ s t can (long_pulled w number x s t can.long pull) (pulled_along index w t.blocks s.blocks pull.blocks) (sym (indexes-pulled w index m (number x) s.values t.values zero pull.values))
+    CanWalk-moved w index _ m _ s t can (long_pulled w number x s t can.long pull)
+    (pulled_along index w t.blocks s.blocks pull.blocks) (sym (indexes-pulled w index m (number x) s.values t.values zero pull.values))
 
 -- the lowest one is taken
-pub CanWalk-taken : (w index m r i : ℕ) (ahead : Ahead) → CanWalk w index m ahead → IsLowest m i → i < w → IsCleared w m i r → CanWalk w index r ahead × (index + i < 2 ^ 64)
+pub CanWalk-taken : (w index m r i : ℕ) (ahead : Ahead) → CanWalk w index m ahead → IsLowest m i → i < w → IsCleared w m i r → CanWalk w index r ahead × (index + i < 2 ^ 64 - 1)
 CanWalk-taken w index m r i ahead can low within cleared =
     let same = indexes-lowest w index m r i ahead.values low within cleared in
-    let below = subst (All (λ n. n < 2 ^ 64)) same can.below in (
-      record { long = can.long; fits = can.fits; below = All-tail (λ n. n < 2 ^ 64) (index + i) (indexes w index r ahead.values) below; count_fits = omega (arith, can.count_fits, ap length same) },
-      All-head (λ n. n < 2 ^ 64) (index + i) (indexes w index r ahead.values) below,
+    let below = subst (All (λ n. n < 2 ^ 64 - 1)) same can.below in (
+      record {
+        long = can.long;
+        fits = can.fits;
+        below = All-tail (λ n. n < 2 ^ 64 - 1) (index + i)
+            (indexes w index r ahead.values) below;
+        count_fits = omega (arith, can.count_fits, ap length same);
+      },
+      All-head (λ n. n < 2 ^ 64 - 1) (index + i) (indexes w index r ahead.values) below,
     )
 
 -- no more items than digits
@@ -77,11 +87,15 @@ went_on is_block w index at number old new x wanted s t walk lawful zero pull wh
     stayed : GoesOn w (seen_of_two w index (number old) s) (seen_of_two w index (number old) s)
     stayed = record { left = refl; goes_on = omega arith; pulled = refl; along = refl }
 
-    by_which : ((wanted ≡ true) × (new ≡ x)) ⊎ ((wanted ≡ false) × (new ≡ old)) → IsWalk (is_block new) w at (number new) t × GoesOn w (seen_of_two w index (number old) s) (seen_of_two w at (number new) t)
+    by_which : ((wanted ≡ true) × (new ≡ x)) ⊎ ((wanted ≡ false) × (new ≡ old)) → IsWalk (is_block new) w at (number new) t
+        × GoesOn w (seen_of_two w index (number old) s) (seen_of_two w at (number new) t)
     by_which (inl used) =
         let next_index : at ≡ index + w = there ∙ ap (λ b. index + bool_byte b * w) used.0 ∙ omega arith in
         let one = pull.pulled used.0 in
-        rw (used.1, next_index) (record { in_hand = lawful; can = CanWalk-pulled w index (number old) number x s t walk.can (zero used.0) one }, GoesOn-pulled w index (number old) number x _ s t stayed (zero used.0) one)
+        rw (used.1, next_index) (
+          record { in_hand = lawful; can = CanWalk-pulled w index (number old) number x s t walk.can (zero used.0) one },
+          GoesOn-pulled w index (number old) number x _ s t stayed (zero used.0) one,
+        )
     by_which (inr kept) =
         let same_index : at ≡ index = there ∙ ap (λ b. index + bool_byte b * w) kept.0 ∙ omega arith in
         rw (kept.1, same_index, pull.same kept.0) (walk, stayed)
@@ -94,14 +108,15 @@ pub record IsBegun (is_block : Type 0) (w m : ℕ) (s t : Ahead) : Type 0 where
   pub all : indexes w 0 m t.values ≡ elements s.values
   pub past : t.blocks ≡ s.blocks - 1
 
-begun_by : (is_block : Type 0) (w m : ℕ) (s t : Ahead) → is_block → IsWalkable w s → indexes w 0 m t.values ≡ elements s.values → t.blocks ≡ s.blocks - 1 → length t.values ≡ t.blocks * w → IsBegun is_block w m s t
+begun_by : (is_block : Type 0) (w m : ℕ) (s t : Ahead) → is_block → IsWalkable w s → indexes w 0 m t.values ≡ elements s.values
+    → t.blocks ≡ s.blocks - 1 → length t.values ≡ t.blocks * w → IsBegun is_block w m s t
 begun_by is_block w m s t lawful can all past long = record {
   walk = record {
     in_hand = lawful;
     can = record {
       long = long;
       fits = omega (arith, ap (λ k. w * k) past, can.fits);
-      below = subst (All (λ n. n < 2 ^ 64)) (sym all) can.below;
+      below = subst (All (λ n. n < 2 ^ 64 - 1)) (sym all) can.below;
       count_fits = subst (λ xs. length xs < 2 ^ 64) (sym all) can.count_fits;
     };
   };
@@ -109,21 +124,24 @@ begun_by is_block w m s t lawful can all past long = record {
   past = past;
 }
 
-pub begun : {X : Type 0} (is_block : X → Type 0) (w : ℕ) (number : X → ℕ) (zero : X) (s t : Ahead) (r : Option X) → IsWalkable w s → PullsBlock w number s r t → IfSome r is_block → is_block zero → number zero ≡ 0
+pub begun : {X : Type 0} (is_block : X → Type 0) (w : ℕ) (number : X → ℕ) (zero : X) (s t : Ahead) (r : Option X)
+    → IsWalkable w s → PullsBlock w number s r t → IfSome r is_block → is_block zero → number zero ≡ 0
     → IsBegun (is_block (unwrap_or r zero)) w (number (unwrap_or r zero)) s t
 begun is_block w number zero s t None can pull given lawful none =
-    begun_by _ w _ s t lawful can (indexes-ended w 0 _ _ none pull.values.1 ∙ sym (ap (elements_from 0) pull.values.0)) (omega (arith, pull.blocks)) (omega (arith, ap length pull.values.1, ap (λ k. k * w) pull.blocks.1))
+    begun_by _ w _ s t lawful can (indexes-ended w 0 _ _ none pull.values.1 ∙ sym (ap (elements_from 0) pull.values.0))
+    (omega (arith, pull.blocks)) (omega (arith, ap length pull.values.1, ap (λ k. k * w) pull.blocks.1))
 begun is_block w number zero s t (Some x) can pull given lawful none =
     begun_by (is_block x) w (number x) s t given can (sym (indexes-next w 0 (number x) s.values t.values pull.values)) (omega (arith, pull.blocks)) (long_pulled w number x s t can.long pull)
 
 -- a walk can go over what reads as a list of truth values, in as many blocks
-pub IsWalkable-of : (w : ℕ) (ahead : Ahead) (values : List Bool) → length ahead.values ≡ ahead.blocks * w → ahead.blocks ≡ blocks_for w (length values) → elements ahead.values ≡ elements values → length values < 2 ^ 64 → IsWalkable w ahead
+pub IsWalkable-of : (w : ℕ) (ahead : Ahead) (values : List Bool) → length ahead.values ≡ ahead.blocks * w
+    → ahead.blocks ≡ blocks_for w (length values) → elements ahead.values ≡ elements values → length values < 2 ^ 64 → IsWalkable w ahead
 IsWalkable-of w ahead values long blocks same fits = record {
   long = long;
   fits =
       let past : ahead.blocks - 1 ≤ length values / w = omega (arith, blocks) in
       omega (arith, mul-le-mul_left w past, mul-div-le (length values) w);
-  below = subst (All (λ n. n < 2 ^ 64)) (sym same) (elements-below (2 ^ 64) values (omega arith));
+  below = subst (All (λ n. n < 2 ^ 64 - 1)) (sym same) (elements-below (2 ^ 64 - 1) values (omega arith));
   count_fits = let most = length-elements-le 0 values in let many = ap length same in omega (arith, most, many);
 }
 
@@ -143,13 +161,9 @@ module _ {X : Type 0} (w : ℕ) (number : X → ℕ) where
   pub elements-values_of_blocks : (xs : List X) (values : List Bool) → 0 < w → map number xs ≡ blocks_of w values → elements (values_of_blocks xs) ≡ elements values
   elements-values_of_blocks xs values pos is = ap (λ ms. elements (values_in w ms)) is ∙ elements-blocks_of w values pos
 
-  pub IsWalkable-values_of_blocks : (xs : List X) (values : List Bool) (pulls : ℕ) → 0 < w → map number xs ≡ blocks_of w values → length values < 2 ^ 64 → IsWalkable w (record { values = values_of_blocks xs; blocks = length xs; pulls = pulls })
+  pub IsWalkable-values_of_blocks : (xs : List X) (values : List Bool) (pulls : ℕ) → 0 < w → map number xs ≡ blocks_of w values
+      → length values < 2 ^ 64 → IsWalkable w (record { values = values_of_blocks xs; blocks = length xs; pulls = pulls })
   IsWalkable-values_of_blocks xs values pulls pos is fits = IsWalkable-of w _ values (length-values_of_blocks xs) (length-blocks xs values is) (elements-values_of_blocks xs values pos is) fits
-
--- one block more is counted
-pub count_more : (w m : ℕ) (bs cs : List Bool) (ones more total : ℕ) → bs ≡ digits_from m 0 w ++ cs → ones + length (elements bs) ≡ total → m < 2 ^ w → more ≡ count_ones m → ones + more + length (elements cs) ≡ total
-count_more w m bs cs ones more total is before small same =
-    omega (arith, ap (λ ds. length (elements ds)) is ∙ length-elements-block w m cs small, before, same)
 
 -- a pull of lawful blocks gives one, and leaves such
 pub All-pulled : {X : Type 0} (P : X → Type 0) (xs ys : List X) (r : Option X) → All P xs → YieldsFirst (λ zs. zs) xs r ys → IfSome r P × All P ys

@@ -1,7 +1,8 @@
 -- What calls make of the elements of a set, and what they return. No block, length or capacity occurs in it.
 use Rattle.std.specs.List.{items_where_true}
 use Rattle.std.specs.Prelude.{◌≡◌, ℕ, ◌-◌, ◌==◌, max, not, if◌then◌else◌, Bool, List, [], ◌∷◌, ◌++◌, Option, Result, Ok, Err, drop, length, nat_le, slice_get, take}
-use Rattle.bit_set.specs.{declared.faults.SetError.{SetError, TheVariants.{Element, Length, Memory}}, Moved.{lowered, raised}, Sets.{bound_of, difference, elements, has, intersection, put, put_all, symmetric_difference, those_below, those_from, union, without}, Ranges.span}
+use Rattle.bit_set.specs.{declared.faults.SetError.{SetError, TheVariants.{Element, Length, Memory}}, Moved.{lowered, raised}}
+use Rattle.bit_set.specs.{Sets.{bound_of, difference, elements, has, intersection, put, put_all, symmetric_difference, those_below, those_from, union, without}, Ranges.span}
 use Rattle.bit_set.specs.{Order.same_sets, Sets.merge_of_sets}
 use Rattle.bit_blocks.specs.declared.block.merge.Merge.{Merge}
 use Rattle.bit_words.specs.Bounds.{greatest}
@@ -25,6 +26,7 @@ pub data Change : Type 0 where
   DifferenceWith : (other : List ℕ) → Change
   SymmetricDifferenceWith : (other : List ℕ) → Change
   MergeChanges : (merge : Merge) (other : List ℕ) → Change
+  CopyDifference : (other : List ℕ) (except : List ℕ) → Change
   Append : (other : List ℕ) → Change
   SplitOff : (at : ℕ) → Change
   ReserveLen : (len : ℕ) → Change
@@ -65,6 +67,7 @@ elements_after (IntersectWith other) s = intersection s other
 elements_after (DifferenceWith other) s = difference s other
 elements_after (SymmetricDifferenceWith other) s = symmetric_difference s other
 elements_after (MergeChanges merge other) s = merge_of_sets merge s other
+elements_after (CopyDifference other except) s = difference other except
 elements_after (Append other) s = union s other
 elements_after (SplitOff at) s = those_below s at
 elements_after (ReserveLen len) s = s
@@ -77,7 +80,7 @@ elements_after (ShiftUp distance) s = if nat_le (bound_of (raised s distance)) g
 elements_after (ShiftDown distance) s = lowered s distance
 
 -- how it returns: `insert` whether the number is new, `remove` whether it was in, `toggle` whether it is in now, `set`
--- and a merge that tells so whether the set changed, `pop_first` the first element and `pop_last` the last
+-- and a merge that tells so, and a copied difference, whether the set changed, `pop_first` the first element and `pop_last` the last
 abbrev pub outcome_of : Change → List ℕ → Outcome
 outcome_of (Insert value) s = if value == greatest then NoElement else Returned (not (has s value))
 outcome_of (Remove value) s = Returned (has s value)
@@ -85,6 +88,7 @@ outcome_of (Toggle value) s = if value == greatest then NoElement else Returned 
 outcome_of (Set value bit) s =
     if bit then (if value == greatest then NoElement else Returned (not (has s value))) else Returned (has s value)
 outcome_of (MergeChanges merge other) s = Returned (not (same_sets s (merge_of_sets merge s other)))
+outcome_of (CopyDifference other except) s = Returned (not (same_sets s (difference other except)))
 outcome_of PopFirst s = Gave (slice_get s 0)
 outcome_of PopLast s = Gave (slice_get s (length s - 1))
 outcome_of (ShiftUp distance) s = if nat_le (bound_of (raised s distance)) greatest then Done else NoElement

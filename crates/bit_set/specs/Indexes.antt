@@ -1,6 +1,7 @@
 -- Where the ones of blocks are. No public clause cites this.
-use Rattle.std.specs.{Prelude.{◌≡◌, ℕ, ◌+◌, ◌-◌, ◌*◌, ◌/◌, ◌^◌, ◌<◌, ◌≤◌, Bool, true, false, List, [], ◌∷◌, ◌++◌, map, length, drop, All, Option, Some, None, MatchOption, IsSomeAnd}, List.{range_with_len, flat_map}}
-use Rattle.bit_blocks.specs.{Digits.is_one, Merges.{merge_of_values, merge_of}, declared.block.merge.Merge.Merge}
+use Rattle.std.specs.Prelude.{◌≡◌, ℕ, ◌+◌, ◌-◌, ◌*◌, ◌/◌, ◌^◌, ◌<◌, ◌≤◌, Bool, true, false, List, [], ◌∷◌, ◌++◌, map, length, drop, All, Option, Some, None, MatchOption, IsSomeAnd}
+use Rattle.std.specs.List.{range_with_len, flat_map}
+use Rattle.bit_blocks.specs.{Digits.is_one, Merges.{merge_of_values}, declared.block.merge.Merge.Merge}
 use Rattle.bit_words.specs.Nonzero.{Hand, Nonzeros}
 use Rattle.bit_set.specs.{Sets.{AscendsFrom, IsAscending, elements_from, elements}, Walk.Walk}
 
@@ -50,21 +51,12 @@ IsMergedPull w number merge None (Some b) r = IsSomeAnd r (λ x. IsMergedBlock w
 IsMergedPull w number merge (Some a) (Some b) r =
     IsSomeAnd r (λ x. IsMergedBlock w merge (number a) (number b) (number x))
 
--- how many ones two slices of blocks become
-abbrev pub ones_of_merged : {X : Type 0} → ℕ → (X → ℕ) → Merge → List X → List X → ℕ
-ones_of_merged w number merge xs ys =
-    length (elements (merge_of merge (values_in w (map number xs)) (values_in w (map number ys))))
-
--- how many they become from one block on
-abbrev pub ones_from : {X : Type 0} → ℕ → (X → ℕ) → Merge → List X → List X → ℕ → ℕ
-ones_from w number merge xs ys i = ones_of_merged w number merge (drop i xs) (drop i ys)
-
 -- A walk can go over the ones of all that is ahead, the first digit having index 0.
 pub record IsWalkable (w : ℕ) (ahead : Ahead) : Type 0 where
   pub long : length ahead.values ≡ ahead.blocks * w
   -- each index of a block past the first can be counted
   pub fits : w * (ahead.blocks - 1) < 2 ^ 64
-  pub below : All (λ n. n < 2 ^ 64) (elements ahead.values)
+  pub below : All (λ n. n < 2 ^ 64 - 1) (elements ahead.values)
   pub count_fits : length (elements ahead.values) < 2 ^ 64
 
 -- A walk can go over the ones of a block m and of what is ahead, m having index `index` for its first digit.
@@ -72,7 +64,7 @@ pub record CanWalk (w index m : ℕ) (ahead : Ahead) : Type 0 where
   pub long : length ahead.values ≡ ahead.blocks * w
   -- each index of a block past the one in hand can be counted
   pub fits : index + w * ahead.blocks < 2 ^ 64
-  pub below : All (λ n. n < 2 ^ 64) (indexes w index m ahead.values)
+  pub below : All (λ n. n < 2 ^ 64 - 1) (indexes w index m ahead.values)
   pub count_fits : length (indexes w index m ahead.values) < 2 ^ 64
 
 -- The fields of a walk: the block in hand is a block value, and the walk can go on.
@@ -116,7 +108,7 @@ pub record IsSparseWalk {X : Type 0} (w : ℕ) (number : X → ℕ) (is_block : 
   pub inside : back.index / w ≤ length it.blocks - 1
   pub fits : (length it.blocks - 1) * w < 2 ^ 64
   pub ascends : IsAscending (left_between w number front it.left back)
-  pub below : All (λ n. n < 2 ^ 64) (left_between w number front it.left back)
+  pub below : All (λ n. n < 2 ^ 64 - 1) (left_between w number front it.left back)
   pub count_fits : length (left_between w number front it.left back) < 2 ^ 64
 
 -- A walk s passed the first n elements that are left, and pulled the blocks that it went over: t.

@@ -56,6 +56,10 @@ IsUnion s t r = (n : ℕ) → has r n ≡ (has s n || has t n)
 abbrev pub IsUnionWithDifference : List ℕ → List ℕ → List ℕ → List ℕ → Type 0
 IsUnionWithDifference s t u r = (n : ℕ) → has r n ≡ (has s n || (has t n && not (has u n)))
 
+-- r has what is in s, and what is in both t and u
+abbrev pub IsUnionWithIntersection : List ℕ → List ℕ → List ℕ → List ℕ → Type 0
+IsUnionWithIntersection s t u r = (n : ℕ) → has r n ≡ (has s n || (has t n && has u n))
+
 -- r has what is in both
 abbrev pub IsIntersection : List ℕ → List ℕ → List ℕ → Type 0
 IsIntersection s t r = (n : ℕ) → has r n ≡ (has s n && has t n)

@@ -1,5 +1,6 @@
 -- How a text is read as ranges, as Linux reads lists of processors.
-use Rattle.std.specs.{Prelude.{◌≡◌, ℕ, ◌+◌, ◌<◌, max, ◌==◌, ◌&&◌, nat_le, nat_lt, if◌then◌else◌, List, [], ◌∷◌, map, length, Option, Some, None, Result, Ok, Err}, List.slice_split, Borrow.Bor, Option.{option_map, option_map_or}, Str.all_ascii_digits, Str.Parse.digits_value}
+use Rattle.std.specs.{Prelude.{◌≡◌, ℕ, ◌+◌, ◌<◌, max, ◌==◌, ◌&&◌, nat_le, nat_lt, if◌then◌else◌, List, [], ◌∷◌, map, length, Option, Some, None, Result, Ok, Err}, List.slice_split, Borrow.Bor}
+use Rattle.std.specs.{Option.{option_map, option_map_or}, Str.all_ascii_digits, Str.Parse.digits_value}
 use Rattle.std.specs.declared.ops.Range.{Range}
 use Rattle.bit_words.specs.Bounds.{greatest}
 use Rattle.bit_set.specs.declared.range_texts.RangesError.{RangesError, TheVariants.{Memory, Number, Text}}

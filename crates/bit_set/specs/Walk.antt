@@ -1,6 +1,9 @@
 -- Walks over the elements of a set, block by block.
-use Rattle.std.specs.{Prelude.{◌≡◌, ℕ, ◌+◌, ◌-◌, ◌*◌, ◌/◌, ◌^◌, ◌<◌, ◌≤◌, ◌==◌, max, min, Bool, true, false, nat_lt, if◌then◌else◌, List, [], ◌∷◌, ◌++◌, drop, length, slice_get, ⊤, Option, Some, None, MatchOption}, Iterator.{YieldsFirst, YieldsLast, YieldsThen}}
+use Rattle.std.specs.Prelude.{◌≡◌, ℕ, ◌+◌, ◌-◌, ◌*◌, ◌/◌, ◌^◌, ◌<◌, ◌≤◌, ◌==◌, max, min, Bool, true, false, nat_lt, if◌then◌else◌, List, [], ◌∷◌, ◌++◌, drop, length, slice_get, ⊤, Option, Some, None}
+use Rattle.std.specs.Prelude.{MatchOption}
+use Rattle.std.specs.Iterator.{YieldsFirst, YieldsLast, YieldsThen}
 use Rattle.std.specs.Iterator.{Drains}
+use Rattle.bit_words.specs.Bounds.{greatest}
 use Rattle.bit_blocks.specs.{Bits.blocks_for, declared.block.merge.Merge.Merge}
 use Rattle.bit_set.specs.{Choices.IsSelected, Members.{TakesGreatest, TakesLeast}, Ranges.those_in_range, Sets.{elements, merge_of_sets, those_from}}
 
@@ -46,6 +49,7 @@ PullsBlocks w s r t = Pulls w s r t
 pub record Advances (w : ℕ) (s : Walk) (r : Option ℕ) (t : Walk) : Type 0 where
   pub item : YieldsFirst (λ walk. walk.left) s r t
   pub first : MatchOption r ⊤ (λ x. TakesLeast s.left x t.left)
+  pub fits : MatchOption r ⊤ (λ x. x < greatest)
   pub pulls : PullsBlocks w s r t
 
 -- How a call of `next_back` that gave r went from s to t along blocks of w. It pulled the last block that is not 0 once
@@ -70,6 +74,7 @@ PullsBlocksBack w s r t = PullsBack w s r t
 pub record AdvancesBack (w : ℕ) (s : Walk) (r : Option ℕ) (t : Walk) : Type 0 where
   pub item : YieldsLast (λ walk. walk.left) s r t
   pub last : MatchOption r ⊤ (λ x. TakesGreatest s.left x t.left)
+  pub fits : MatchOption r ⊤ (λ x. x < greatest)
   pub pulls : PullsBlocksBack w s r t
 
 -- How calls of `next`, the last of which gave r, went from s to t along blocks of w: as one call of it where nothing was left,
@@ -140,6 +145,7 @@ PullsEachBlock w s r t = PullsEach w s r t
 pub record AdvancesByEach (w : ℕ) (s : TwoSetWalk) (r : Option ℕ) (t : TwoSetWalk) : Type 0 where
   pub item : YieldsFirst (λ walk. walk.left) s r t
   pub first : MatchOption r ⊤ (λ x. TakesLeast s.left x t.left)
+  pub fits : MatchOption r ⊤ (λ x. x < greatest)
   pub pulls : PullsEachBlock w s r t
 
 -- A walk went on to the next block or stayed, and what is left stayed.

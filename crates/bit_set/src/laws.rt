@@ -1,13 +1,17 @@
 //! Laws of sets of numbers, as the contracts of functions that do nothing; one of them is in a body too,
 //! which proves it and does nothing else. A set is the list of its members in strictly ascending order.
-ghost use Rattle.std.specs.Prelude.{◌≡◌, ◌≢◌, ℕ, ◌+◌, ◌-◌, ◌*◌, ◌/◌, ◌<◌, ◌≤◌, ◌↔◌, ◌++◌, ◌∷◌, ◌==◌, ◌&&◌, ◌||◌, max, min, not, nat_lt, nat_le, if◌then◌else◌, Bool, true, All, IsTrue, Some, None, Option, List, [], length, map, slice_get, MatchOption, filter, false, ◌⊎◌};
+ghost use Rattle.std.specs.Prelude.{◌≡◌, ◌≢◌, ℕ, ◌+◌, ◌-◌, ◌*◌, ◌/◌, ◌<◌, ◌≤◌, ◌↔◌, ◌++◌, ◌∷◌, ◌==◌, ◌&&◌, ◌||◌, max, min, not, nat_lt, nat_le, if◌then◌else◌, Bool, true, All, IsTrue, Some, None};
+ghost use Rattle.std.specs.Prelude.{Option, List, [], length, map, slice_get, MatchOption, filter, false, ◌⊎◌};
 ghost use Rattle.std.specs.{Cmp.{IsEquivalence, IsTotalOrder}, Ordering.nat_cmp, Iterator.{YieldsThen, Drains}, List.{find, last_or, list_all, list_any, position_or_len, reduce}};
 ghost use Rattle.std.specs.FinSet as set;
 ghost use Rattle.bit_blocks.specs.{Bits.{blocks_for, blocks_of, true_end}, Merges.{merge_of_values, merge_of}, declared.block.merge.Merge.Merge};
 ghost use Rattle.serde_json.specs.Data.{Data};
-ghost use Rattle.bit_set.specs.Sets.{IsAscending, has, put, put_all, without, those_below, those_from, those_new, elements, bound_of, union, intersection, difference, symmetric_difference, merge_of_sets, is_subset, is_disjoint};
-ghost use Rattle.bit_set.specs.{Agreement.WalksAgree, Changes.{Change, Changes, Event, Happens, outcomes, set_after, Outcome.{Done, NoMemory}}, Effects.TakesIn, Choices.{IsGreatest, IsLeast, IsLeastPassing}};
-ghost use Rattle.bit_set.specs.{Members.{HasNone, IsSameSet, TakesLeast}, Ranges.{span, span_end, those_in_range}, Capacity.Run, Json.{IsFirstFault, Spells}, declared.json.JsonError.JsonError, Walk.{Walk, TwoSetWalk, BoundedWalk, IsWalkedOut, IsAtStart}};
+ghost use Rattle.bit_set.specs.Sets.{IsAscending, has, put, put_all, without, those_below, those_from, those_new, elements, bound_of, union, intersection, difference, symmetric_difference};
+ghost use Rattle.bit_set.specs.Sets.{merge_of_sets, is_subset, is_disjoint};
+ghost use Rattle.bit_set.specs.{Agreement.WalksAgree, Changes.{Change, Changes, Event, Happens, outcomes, set_after, Outcome.{Done, NoMemory}}, Effects.TakesIn};
+ghost use Rattle.bit_set.specs.Choices.{IsGreatest, IsLeast, IsLeastPassing};
+ghost use Rattle.bit_set.specs.{Members.{HasNone, IsSameSet, TakesLeast}, Ranges.{span, span_end, those_in_range}, Capacity.Run, Json.{IsFirstFault, Spells}, declared.json.JsonError.JsonError};
+ghost use Rattle.bit_set.specs.Walk.{Walk, TwoSetWalk, BoundedWalk, IsWalkedOut, IsAtStart};
 ghost use Rattle.bit_set.specs.{Walk.{IsAtStartFrom, CallsEnd, GivesFromEnds, in_order, StartsOverTwo, WalksOverTwo, blocks_past}, Order.{same_sets, order_of_sets, fed_of_set}};
 
 use crate::bit_vec::Merge;
@@ -16,10 +20,12 @@ use std::cmp::Ordering;
 use std::fmt::Display;
 use std::hash::Hash;
 
+mod changes;
 mod range_texts;
 mod ranges;
 mod runs;
 
+pub use changes::merges_that_keep_sets;
 pub use range_texts::texts_of_ranges;
 pub use ranges::{
     ends_of_searches, parts_of_ranges, ranks_of_members, walks_over_missing, walks_over_parts,

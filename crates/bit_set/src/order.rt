@@ -1,19 +1,19 @@
 //! Equality and order of sets: those of the lists of their elements in ascending order, found block
 //! by block.
-ghost use Rattle.std.specs.{Prelude.{◌≡◌, ℕ, ◌≤◌, ◌↔◌, IsTrue, MatchOption, Some, get_or, true, false}, Cmp.{on_equiv, on_per, on_po, on_total, partial_equiv_from_equiv, Lexicographic.nat_list_cmp_total}};
+ghost use Rattle.std.specs.Prelude.{◌≡◌, ℕ, ◌≤◌, ◌↔◌, IsTrue, MatchOption, Some, get_or, true, false};
+ghost use Rattle.std.specs.Cmp.{on_equiv, on_per, on_po, on_total, partial_equiv_from_equiv, Lexicographic.nat_list_cmp_total};
 ghost use Rattle.std.{specs.{Cmp.Lexicographic.{nat_list_eq_equiv, texts_po, texts_ties}, Ordering.MatchOrdering}, proofs.Common.refl};
 ghost use Rattle.bit_blocks.specs.{Bits.blocks_of, Mismatches.IsFirstBlockMismatch};
 ghost use Rattle.bit_set.specs.{Members.IsSameSet, Sets.{elements, has}, Order.{same_sets, order_of_sets}};
 
 use crate::bit_vec::{
-    GROUP, block_or_zero, first_mismatching_block, first_nonzero_block, has_one_from,
-    lowest_mismatch, mismatch_between, same_blocks,
+    GROUP, block_or_zero, first_nonzero_block, has_one_from, lowest_mismatch, mismatch_between,
 };
 use crate::{BitBlock, BitSet};
 use std::cmp::Ordering;
 
 /// Sets are equal where they have the same elements, whatever their lengths and capacities. Compares the blocks
-/// up to the first that differs.
+/// up to the first that differs; of long sets what says which of them are not zero first, and then these alone.
 impl<B: BitBlock> PartialEq for BitSet<B> {
     ghost eq = { λ s t. same_sets (elements s.values) (elements t.values) };
 
@@ -24,7 +24,7 @@ impl<B: BitBlock> PartialEq for BitSet<B> {
         ensures lists { result ≡ same_sets (elements self.now.values) (elements other.now.values) }
         ensures members { IsTrue result ↔ IsSameSet (elements self.now.values) (elements other.now.values) }
     {
-        same_blocks(self.get_ref().storage(), other.get_ref().storage())
+        self.get_ref().has_same_blocks(other.get_ref())
     }
 }
 
@@ -44,7 +44,8 @@ impl<B: BitBlock> PartialOrd for BitSet<B> {
 }
 
 /// The order of the lists of elements, from the first that differs. It is not the order of subsets.
-/// Compares the blocks up to the first that differs, and looks for one element past it.
+/// Compares the blocks up to the first that differs, of long sets those alone that are not zero, and looks for one element past
+/// it.
 ///
 /// ```
 /// // {0, 1} comes before {1}: 0 is the first number that just one of them has.
@@ -78,7 +79,7 @@ impl<B: BitBlock> Ord for BitSet<B> {
 fn order_by_groups<B: BitBlock>(a: &BitSet<B>, b: &BitSet<B>) -> Ordering
     ensures { result ≡ order_of_sets (elements a.now.values) (elements b.now.values) }
 {
-    let first = first_mismatching_block(a.get_ref().storage(), b.get_ref().storage());
+    let first = a.get_ref().first_mismatching_block(b.get_ref());
     order_by(a, b, first)
 }
 

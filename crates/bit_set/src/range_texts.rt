@@ -1,5 +1,5 @@
 //! A set read from the text of its runs.
-ghost use Rattle.std.specs.{Prelude.{◌≡◌, ◌≢◌, ◌<◌, ◌≤◌, ◌∷◌, ◌++◌, ℕ, List, [], Err, Ok, IfErr, IfNone, IfOk, IfSome, MatchOption, Option, length}, List.All};
+ghost use Rattle.std.specs.{Prelude.{◌≡◌, ◌≢◌, ◌<◌, ◌≤◌, ◌∷◌, ◌++◌, ℕ, List, [], Err, Ok, IfErr, IfNone, IfOk, IfSome, MatchOption, length}, List.All};
 ghost use Rattle.std.specs.declared.ops.Range.{Range};
 ghost use Rattle.bit_blocks.specs.Bits.{blocks_for, capacity_of};
 ghost use Rattle.bit_set.specs.{Members.HasNone, RangeReading.{IsRangesFault, end_of, items_of, number_of, range_between, range_of, ranges_in, without_space}, Runs.in_ranges, Sets.{elements, has}};

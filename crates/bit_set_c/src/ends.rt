@@ -1,5 +1,5 @@
 // Calls that take the least or the greatest member out.
-ghost use Rattle.std.specs.{Prelude.{◌≡◌, ◌+◌, MatchOption, None, if◌then◌else◌, is_some, length}, Iterator.{YieldsFirst, YieldsLast}};
+ghost use Rattle.std.specs.{Prelude.{◌≡◌, ◌+◌, MatchOption, if◌then◌else◌, is_some, length}, Iterator.{YieldsFirst, YieldsLast}};
 ghost use Rattle.bit_set.specs.{Members.{HasNone, TakesGreatest, TakesLeast}, Sets.elements};
 ghost use Rattle.bit_set_c.specs.{Answers.found, Handed.IsAt};
 
@@ -17,7 +17,6 @@ pub extern "C" fn bit_set_pop_first(set: &mut Exclusive) -> usize
     ensures count { length (elements set.new.bits.values) + (if is_some (found result) then 1 else 0)
         ≡ length (elements set.old.bits.values) }
     ensures length { length set.new.bits.values ≡ length set.old.bits.values }
-    ensures unchanged { found result ≡ None → set.new.bits ≡ set.old.bits }
     ensures capacity { set.new.bits.capacity ≡ set.old.bits.capacity }
     ensures place { set.new.at ≡ set.old.at }
 {
@@ -37,7 +36,6 @@ pub extern "C" fn bit_set_pop_last(set: &mut Exclusive) -> usize
     ensures count { length (elements set.new.bits.values) + (if is_some (found result) then 1 else 0)
         ≡ length (elements set.old.bits.values) }
     ensures length { length set.new.bits.values ≡ length set.old.bits.values }
-    ensures unchanged { found result ≡ None → set.new.bits ≡ set.old.bits }
     ensures capacity { set.new.bits.capacity ≡ set.old.bits.capacity }
     ensures place { set.new.at ≡ set.old.at }
 {

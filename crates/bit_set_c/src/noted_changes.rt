@@ -1,9 +1,9 @@
 // Calls that make a set, in place, what it and others become, and say whether that changed it: 1 where it did, 0 where not,
 // -1 where there is no memory. The set that is changed must be none of the others.
-ghost use Rattle.std.specs.Prelude.{◌≡◌, ◌+◌, ◌≤◌, ◌↔◌, max, not, if◌then◌else◌, IfOk, OnOk, [], length, false};
+ghost use Rattle.std.specs.Prelude.{◌≡◌, ◌+◌, ◌≤◌, max, not, if◌then◌else◌, IfOk, OnOk, length, false};
 ghost use Rattle.bit_words.specs.Growth.{Grows};
 ghost use Rattle.bit_set.specs.Members.{IsDifference, IsIntersection, IsSymmetricDifference, IsUnion, IsUnionWithDifference};
-ghost use Rattle.bit_set.specs.{Order.same_sets, Sets.{elements, union, intersection, difference, symmetric_difference, is_subset, is_disjoint}};
+ghost use Rattle.bit_set.specs.{Order.same_sets, Sets.{elements, union, intersection, difference, symmetric_difference, is_subset}};
 ghost use Rattle.bit_set_c.specs.{Answers.{changed, spelled}, Handed.IsAt};
 
 use crate::handed::{Exclusive, Shared};
@@ -61,8 +61,6 @@ pub extern "C" fn bit_set_intersection_changes(set: &mut Exclusive, other: &mut 
         ≡ not (same_sets (elements set.old.bits.values) (elements set.new.bits.values))) }
     ensures unchanged { IfOk (changed result) (λ changed. changed ≡ false
         → elements set.new.bits.values ≡ elements set.old.bits.values) }
-    ensures were_in { IfOk (changed result) (λ changed. changed
-        ≡ not (is_subset (elements set.old.bits.values) (elements other.old.bits.values))) }
     ensures count { IfOk (changed result) (λ changed. length (elements set.new.bits.values)
         + (if changed then 1 else 0) ≤ length (elements set.old.bits.values)) }
     ensures length { OnOk (changed result) (length set.new.bits.values
@@ -88,8 +86,6 @@ pub extern "C" fn bit_set_difference_changes(set: &mut Exclusive, other: &mut Sh
         ≡ not (same_sets (elements set.old.bits.values) (elements set.new.bits.values))) }
     ensures unchanged { IfOk (changed result) (λ changed. changed ≡ false
         → elements set.new.bits.values ≡ elements set.old.bits.values) }
-    ensures were_apart { IfOk (changed result) (λ changed. changed
-        ≡ not (is_disjoint (elements set.old.bits.values) (elements other.old.bits.values))) }
     ensures count { IfOk (changed result) (λ changed. length (elements set.new.bits.values)
         + (if changed then 1 else 0) ≤ length (elements set.old.bits.values)) }
     ensures length { OnOk (changed result) (length set.new.bits.values
@@ -118,7 +114,6 @@ pub extern "C" fn bit_set_symmetric_difference_changes(
         ≡ not (same_sets (elements set.old.bits.values) (elements set.new.bits.values))) }
     ensures unchanged { IfOk (changed result) (λ changed. changed ≡ false
         → elements set.new.bits.values ≡ elements set.old.bits.values) }
-    ensures empty { IfOk (changed result) (λ changed. (changed ≡ false) ↔ (elements other.old.bits.values ≡ [])) }
     ensures length { OnOk (changed result) (length set.new.bits.values
         ≡ max (length set.old.bits.values) (length other.old.bits.values)) }
     ensures grows { Grows (length other.old.bits.values) (changed result) set.old.bits set.new.bits }
@@ -147,9 +142,6 @@ pub extern "C" fn bit_set_union_with_difference(
         ≡ not (same_sets (elements set.old.bits.values) (elements set.new.bits.values))) }
     ensures unchanged { IfOk (changed result) (λ changed. changed ≡ false
         → elements set.new.bits.values ≡ elements set.old.bits.values) }
-    ensures were_in { IfOk (changed result) (λ changed. changed
-        ≡ not (is_subset (difference (elements other.old.bits.values) (elements except.old.bits.values))
-        (elements set.old.bits.values))) }
     ensures count { IfOk (changed result) (λ changed. length (elements set.old.bits.values)
         + (if changed then 1 else 0) ≤ length (elements set.new.bits.values)) }
     ensures length { OnOk (changed result) (length set.new.bits.values

@@ -118,3 +118,14 @@ fn the_bytes_are_those_that_were_read(rt: HostRuntime) {
     let written = ok(&rt, set.to_bytes(rt.alloc()));
     expect_eq(&rt, &written.as_slice(), &bytes.as_slice());
 }
+
+#[test]
+fn the_bytes_are_those_that_were_read_lowest_bit_first(rt: HostRuntime) {
+    let bytes = [0b0100_1010, 3, 0, 255];
+    let set = ok(
+        &rt,
+        BitSet::<Block24>::from_bytes_lsb_general(rt.alloc(), &bytes),
+    );
+    let written = ok(&rt, set.to_bytes_lsb(rt.alloc()));
+    expect_eq(&rt, &written.as_slice(), &bytes.as_slice());
+}

@@ -87,3 +87,36 @@ fn sparse_walks_are_their_lists_at_each_point(rt: HostRuntime) {
     agree::<Block24>(&rt, rt.alloc(), &ODD);
     agree::<u64>(&rt, rt.alloc(), &WIDE);
 }
+
+// What two sets have between them is as much as walks over both give, whichever is longer.
+fn counts_agree<B: BitBlock>(rt: &impl Abort, alloc: Global, a: &[usize], b: &[usize]) {
+    let one = set_of::<B>(rt, alloc, a);
+    let other = set_of::<B>(rt, alloc, b);
+    let counts = [
+        one.union_count(&other),
+        one.intersection_count(&other),
+        one.difference_count(&other),
+        one.symmetric_difference_count(&other),
+    ];
+    let walks = [
+        one.union(&other).count(),
+        one.intersection(&other).count(),
+        one.difference(&other).count(),
+        one.symmetric_difference(&other).count(),
+    ];
+    expect_eq(rt, &counts, &walks);
+}
+
+fn counts_of<B: BitBlock>(rt: &impl Abort, alloc: Global) {
+    let (far, near) = ([0, 5, 4000, 70000], [5, 300]);
+    counts_agree::<B>(rt, alloc, &far, &near);
+    counts_agree::<B>(rt, alloc, &near, &far);
+    counts_agree::<B>(rt, alloc, &far, &far);
+}
+
+#[test]
+fn counts_of_sets_far_apart(rt: HostRuntime) {
+    counts_of::<u8>(&rt, rt.alloc());
+    counts_of::<Block24>(&rt, rt.alloc());
+    counts_of::<u128>(&rt, rt.alloc());
+}

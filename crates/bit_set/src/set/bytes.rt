@@ -1,6 +1,6 @@
 // A set of bytes, and its bytes.
 ghost use Rattle.std.specs.{Prelude.{◌≡◌, ◌≢◌, ℕ, ◌+◌, ◌-◌, ◌*◌, ◌<◌, ◌↔◌, IfErr, IfOk, IsErrOf, IsOk, IsTrue, length, slice_index}, Int.bit_at};
-ghost use Rattle.bit_blocks.specs.Bits.{blocks_for, capacity_of, values_of_bytes};
+ghost use Rattle.bit_blocks.specs.Bits.{blocks_for, blocks_of, capacity_of, values_of_bytes};
 ghost use Rattle.bit_set.specs.Sets.{elements, has};
 
 use crate::bit_vec::BitVec;
@@ -46,6 +46,45 @@ impl<B: BitBlock> BitSet<B> {
     {
         self.bits.to_bytes(alloc)
     }
+
+    /// The set of the bits that are 1, those of each byte counted from the lowest: `n` is in where bit `n % 8` from the
+    /// lowest of byte `n / 8` is 1, as in Java's `BitSet.valueOf`, in Arrow and in NumPy's little order. A block takes
+    /// its bytes in one step each. Fails as [`BitSet::from_bytes`] does.
+    ///
+    /// ```
+    /// let set = BitSet::from_bytes_lsb(alloc, &[0b0101_0010])?;
+    /// assert!(set.iter().eq([1, 4, 6]));
+    /// ```
+    pub fn from_bytes_lsb_general(alloc: Global, bytes: &[u8]) -> Result<Self, SetError>
+        ensures values { IfOk result (λ set. blocks_of 8 set.values ≡ bytes.now) }
+        ensures elements { IfOk result (λ set. (q r : ℕ) → r < 8
+            → IsTrue (has (elements set.values) (8 * q + r)) ↔ (bit_at (slice_index bytes.now q) r ≡ 1)) }
+        ensures length { IfOk result (λ set. length set.values ≡ 8 * length bytes.now) }
+        ensures capacity { IfOk result (λ set. set.capacity
+            ≡ capacity_of B.width (blocks_for B.width (8 * length bytes.now))) }
+        ensures too_long { IsErrOf result SetError.Length ↔ (usize.MAX < 8 * length bytes.now) }
+        ensures fits { IfErr result (λ fault. fault ≢ SetError.Element) }
+        ensures empty { length bytes.now ≡ 0 → IsOk result }
+    {
+        let bits = BitVec::from_bytes_lsb_general(alloc, bytes)?;
+        Ok(BitSet { bits })
+    }
+
+    /// The set as bytes, a bit for each number below the length, the first at the lowest bit; the bits of the last byte
+    /// past the length are 0. [`BitSet::from_bytes_lsb`] of them gives the same elements. Reads each block once. Fails
+    /// only where memory runs out, and never for a set of length 0.
+    ///
+    /// ```
+    /// let set = BitSet::from_bytes_lsb(alloc, &[0b0101_0010])?;
+    /// let bytes = set.to_bytes_lsb(alloc)?;
+    /// assert_eq!(bytes.as_slice(), [0b0101_0010].as_slice());
+    /// ```
+    pub fn to_bytes_lsb(&self, alloc: Global) -> Result<Vec<u8>, AllocError>
+        ensures values { IfOk result (λ bytes. bytes.items ≡ blocks_of 8 self.now.values) }
+        ensures empty { length self.now.values ≡ 0 → IsOk result }
+    {
+        self.bits.to_bytes_lsb(alloc)
+    }
 }
 
 impl BitSet<u32> {
@@ -61,5 +100,18 @@ impl BitSet<u32> {
         ensures empty { length bytes.now ≡ 0 → IsOk result }
     {
         BitSet::from_bytes_general(alloc, bytes)
+    }
+    /// [`BitSet::from_bytes_lsb_general`] over blocks of 32 bits.
+    pub fn from_bytes_lsb(alloc: Global, bytes: &[u8]) -> Result<Self, SetError>
+        ensures values { IfOk result (λ set. blocks_of 8 set.values ≡ bytes.now) }
+        ensures elements { IfOk result (λ set. (q r : ℕ) → r < 8
+            → IsTrue (has (elements set.values) (8 * q + r)) ↔ (bit_at (slice_index bytes.now q) r ≡ 1)) }
+        ensures length { IfOk result (λ set. length set.values ≡ 8 * length bytes.now) }
+        ensures capacity { IfOk result (λ set. set.capacity ≡ capacity_of 32 (blocks_for 32 (8 * length bytes.now))) }
+        ensures too_long { IsErrOf result SetError.Length ↔ (usize.MAX < 8 * length bytes.now) }
+        ensures fits { IfErr result (λ fault. fault ≢ SetError.Element) }
+        ensures empty { length bytes.now ≡ 0 → IsOk result }
+    {
+        BitSet::from_bytes_lsb_general(alloc, bytes)
     }
 }

@@ -1,9 +1,11 @@
 // Calls that change a set in place.
-ghost use Rattle.std.specs.{Prelude.{◌≡◌, ℕ, ◌+◌, ◌-◌, ◌<◌, ◌≤◌, ◌↔◌, if◌then◌else◌, max, min, not, IfOk, IfErr, OnOk, OnErr, IsOk, IsErrOf, All, List, [], ◌++◌, length, replicate, false, true, Some}, Iterator.Drains};
-ghost use Rattle.std.specs.Iterator.{HoldsAlong, IsFinite, YieldsThen, Runs.WholeRun};
+ghost use Rattle.std.specs.Prelude.{◌≡◌, ℕ, ◌+◌, ◌-◌, ◌<◌, ◌≤◌, ◌↔◌, if◌then◌else◌, max, min, not, IfOk, IfErr, OnOk, IsOk, IsErrOf, All, List, [], ◌++◌, length, replicate, false, true, Some};
+ghost use Rattle.std.specs.{Iterator.Drains};
+ghost use Rattle.std.specs.Iterator.{HoldsAlong, IsFinite, YieldsThen};
 ghost use Rattle.bit_blocks.specs.Bits.{blocks_for, capacity_of};
 ghost use Rattle.bit_words.specs.Growth.{Grows};
-ghost use Rattle.bit_set.specs.{Sets.{elements, has, put, those_below, without}, Members.{HasNone, IsCounted, IsSameSet, KeepsBelow, Updates}, Effects.TakesIn, Faults.IsInsertFault, Changes.{Change, Changes}};
+ghost use Rattle.bit_set.specs.{Sets.{elements, has, put, those_below, without}, Members.{HasNone, IsCounted, IsSameSet, KeepsBelow, Updates}, Effects.TakesIn, Faults.IsInsertFault};
+ghost use Rattle.bit_set.specs.Changes.{Change, Changes};
 ghost use Rattle.bit_set.specs.{Changes.{outcome_of_result, outcome_of_insert, Outcome.{Done, Returned}}, Capacity.IsPastBlocks};
 
 use crate::{BitBlock, BitSet, SetError};
@@ -21,13 +23,10 @@ impl<B: BitBlock> BitSet<B> {
         ensures count { IfOk result (λ new. length (elements self.new.values)
             ≡ length (elements self.old.values) + (if new then 1 else 0)) }
         ensures length { OnOk result (length self.new.values ≡ max (length self.old.values) (value + 1)) }
-        ensures unchanged { IfOk result (λ new. new ≡ false → self.new.values ≡ self.old.values) }
         ensures counted { IsCounted self.new.values }
 
         ensures unfit { IsErrOf result SetError.Element ↔ (value ≡ usize.MAX) }
-        ensures fit { OnOk result (value < usize.MAX) }
         ensures fails { IfErr result (λ fault. IsInsertFault fault value self.old.capacity) }
-        ensures past { OnErr result (length self.old.values ≤ value) }
         ensures grows { Grows (value + 1) result self.old self.new }
         ensures past_blocks { IfErr result (λ fault. IsPastBlocks fault B.width (length self.old.values) value) }
         ensures changes { Changes (Change.Insert value) self.old.values (outcome_of_insert result) self.new.values }
@@ -71,8 +70,6 @@ impl<B: BitBlock> BitSet<B> {
         requires ends { IsFinite (I.remaining iter) }
         ensures ok { OnOk result ((items : List ℕ) × Drains I.next_gives iter items
             × TakesIn items self.old.values self.new.values) }
-        ensures runs { OnOk result (WholeRun I.next_gives iter
-            (λ run. TakesIn run.items self.old.values self.new.values)) }
         ensures err { IfErr result (λ fault. (items : List ℕ) × (item : ℕ) × (rest : I)
             × YieldsThen I.next_gives iter items (Some item) rest
             × TakesIn items self.old.values self.new.values × (length self.new.values ≤ item)

@@ -1,5 +1,5 @@
 // Calls that take the least or the greatest element out.
-ghost use Rattle.std.specs.{Prelude.{◌≡◌, ◌+◌, MatchOption, None, if◌then◌else◌, is_some, length}, Iterator.{YieldsFirst, YieldsLast}};
+ghost use Rattle.std.specs.{Prelude.{◌≡◌, ◌+◌, MatchOption, if◌then◌else◌, is_some, length}, Iterator.{YieldsFirst, YieldsLast}};
 ghost use Rattle.bit_set.specs.{Changes.{Change, Changes, Outcome.Gave}, Members.{HasNone, TakesGreatest, TakesLeast}, Sets.elements};
 
 use crate::{BitBlock, BitSet};
@@ -22,7 +22,6 @@ impl<B: BitBlock> BitSet<B> {
         ensures count { length (elements self.new.values) + (if is_some result then 1 else 0)
             ≡ length (elements self.old.values) }
         ensures length { length self.new.values ≡ length self.old.values }
-        ensures unchanged { result ≡ None → self.new ≡ self.old }
         ensures capacity { self.new.capacity ≡ self.old.capacity }
         ensures changes { Changes Change.PopFirst self.old.values (Gave result) self.new.values }
     {
@@ -44,7 +43,6 @@ impl<B: BitBlock> BitSet<B> {
         ensures count { length (elements self.new.values) + (if is_some result then 1 else 0)
             ≡ length (elements self.old.values) }
         ensures length { length self.new.values ≡ length self.old.values }
-        ensures unchanged { result ≡ None → self.new ≡ self.old }
         ensures capacity { self.new.capacity ≡ self.old.capacity }
         ensures changes { Changes Change.PopLast self.old.values (Gave result) self.new.values }
     {

@@ -1,9 +1,9 @@
 // Calls that make a set, in place, what it and others become, and tell whether that changed it. They write no block before
 // the first that change.
-ghost use Rattle.std.specs.Prelude.{◌≡◌, ◌+◌, ◌≤◌, ◌↔◌, max, not, if◌then◌else◌, IfOk, OnOk, [], length, false};
+ghost use Rattle.std.specs.Prelude.{◌≡◌, ◌+◌, ◌≤◌, max, not, if◌then◌else◌, IfOk, OnOk, length, false};
 ghost use Rattle.bit_words.specs.Growth.{Grows};
 ghost use Rattle.bit_set.specs.Members.{IsCounted, IsDifference, IsIntersection, IsMerged, IsSymmetricDifference, IsUnion, IsUnionWithDifference};
-ghost use Rattle.bit_set.specs.Sets.{elements, union, intersection, difference, symmetric_difference, merge_of_sets, is_subset, is_disjoint};
+ghost use Rattle.bit_set.specs.Sets.{elements, union, intersection, difference, symmetric_difference, merge_of_sets, is_subset};
 ghost use Rattle.bit_set.specs.{Changes.{Change, Changes, outcome_of_flag}, Order.same_sets};
 
 use crate::bit_vec::Merge;
@@ -77,8 +77,6 @@ impl<B: BitBlock> BitSet<B> {
             ≡ not (same_sets (elements self.old.values) (elements self.new.values))) }
         ensures unchanged { IfOk result (λ changed. changed ≡ false
             → elements self.new.values ≡ elements self.old.values) }
-        ensures were_in { IfOk result (λ changed. changed
-            ≡ not (is_subset (elements self.old.values) (elements other.now.values))) }
         ensures count { IfOk result (λ changed. length (elements self.new.values) + (if changed then 1 else 0)
             ≤ length (elements self.old.values)) }
         ensures length { OnOk result (length self.new.values ≡ max (length self.old.values) (length other.now.values)) }
@@ -101,8 +99,6 @@ impl<B: BitBlock> BitSet<B> {
             ≡ not (same_sets (elements self.old.values) (elements self.new.values))) }
         ensures unchanged { IfOk result (λ changed. changed ≡ false
             → elements self.new.values ≡ elements self.old.values) }
-        ensures were_apart { IfOk result (λ changed. changed
-            ≡ not (is_disjoint (elements self.old.values) (elements other.now.values))) }
         ensures count { IfOk result (λ changed. length (elements self.new.values) + (if changed then 1 else 0)
             ≤ length (elements self.old.values)) }
         ensures length { OnOk result (length self.new.values ≡ max (length self.old.values) (length other.now.values)) }
@@ -126,7 +122,6 @@ impl<B: BitBlock> BitSet<B> {
             ≡ not (same_sets (elements self.old.values) (elements self.new.values))) }
         ensures unchanged { IfOk result (λ changed. changed ≡ false
             → elements self.new.values ≡ elements self.old.values) }
-        ensures empty { IfOk result (λ changed. (changed ≡ false) ↔ (elements other.now.values ≡ [])) }
         ensures length { OnOk result (length self.new.values ≡ max (length self.old.values) (length other.now.values)) }
         ensures grows { Grows (length other.now.values) result self.old self.new }
         ensures changes { Changes (Change.MergeChanges Merge.Symmetric (elements other.now.values))
@@ -153,9 +148,6 @@ impl<B: BitBlock> BitSet<B> {
             ≡ not (same_sets (elements self.old.values) (elements self.new.values))) }
         ensures unchanged { IfOk result (λ changed. changed ≡ false
             → elements self.new.values ≡ elements self.old.values) }
-        ensures were_in { IfOk result (λ changed. changed
-            ≡ not (is_subset (difference (elements other.now.values) (elements except.now.values))
-            (elements self.old.values))) }
         ensures count { IfOk result (λ changed. length (elements self.old.values) + (if changed then 1 else 0)
             ≤ length (elements self.new.values)) }
         ensures counted { OnOk result (IsCounted self.new.values) }

@@ -1,7 +1,8 @@
 // Calls on the numbers of a range.
-ghost use Rattle.std.specs.Prelude.{◌≡◌, ℕ, ◌+◌, ◌-◌, ◌<◌, ◌≤◌, ◌↔◌, ◌++◌, false, length, max, not, true, IfErr, IsErrOf, IsTrue, OnOk};
+ghost use Rattle.std.specs.Prelude.{◌≡◌, ℕ, ◌+◌, ◌-◌, ◌<◌, ◌≤◌, ◌↔◌, ◌++◌, false, length, max, not, true, IfErr, IsTrue, OnOk};
 ghost use Rattle.bit_words.specs.Growth.{Grows};
-ghost use Rattle.bit_set.specs.{Changes.{Change, Changes, Outcome.Done, outcome_of_result}, Faults.IsInsertFault, Members.UpdatesRange, Ranges.{span, span_end, those_in_range}, Sets.{elements, has, is_disjoint, is_subset, symmetric_difference, those_below, those_from, union}};
+ghost use Rattle.bit_set.specs.{Changes.{Change, Changes, Outcome.Done, outcome_of_result}, Faults.IsInsertFault, Members.UpdatesRange, Ranges.{span, span_end, those_in_range}};
+ghost use Rattle.bit_set.specs.Sets.{elements, has, is_disjoint, is_subset, symmetric_difference, those_below, those_from, union};
 
 use crate::{BitBlock, BitSet, SetError};
 use std::ops::Range;
@@ -14,7 +15,6 @@ impl<B: BitBlock> BitSet<B> {
         ensures within { OnOk result (range.now.start < range.now.end → range.now.end ≤ length self.new.values) }
         ensures length { OnOk result (length self.new.values
             ≡ max (length self.old.values) (span_end range.now.start range.now.end)) }
-        ensures fit { IsErrOf result SetError.Element → ⊥ }
         ensures fails { IfErr result (λ fault. IsInsertFault fault (range.now.end - 1) self.old.capacity) }
         ensures grows { Grows (span_end range.now.start range.now.end) result self.old self.new }
     {
@@ -47,7 +47,6 @@ impl<B: BitBlock> BitSet<B> {
             ≡ length (elements self.old.values) + (range.end - range.start)) }
         ensures length { OnOk result (length self.new.values
             ≡ max (length self.old.values) (span_end range.start range.end)) }
-        ensures fit { IsErrOf result SetError.Element → ⊥ }
         ensures fails { IfErr result (λ fault. IsInsertFault fault (range.end - 1) self.old.capacity) }
         ensures grows { Grows (span_end range.start range.end) result self.old self.new }
         ensures changes { Changes (Change.InsertRange range.start range.end)
@@ -93,7 +92,6 @@ impl<B: BitBlock> BitSet<B> {
             range.start range.end) }
         ensures length { OnOk result (length self.new.values
             ≡ max (length self.old.values) (span_end range.start range.end)) }
-        ensures fit { IsErrOf result SetError.Element → ⊥ }
         ensures fails { IfErr result (λ fault. IsInsertFault fault (range.end - 1) self.old.capacity) }
         ensures grows { Grows (span_end range.start range.end) result self.old self.new }
         ensures changes { Changes (Change.ToggleRange range.start range.end)

@@ -1,10 +1,11 @@
 // The walk over a set's elements, from the back.
-ghost use Rattle.std.specs.{Prelude.{◌≡◌, MatchOption, None}, List.last_or};
+ghost use Rattle.std.specs.{Prelude.{◌≡◌, MatchOption, None}, Iterator.{Adapters.{RevKeepsRuns, rev_source}, Runs.YieldsInReverse}, List.last_or};
 ghost use Rattle.bit_set.specs.{Choices.{IsGreatest, IsLastOf}, Members.HasNone, Walk.AdvancesBack};
 
 use crate::BitBlock;
 use crate::bit_vec::take_highest_one;
 use crate::walk::Iter;
+use std::iter::Rev;
 
 impl<'a, B: BitBlock> Iter<'a, B> {
     /// The greatest element that is left. It is one call of [`next_back`](DoubleEndedIterator::next_back).
@@ -24,6 +25,22 @@ impl<'a, B: BitBlock> Iter<'a, B> {
         ensures members { MatchOption result (HasNone self.entry.left) (IsGreatest self.entry.left) }
     {
         self.last()
+    }
+
+    /// The elements that are left, from the greatest on: std's `rev`, which chains go on from. Constant time.
+    ///
+    /// ```
+    /// let set = BitSet::from_bytes(alloc, &[0b0100_1010])?;
+    /// assert!(set.iter().rev().eq([6, 4, 1]));
+    /// ```
+    // By std's own a caller does not know what it gives. Where each walk said that, loops over it would stay open.
+    #[inline]
+    pub fn rev(self) -> Rev<Self>
+        ensures source { rev_source result ≡ self.entry }
+        ensures runs { RevKeepsRuns (AdvancesBack B.width) self.entry result }
+        ensures gives { YieldsInReverse (AdvancesBack B.width) (λ walk. walk.left) }
+    {
+        Iterator::rev(self)
     }
 }
 

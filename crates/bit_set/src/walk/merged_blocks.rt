@@ -1,11 +1,11 @@
 // The blocks of two sets, merged.
-ghost use Rattle.std.specs.Prelude.{◌≡◌, ◌+◌, ◌<◌, ◌≤◌, ◌^◌, ◌⊎◌, max, IfSome, All, [], length};
+ghost use Rattle.std.specs.Prelude.{◌≡◌, ◌<◌, ◌^◌, max, IfSome, All, length};
 ghost use Rattle.bit_blocks.specs.Bits.{blocks_for};
-ghost use Rattle.bit_set.specs.{Sets.{elements, merge_of_sets}, Indexes.{IsMergedPull, IsWalkable, PullsBlock, PullsBlockIf, ones_from, ones_of_merged}};
+ghost use Rattle.bit_set.specs.{Sets.{elements, merge_of_sets}, Indexes.{IsMergedPull, IsWalkable, PullsBlock, PullsBlockIf}};
 
 use crate::BitBlock;
 use crate::bit_vec::operation::Operation;
-use crate::bit_vec::{BitVec, Blocks, GROUP};
+use crate::bit_vec::{BitVec, Blocks, count_merged_blocks};
 use std::marker::{Model, PhantomData};
 
 // Up to so many ones a block, the branch that leaves a block costs more than steps without one.
@@ -100,11 +100,7 @@ impl<'a, B: BitBlock, O: Operation> Pairs<'a, B, O> {
         requires { length (elements self.values) < 2 ^ 64 }
         ensures { result ≡ length (elements self.entry.values) }
     {
-        let first = self.first.as_slice();
-        let second = self.second.as_slice();
-        let both = first.len().min(second.len());
-        ones_of_both::<B, O>(&first[..both], &second[..both])
-            + ones_of_rest::<B, O>(&first[both..], &second[both..])
+        count_merged_blocks::<B, O>(self.first.as_slice(), self.second.as_slice())
     }
 
     // What is ahead, the pulls going on.
@@ -153,67 +149,4 @@ fn merge_of_blocks<B: BitBlock, O: Operation>(first: Option<B>, second: Option<B
         (None, Some(b)) => Some(O::of_blocks(B::zero(), b)),
         (None, None) => None,
     }
-}
-
-// How many ones two slices have from one block to another, merged.
-#[inline(always)]
-fn ones_between<B: BitBlock, O: Operation>(
-    first: &[B],
-    second: &[B],
-    start: usize,
-    end: usize,
-) -> usize
-    requires forward { start ≤ end }
-    requires within { end ≤ length first.now }
-    requires within_second { end ≤ length second.now }
-    requires first { All B.is_block first.now }
-    requires second { All B.is_block second.now }
-    requires fits { ones_from B.width B.number O.merge first.now second.now start < 2 ^ 64 }
-    ensures { result + ones_from B.width B.number O.merge first.now second.now end
-        ≡ ones_from B.width B.number O.merge first.now second.now start }
-{
-    let mut ones = 0;
-    for i in start..end {
-        ones += O::of_blocks(first[i], second[i]).count_ones();
-    }
-    ones
-}
-
-// How many ones two slices of blocks of one length have, merged. The compiler writes out the loop over a group.
-#[inline]
-fn ones_of_both<B: BitBlock, O: Operation>(first: &[B], second: &[B]) -> usize
-    requires long { length first.now ≡ length second.now }
-    requires first { All B.is_block first.now }
-    requires second { All B.is_block second.now }
-    requires fits { ones_of_merged B.width B.number O.merge first.now second.now < 2 ^ 64 }
-    ensures { result ≡ ones_of_merged B.width B.number O.merge first.now second.now }
-{
-    let groups = first.len() / GROUP;
-    let mut ones = 0;
-    for group in 0..groups {
-        let start = group * GROUP;
-        ones += ones_between::<B, O>(first, second, start, start + GROUP);
-    }
-    ones + ones_between::<B, O>(first, second, groups * GROUP, first.len())
-}
-
-// How many ones the rest of the longer slice has, merged with zeros. The other one is at its end. The compiler takes
-// out a loop that adds none.
-#[inline]
-fn ones_of_rest<B: BitBlock, O: Operation>(first: &[B], second: &[B]) -> usize
-    requires ended { (first.now ≡ []) ⊎ (second.now ≡ []) }
-    requires first { All B.is_block first.now }
-    requires second { All B.is_block second.now }
-    requires fits { ones_of_merged B.width B.number O.merge first.now second.now < 2 ^ 64 }
-    ensures { result ≡ ones_of_merged B.width B.number O.merge first.now second.now }
-{
-    let zero = B::zero();
-    let mut ones = 0;
-    for block in first {
-        ones += O::of_blocks(*block, zero).count_ones();
-    }
-    for other in second {
-        ones += O::of_blocks(zero, *other).count_ones();
-    }
-    ones
 }

@@ -1,6 +1,7 @@
 use Rattle.std.proofs.Common.{sym, ◌+◌, ◌*◌, ◌<◌, ◌^◌, length, get_or, ap, ◌∙◌, arith}
 use Rattle.bit_blocks.specs.Bits.{blocks_of}
-use Rattle.bit_set.{specs.{Mismatches.IsFirstMismatch, Sets.elements}, proofs.{MismatchLemmas.{first_mismatch_is, first_within}, OrderLemmas.{by_holder, by_other_holder}, order.order_in_block.Goals.After-bits}}
+use Rattle.bit_set.specs.{Mismatches.IsFirstMismatch, Sets.elements}
+use Rattle.bit_set.proofs.{MismatchLemmas.{first_mismatch_is, first_within}, OrderLemmas.{by_holder, by_other_holder}, order.order_in_block.Goals.After-bits}
 use Rattle.bit_set.proofs.order.order_in_block.Goals as goal
 
 is_first : (g : _) (c : After-bits g) → IsFirstMismatch (elements c.args.a.now.values) (elements c.args.b.now.values) (c.args.at * c.bits.result + c.lowest_mismatch-index.result)
@@ -30,4 +31,5 @@ returns-then-contains g c =
 pub returns-else-contains : goal.returns-else-contains
 returns-else-contains g c =
     c.reverse.ensures
-    ∙ by_other_holder c.args.a.now.values c.args.b.now.values _ _ (is_first g (goal.at.returns-else-contains g c).After-bits) (sym c.contains.ensures.value ∙ c.if-contains.false) c.order_of_holder-else-contains.ensures
+    ∙ by_other_holder c.args.a.now.values c.args.b.now.values _ _ (is_first g (goal.at.returns-else-contains g c).After-bits)
+    (sym c.contains.ensures.value ∙ c.if-contains.false) c.order_of_holder-else-contains.ensures

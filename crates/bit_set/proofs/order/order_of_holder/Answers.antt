@@ -4,7 +4,10 @@ use Rattle.bit_set.proofs.{MismatchLemmas.{has_in_block, has_past_block, has_non
 use Rattle.bit_set.proofs.order.order_of_holder.Goals as goal
 
 numbers : (g : _) (c : After-has_one_from g) → (map g.B.BitBlock.number c.storage-blocks.result.now ≡ blocks_of c.bits-width.result c.args.other.now.values) × (0 < c.bits-width.result)
-numbers g c = (rw c.bits-width.ensures (c.storage-blocks.ensures.numbers ∙ ap (λ s. blocks_of g.B.BitBlock.width s.values) c.get_ref.ensures), rw c.bits-width.ensures g.met.B.BitBlock.width_law.positive)
+numbers g c = (
+  rw c.bits-width.ensures (c.storage-blocks.ensures.numbers ∙ ap (λ s. blocks_of g.B.BitBlock.width s.values) c.get_ref.ensures),
+  rw c.bits-width.ensures g.met.B.BitBlock.width_law.positive,
+)
 
 pub returns-then-has_one_from : goal.returns-then-has_one_from
 returns-then-has_one_from g c =

@@ -8,5 +8,6 @@ returns-then-not-is_ascii_digit c = sym (number_of-other c.args.digits.now c.loo
 pub loop-digit-preserved : goal.loop-digit-preserved
 loop-digit-preserved c = record {
   digits = rw add-one (all_digits_more c.args.digits.now c.loop-digit.digit-index c.loop-digit-test.true c.loop-digit.invariant.digits (sym c.if-not-is_ascii_digit.ensures.value));
-  value = saturated_more c.args.digits.now c.loop-digit.digit-index c.loop-digit.number _ _ c.loop-digit-test.true c.if-not-is_ascii_digit.ensures.cases c.loop-digit.invariant.value c.saturating_mul.ensures (rw c.from.ensures at c.saturating_add-number.ensures);
+  value = saturated_more c.args.digits.now c.loop-digit.digit-index c.loop-digit.number _ _ c.loop-digit-test.true
+      c.if-not-is_ascii_digit.ensures.cases c.loop-digit.invariant.value c.saturating_mul.ensures (rw c.from.ensures at c.saturating_add-number.ensures);
 }

@@ -26,7 +26,7 @@ loop-self-preserved g c =
 pub overflow_add-result : goal.overflow_add-result
 overflow_add-result g c =
     let taken = c.take_lowest_one.ensures in
-    record { fits = (row_taken _ _ _ _ _ _ _ _ c.loop-self.invariant.walk taken.of_block taken.lowest taken.within taken.cleared).1 }
+    record { fits = omega (arith, (row_taken _ _ _ _ _ _ _ _ c.loop-self.invariant.walk taken.of_block taken.lowest taken.within taken.cleared).1) }
 
 pub invariant_of-self-2 : goal.invariant_of-self-2
 invariant_of-self-2 g c =

@@ -31,8 +31,16 @@ returns-then-entries-div_ceil-clause-err g c =
 pub returns-then-not-has_zero_tail-clause-err : goal.returns-then-not-has_zero_tail-clause-err
 returns-then-not-has_zero_tail-clause-err g c =
     let is = found g (goal.at.returns-then-not-has_zero_tail-clause-err g c).After-div_ceil in
-    let vs = c.in_ok-entries.entries.now in
-    (is.0.shape, (numbers_of vs, c.in_ok-len.len, is.1, counted vs ∙ c.if-entries-div_ceil.false ∙ is.2, λ zero_tail. true≢false (sym (c.has_zero_tail.ensures.1 zero_tail) ∙ c.if-not-has_zero_tail.true)))
+    let vs = c.in_ok-entries.entries.now in (
+      is.0.shape,
+      (
+        numbers_of vs,
+        c.in_ok-len.len,
+        is.1,
+        counted vs ∙ c.if-entries-div_ceil.false ∙ is.2,
+        λ zero_tail. true≢false (sym (c.has_zero_tail.ensures.1 zero_tail) ∙ c.if-not-has_zero_tail.true),
+      ),
+    )
 
 pub returns-clause-ok : goal.returns-clause-ok
 returns-clause-ok g c =

@@ -1,6 +1,8 @@
-use Rattle.std.{proofs.{Common.{◌≡◌, ◌+◌, ◌*◌, false, length, get_or, take, ap, sym, ◌∙◌, take_all, arith, refl, subst}, lemmas.{List.{length-replicate, Elements.All-get_or}, Bool.true≢false}}, specs.Int.bit_at}
+use Rattle.std.proofs.{Common.{◌≡◌, ◌+◌, ◌*◌, false, length, get_or, take, ap, sym, ◌∙◌, take_all, arith, refl, subst}, lemmas.{List.{length-replicate, Elements.All-get_or}, Bool.true≢false}}
+use Rattle.std.{specs.Int.bit_at}
 use Rattle.bit_blocks.specs.Digits.{is_one}
-use Rattle.bit_set.{specs.Entries.{numbers_of, IsEntry}, proofs.{JsonLemmas.{below_of_entries, counted, number_at}, FilledLemmas.{blocks_of_filled, zero_tail_from, filled_more, filled_none, next_is_false}}}
+use Rattle.bit_set.specs.Entries.{numbers_of, IsEntry}
+use Rattle.bit_set.proofs.{JsonLemmas.{below_of_entries, counted, number_at}, FilledLemmas.{blocks_of_filled, zero_tail_from, filled_more, filled_none, next_is_false}}
 use Rattle.bit_set.proofs.{FilledLemmas.{one_is_within, block_begins}, json.growing.bits_of_entries.Goals.After-block_of}
 use Rattle.bit_set.proofs.json.growing.bits_of_entries.Goals as goal
 

@@ -9,11 +9,13 @@ found g c = rw (← c.self.view_is) (finds_members c.self.inside.bits.values 0 _
 
 pub returns-clause-elements : goal.returns-clause-elements
 returns-clause-elements g c =
-    rw (all_from c.args.self.now.values) (first_of_those (elements c.args.self.now.values) 0 _ (IsAscending-elements c.args.self.now.values) (found g (goal.at.returns-clause-elements g c).After-first_one))
+    rw (all_from c.args.self.now.values)
+    (first_of_those (elements c.args.self.now.values) 0 _ (IsAscending-elements c.args.self.now.values) (found g (goal.at.returns-clause-elements g c).After-first_one))
 
 pub returns-clause-members : goal.returns-clause-members
 returns-clause-members g c = least_of_all (elements c.args.self.now.values) _ (found g (goal.at.returns-clause-members g c).After-first_one)
 
 pub returns-clause-within : goal.returns-clause-within
 returns-clause-within g c =
-    found_within c.args.self.now.values 0 _ (omega (arith, ap (λ v. length v.values) c.self.view_is, c.len.ensures.value, c.if-prove.false)) (found g (goal.at.returns-clause-within g c).After-first_one)
+    found_within c.args.self.now.values 0 _ (omega (arith, ap (λ v. length v.values) c.self.view_is, c.len.ensures.value, c.if-prove.false))
+    (found g (goal.at.returns-clause-within g c).After-first_one)

@@ -1,7 +1,7 @@
 use Rattle.std.proofs.Common.{◌+◌, ◌<◌, ◌≤◌, Some, None, arith}
 use Rattle.std.proofs.lemmas.Bool.Decides.{nat_tests}
 use Rattle.bit_set.specs.Sets.{elements}
-use Rattle.bit_set.proofs.{GapLemmas.{finds_gap, first_gap, none_across, none_asked}}
+use Rattle.bit_set.proofs.{GapLemmas.{finds_gap, first_gap, in_the_way, none_across, none_asked}}
 use Rattle.bit_set.proofs.set.BitSet.first_gap.Goals as goal
 
 pub returns-then-count-eq0-clause-members : goal.returns-then-count-eq0-clause-members
@@ -36,7 +36,8 @@ loop-element-preserved g c =
       none = λ h from below wide.
           let earlier = before.none h from in
           let later = λ (past : c.loop-element.gap ≤ h).
-          none_across (elements c.args.self.now.values) c.args.count c.loop-element.gap c.in-Some.element c.next_missing-gap-in-Some.result h (omega (arith, c.if-count-eq0.false)) past below near found.passes first.between wide in
+          none_across (elements c.args.self.now.values) c.args.count c.loop-element.gap c.in-Some.element c.next_missing-gap-in-Some.result h
+          (omega (arith, c.if-count-eq0.false)) past below near found.passes first.between wide in
           grind (arith, nat_tests);
       within = omega (arith, c.next_missing-gap-in-Some.ensures.within, c.in-Some.ensures.within);
     }
@@ -58,11 +59,10 @@ returns-then-element-gap-clause-elements g c =
     finds_gap (elements c.args.self.now.values) c.args.from c.args.count (Some c.loop-element.gap) (returns-then-element-gap-clause-members g c)
 
 pub returns-then-count-gap-clause-members : goal.returns-then-count-gap-clause-members
-returns-then-count-gap-clause-members g c = λ h from wide.
+returns-then-count-gap-clause-members g c = λ h from fits. in_the_way (elements c.args.self.now.values) c.args.count h fits (λ wide.
     let earlier = c.loop-element.invariant.none h from in
-    let fits = wide.fits in
     let over = c.if-count-gap.true in
-    grind (arith, nat_tests)
+    grind (arith, nat_tests))
 
 pub returns-then-count-gap-clause-elements : goal.returns-then-count-gap-clause-elements
 returns-then-count-gap-clause-elements g c =

@@ -1,8 +1,10 @@
-use Rattle.std.proofs.{Common.{◌≡◌, ◌+◌, ◌-◌, ◌<◌, ◌≤◌, ℕ, max, length, Bool, not, true, false, sym, ap, ◌∙◌, refl, arith, length-append, Ok}, lemmas.{List.{length-replicate, length-set}, Result.err_from_is_err_and}}
+use Rattle.std.proofs.Common.{◌≡◌, ◌+◌, ◌-◌, ◌<◌, ◌≤◌, ℕ, max, length, not, ap, ◌∙◌, refl, arith, length-append, Ok}
+use Rattle.std.proofs.lemmas.{List.{length-replicate, length-set}, Result.err_from_is_err_and}
 use Rattle.bit_blocks.specs.Bits.{Bits}
 use Rattle.bit_words.specs.{Bounds.greatest, Growth.Grows}
-use Rattle.bit_set.{specs.{Sets.{elements, has, put}, declared.faults.SetError.SetError}, proofs.{ChangeLemmas.changes_inserted, CapacityLemmas.{Grows-changed, Grows-failed, Grows-there}, MemberLemmas.count_put}}
-use Rattle.bit_set.proofs.{MemberLemmas.{counted, counted_within, updates_put}, SetLemmas.{elements-padded, elements-set_true}, ValueLemmas.{has-read, has-within, written_again}}
+use Rattle.bit_set.specs.{Sets.{elements, has, put}, declared.faults.SetError.SetError}
+use Rattle.bit_set.proofs.{ChangeLemmas.changes_inserted, CapacityLemmas.{Grows-changed, Grows-failed, Grows-there}, MemberLemmas.count_put}
+use Rattle.bit_set.proofs.{MemberLemmas.{counted, counted_within, updates_put}, SetLemmas.{elements-padded, elements-set_true}, ValueLemmas.{has-read}}
 use Rattle.bit_set.proofs.set.BitSet.insert.Goals.{then-value-len+in_ok-lengthen_past, else-value-len}
 use Rattle.bit_set.proofs.set.BitSet.insert.Goals as goal
 
@@ -12,7 +14,6 @@ record IsLong (value : ℕ) (old mid : Bits) : Type 0 where
   within : value < length mid.values
   fits : length mid.values ≤ greatest
   long : length mid.values ≡ max (length old.values) (value + 1)
-  kept : value < length old.values → mid ≡ old
   grows : Grows {E = SetError} (value + 1) (Ok (tt {0})) old mid
 
 long : (g : _) (c : goal.After-replace g) → IsLong c.args.value c.args.self.now c.if-value-len.self
@@ -27,7 +28,6 @@ long g c =
             within = omega (arith, size);
             fits = omega (arith, size, grown.fit);
             long = omega (arith, size, old);
-            kept = λ inside. absurd (omega (arith, inside, old));
             grows = grown.grows;
           }
       | else-value-len w ↦
@@ -38,14 +38,9 @@ long g c =
             within = omega (arith, old);
             fits = omega (arith, old, fits.holds_values, fits.fits);
             long = omega (arith, old);
-            kept = λ _. refl;
             grows = Grows-there _ _ _ _ (omega (arith, capacity, fits.holds_values)) (omega (arith, old, capacity, fits.holds_values)) refl;
           }
     ]
-
-was_in : (b : Bool) → not b ≡ false → b ≡ true
-was_in true _ = refl
-was_in false known = sym known
 
 pub returns-clause-returned : goal.returns-clause-returned
 returns-clause-returned g c =
@@ -72,12 +67,6 @@ returns-clause-counted g c = counted c.replace.new.self.values (rw (c.replace.en
 pub returns-clause-grows : goal.returns-clause-grows
 returns-clause-grows g c = Grows-changed _ _ _ _ _ _ (c.replace.ensures.capacity ∙ ap (λ bits. bits.capacity) c.self-2.view_is) (long g c).grows
 
-pub returns-clause-unchanged : goal.returns-clause-unchanged
-returns-clause-unchanged g c known =
-    let inside = has-within c.args.self.now.values c.args.value (was_in _ (sym (returns-clause-returned g c) ∙ known)) in
-    let read = rw (was_in _ known) at c.replace.ensures.was in
-    c.replace.ensures.values ∙ written_again c.self-2.inside.bits.values c.args.value true read ∙ ap (λ bits. bits.values) (c.self-2.view_is ∙ (long g c).kept inside)
-
 pub returns-in_err-lengthen_past-clause-counted : goal.returns-in_err-lengthen_past-clause-counted
 returns-in_err-lengthen_past-clause-counted g c = rw (c.in_err-lengthen_past.ensures.grows.err, ← c.self.view_is) (counted_within c.self.inside.bits c.len.ensures.fits)
 
@@ -86,9 +75,6 @@ returns-in_err-lengthen_past-clause-grows g c = rw (err_from_is_err_and c.from_r
 
 pub returns-clause-length : goal.returns-clause-length
 returns-clause-length g c = rw (c.replace.ensures.values, c.self-2.view_is) (simp length-set (long g c).long)
-
-pub returns-clause-fit : goal.returns-clause-fit
-returns-clause-fit g c = omega (arith, (long g c).within, (long g c).fits)
 
 pub returns-clause-unfit : goal.returns-clause-unfit
 returns-clause-unfit g c = (λ none. cc, λ greatest. absurd (omega (arith, greatest, (long g c).within, (long g c).fits)))
@@ -108,6 +94,3 @@ pub returns-in_err-lengthen_past-clause-past_blocks : goal.returns-in_err-length
 returns-in_err-lengthen_past-clause-past_blocks g c =
     let p = err_from_is_err_and c.from_residual.result c.from_residual.ensures.1 in
     rw (p.1, p.2) c.in_err-lengthen_past.ensures.past_blocks
-
-pub returns-in_err-lengthen_past-clause-past : goal.returns-in_err-lengthen_past-clause-past
-returns-in_err-lengthen_past-clause-past g c = rw ((err_from_is_err_and c.from_residual.result c.from_residual.ensures.1).1, ← c.self.view_is) (omega arith)

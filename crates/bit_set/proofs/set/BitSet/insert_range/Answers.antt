@@ -5,7 +5,8 @@ use Rattle.bit_set.proofs.set.BitSet.insert_range.Goals as goal
 
 pub returns-clause-members : goal.returns-clause-members
 returns-clause-members g c =
-    members_changed (λ _. true) c.args.range.start c.args.range.end _ c.self.inside.bits.values _ (rw c.self.view_is c.in_ok-lengthen_for.ensures.same) (rw c.self.view_is c.in_ok-lengthen_for.ensures.within) c.fill_range.ensures.values
+    members_changed (λ _. true) c.args.range.start c.args.range.end _ c.self.inside.bits.values _
+    (rw c.self.view_is c.in_ok-lengthen_for.ensures.same) (rw c.self.view_is c.in_ok-lengthen_for.ensures.within) c.fill_range.ensures.values
 
 pub returns-clause-elements : goal.returns-clause-elements
 returns-clause-elements g c =

@@ -21,7 +21,8 @@ returns-in-Some-clause-returned g c =
     let w = g.B.BitBlock.width in
     let left = c.storage-blocks.ensures.numbers ∙ ap (λ s. blocks_of w s.values) c.get_ref.ensures in
     let right = c.storage-others.ensures.numbers ∙ ap (λ s. blocks_of w s.values) c.get_ref-2.ensures in
-    proper_by_mismatch w c.in-Some.at c.args.self.now.values c.args.other.now.values _ g.met.B.BitBlock.width_law.positive (rw (left, right) at c.in-Some.ensures) (rw (left, right) at c.is_within_from.ensures)
+    proper_by_mismatch w c.in-Some.at c.args.self.now.values c.args.other.now.values _ g.met.B.BitBlock.width_law.positive
+    (rw (left, right) at c.in-Some.ensures) (rw (left, right) at c.is_within_from.ensures)
 
 pub returns-in-Some-clause-members : goal.returns-in-Some-clause-members
 returns-in-Some-clause-members g c = tells_proper _ (elements c.args.self.now.values) (elements c.args.other.now.values) (returns-in-Some-clause-returned g c)

@@ -1,5 +1,6 @@
 use Rattle.std.proofs.Common.{◌-◌, ◌∙◌, ap, length, not}
-use Rattle.bit_set.{proofs.{AlgebraLemmas.{elements-lengthened, length-lengthened}, MemberLemmas.{counted_within, members_merged}, NotedLemmas.{told_of_lengthened, told_unchanged}}, specs.{Changes.{Changes, Outcome.Returned}, Order.same_sets, Sets.elements}}
+use Rattle.bit_set.proofs.{AlgebraLemmas.{elements-lengthened, length-lengthened}, MemberLemmas.{counted_within, members_merged}, NotedLemmas.{told_of_lengthened, told_unchanged}}
+use Rattle.bit_set.specs.{Changes.{Changes, Outcome.Returned}, Order.same_sets, Sets.elements}
 use Rattle.bit_set.proofs.set.BitSet.merge_changes.Goals as goal
 
 pub returns-clause-elements : goal.returns-clause-elements
@@ -9,17 +10,25 @@ returns-clause-elements g c =
     (elements-lengthened c.args.merge values c.args.other.now.values (c.len.result - length values))
 
 pub returns-clause-members : goal.returns-clause-members
-returns-clause-members g c = members_merged c.args.merge (elements c.args.self.now.values) (elements c.args.other.now.values) (elements c.merge_changes-changed.new.self.values) (returns-clause-elements g c)
+returns-clause-members g c = members_merged c.args.merge (elements c.args.self.now.values)
+    (elements c.args.other.now.values) (elements c.merge_changes-changed.new.self.values) (returns-clause-elements g c)
 
 pub returns-clause-length : goal.returns-clause-length
 returns-clause-length g c =
-    rw (c.merge_changes-changed.ensures.values, c.self.view_is, c.in_ok-lengthen.ensures.ok, c.len.ensures.value, c.other.view_is) (length-lengthened c.args.merge c.args.self.now.values c.args.other.now.values)
+    rw (
+      c.merge_changes-changed.ensures.values,
+      c.self.view_is,
+      c.in_ok-lengthen.ensures.ok,
+      c.len.ensures.value,
+      c.other.view_is,
+    ) (length-lengthened c.args.merge c.args.self.now.values c.args.other.now.values)
 
 pub returns-clause-changed : goal.returns-clause-changed
 returns-clause-changed g c =
     let long = returns-clause-length g c in
     let len = c.len.ensures.value ∙ ap (λ bits. length bits.values) c.other.view_is in
-    told_of_lengthened c.args.self.now.values c.self.inside.bits.values c.merge_changes-changed.new.self.values c.len.result c.merge_changes-changed.result (ap (λ bits. bits.values) c.self.view_is ∙ c.in_ok-lengthen.ensures.ok) (rw len long) c.merge_changes-changed.ensures.kept
+    told_of_lengthened c.args.self.now.values c.self.inside.bits.values c.merge_changes-changed.new.self.values c.len.result c.merge_changes-changed.result
+    (ap (λ bits. bits.values) c.self.view_is ∙ c.in_ok-lengthen.ensures.ok) (rw len long) c.merge_changes-changed.ensures.kept
 
 pub returns-clause-unchanged : goal.returns-clause-unchanged
 returns-clause-unchanged g c = told_unchanged (elements c.args.self.now.values) (elements c.merge_changes-changed.new.self.values) c.merge_changes-changed.result (returns-clause-changed g c)

@@ -10,7 +10,13 @@ returns-clause-elements g c =
 
 pub returns-clause-length : goal.returns-clause-length
 returns-clause-length g c =
-    rw (c.merge_blocks.ensures.values, c.self.view_is, c.in_ok-lengthen.ensures.ok, c.len.ensures.value, c.other.view_is) (length-lengthened c.args.merge c.args.self.now.values c.args.other.now.values)
+    rw (
+      c.merge_blocks.ensures.values,
+      c.self.view_is,
+      c.in_ok-lengthen.ensures.ok,
+      c.len.ensures.value,
+      c.other.view_is,
+    ) (length-lengthened c.args.merge c.args.self.now.values c.args.other.now.values)
 
 pub returns-clause-members : goal.returns-clause-members
 returns-clause-members g c = members_merged c.args.merge (elements c.args.self.now.values) (elements c.args.other.now.values) (elements c.merge_blocks.new.self.values) (returns-clause-elements g c)

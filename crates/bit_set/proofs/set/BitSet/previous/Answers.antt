@@ -9,4 +9,5 @@ pub returns-clause-elements : goal.returns-clause-elements
 returns-clause-elements g c = last_of_those (elements c.args.self.now.values) c.args.n _ (IsAscending-elements c.args.self.now.values) (returns-clause-members g c)
 
 pub returns-clause-within : goal.returns-clause-within
-returns-clause-within g c = found_within_before c.args.self.now.values c.args.n _ (omega (arith, ap (λ v. length v.values) c.self.view_is, c.len.ensures.value, c.if-prove.false)) (returns-clause-members g c)
+returns-clause-within g c = found_within_before c.args.self.now.values c.args.n _
+    (omega (arith, ap (λ v. length v.values) c.self.view_is, c.len.ensures.value, c.if-prove.false)) (returns-clause-members g c)

@@ -5,7 +5,8 @@ use Rattle.bit_set.proofs.set.BitSet.remove_range.Goals as goal
 
 pub returns-clause-members : goal.returns-clause-members
 returns-clause-members g c =
-    rw (← c.self.view_is) (members_cleared c.args.range.start c.args.range.end c.min-end.result c.self.inside.bits.values c.fill_range.new.self.values (rw c.len.ensures.value at c.min-end.ensures) c.fill_range.ensures.values)
+    rw (← c.self.view_is) (members_cleared c.args.range.start c.args.range.end c.min-end.result c.self.inside.bits.values c.fill_range.new.self.values
+    (rw c.len.ensures.value at c.min-end.ensures) c.fill_range.ensures.values)
 
 pub returns-clause-elements : goal.returns-clause-elements
 returns-clause-elements g c =

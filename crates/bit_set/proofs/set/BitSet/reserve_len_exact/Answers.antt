@@ -6,4 +6,5 @@ pub returns-clause-exact : goal.returns-clause-exact
 returns-clause-exact g c =
     let missing = c.saturating_sub-missing.ensures ∙ ap (λ n. c.args.len - n) c.len.ensures.value in
     rw (← c.self.view_is)
-    (on_ok_weaker _ (λ exact. capacity_for_length _ _ _ _ _ _ g.met.B.BitBlock.width_law.positive missing c.len.ensures.fits.holds_values c.reserve_exact.ensures.grows.within exact) c.reserve_exact.ensures.exact)
+    (on_ok_weaker _ (λ exact. capacity_for_length _ _ _ _ _ _ g.met.B.BitBlock.width_law.positive missing
+    c.len.ensures.fits.holds_values c.reserve_exact.ensures.grows.within exact) c.reserve_exact.ensures.exact)

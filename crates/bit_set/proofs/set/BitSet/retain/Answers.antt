@@ -3,11 +3,14 @@ use Rattle.std.proofs.{Math.Nat.{div-add-mod'}, lemmas.{Bool.Decides.nat_tests, 
 use Rattle.bit_blocks.{proofs.BitsLemmas.{blocks_of-digit, read_back}, specs.{Bits.blocks_of, Digits.is_one}}
 use Rattle.bit_words.specs.Kept.{KeepsInBlock}
 use Rattle.bit_set.specs.{Changes.Changes, Retained.{HasTested, ones}, Sets.{elements, has}}
-use Rattle.bit_set.proofs.{MemberLemmas.none_from_members, RetainLemmas.{below_by_members, has-block, next_at_block, retained-block, tested-all, tested-none}, SetLemmas.has-filter, SplitLemmas.all_from, ValueLemmas.has-within, set.BitSet.retain.Given.Over, set.BitSet.retain.Goals.{After-block_or_zero-block}}
+use Rattle.bit_set.proofs.{MemberLemmas.none_from_members, RetainLemmas.{asked_each, below_by_members, has-block, next_at_block, retained-block, tested-all, tested-none}}
+use Rattle.bit_set.proofs.{SetLemmas.{IsAscending-elements, has-filter}, SplitLemmas.all_from, ValueLemmas.has-within, set.BitSet.retain.Given.Over}
+use Rattle.bit_set.proofs.set.BitSet.retain.Goals.{After-block_or_zero-block}
 use Rattle.bit_set.proofs.set.BitSet.retain.Goals as goal
 
 -- the block of the next member
-digits : (g : Over) (c : After-block_or_zero-block g) → (j : ℕ) → j < g.B.BitBlock.width → is_one (g.B.BitBlock.number c.block_or_zero-block.result) j ≡ get_or c.loop-value.self.values (c.in-Some.value / c.bits.result * g.B.BitBlock.width + j) false
+digits : (g : Over) (c : After-block_or_zero-block g) → (j : ℕ) → j < g.B.BitBlock.width
+    → is_one (g.B.BitBlock.number c.block_or_zero-block.result) j ≡ get_or c.loop-value.self.values (c.in-Some.value / c.bits.result * g.B.BitBlock.width + j) false
 digits g c j within =
     let k = c.in-Some.value / c.bits.result in
     let values : c.self.inside.bits.values ≡ c.loop-value.self.values = ap (λ bits. bits.values) c.self.view_is in
@@ -64,7 +67,8 @@ loop-value-preserved g c =
     let keeps : KeepsInBlock w k (number c.kept_ones-kept.result) values left = rw c.self.view_is at c.keep_in_block.ensures.values in
     record {
       callable = c.kept_ones-kept.ensures.callable;
-      tested = retained-block _ w k (number c.block_or_zero-block.result) (number c.kept_ones-kept.result) from next values left c.args.keep (elements c.args.self.now.values) c.loop-value.keep c.kept_ones-kept.new.keep pos (digits g at.After-block_or_zero-block) on to (fits g at.After-block_or_zero-block)
+      tested = retained-block _ w k (number c.block_or_zero-block.result) (number c.kept_ones-kept.result) from next values left c.args.keep
+          (elements c.args.self.now.values) c.loop-value.keep c.kept_ones-kept.new.keep pos (digits g at.After-block_or_zero-block) on to (fits g at.After-block_or_zero-block)
           (λ i reached below. found.between i reached (omega (arith, begins, below))) before.tested (rw c.bits-in-Some.ensures at c.kept_ones-kept.ensures.tested) keeps;
       long = keeps.len ∙ before.long;
       capacity = c.keep_in_block.ensures.capacity ∙ ap (λ bits. bits.capacity) c.self.view_is ∙ before.capacity;
@@ -74,13 +78,19 @@ loop-value-preserved g c =
 pub returns-clause-elements : goal.returns-clause-elements
 returns-clause-elements g c =
     tested-all _ c.args.keep (elements c.args.self.now.values) c.loop-value.keep (elements c.loop-value.self.values) _ c.loop-value.invariant.tested
-    (none_from_members _ (λ n. let member = has-filter (λ y. nat_le c.loop-value.from y) (elements c.loop-value.self.values) n in let none = c.in_default.ensures.members n in grind (arith, nat_tests, member, none)))
+    (none_from_members _ (λ n. let member = has-filter (λ y. nat_le c.loop-value.from y) (elements c.loop-value.self.values) n in
+    let none = c.in_default.ensures.members n in grind (arith, nat_tests, member, none)))
 
 pub returns-clause-members : goal.returns-clause-members
 returns-clause-members g c test each n =
     let old = elements c.args.self.now.values in
     let kept = filter_same _ test c.args.keep (λ x b next. each x b next) old _ (returns-clause-elements g c) in
     ap (λ s. has s n) kept ∙ has-filter test old n
+
+pub returns-clause-asked : goal.returns-clause-asked
+returns-clause-asked g c stays =
+    asked_each _ c.args.keep (λ x b next met. stays (x, tt) b next met) (elements c.args.self.now.values) _ (IsAscending-elements c.args.self.now.values)
+    (returns-clause-elements g c)
 
 pub returns-clause-changes : goal.returns-clause-changes
 unfolding Changes

@@ -6,7 +6,8 @@ pub returns-clause-members : goal.returns-clause-members
 returns-clause-members g c =
     let old = c.args.self.now.values in
     let end = c.in_ok-end.ensures.ok in
-    members_raised c.args.distance (c.in_ok-end.end - length old) old c.self.inside.bits.values c.shift_up.new.self.values (omega (arith, end)) (rw c.self.view_is c.in_ok-lengthen.ensures.ok) c.shift_up.ensures.values
+    members_raised c.args.distance (c.in_ok-end.end - length old) old c.self.inside.bits.values c.shift_up.new.self.values
+    (omega (arith, end)) (rw c.self.view_is c.in_ok-lengthen.ensures.ok) c.shift_up.ensures.values
 
 pub returns-clause-elements : goal.returns-clause-elements
 returns-clause-elements g c =

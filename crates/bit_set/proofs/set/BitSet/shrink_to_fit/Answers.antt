@@ -11,7 +11,8 @@ pub returns-clause-members : goal.returns-clause-members
 returns-clause-members g c n = ap (λ s. has s n) (returns-clause-elements g c)
 
 pub returns-clause-empty : goal.returns-clause-empty
-returns-clause-empty g c = λ none. c.shrink_to_fit.ensures.empty (c.cut_zero_blocks.ensures.len ∙ whole_blocks-empty _ c.self.inside.bits.values g.met.B.BitBlock.width_law.positive (ap (λ bits. elements bits.values) c.self.view_is ∙ none))
+returns-clause-empty g c = λ none. c.shrink_to_fit.ensures.empty (c.cut_zero_blocks.ensures.len
+    ∙ whole_blocks-empty _ c.self.inside.bits.values g.met.B.BitBlock.width_law.positive (ap (λ bits. elements bits.values) c.self.view_is ∙ none))
 
 pub returns-clause-length : goal.returns-clause-length
 returns-clause-length g c = ap length c.shrink_to_fit.ensures.values ∙ c.cut_zero_blocks.ensures.len ∙ ap (λ bits. whole_blocks g.B.BitBlock.width bits.values) c.self.view_is

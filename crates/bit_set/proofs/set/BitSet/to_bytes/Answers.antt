@@ -4,4 +4,5 @@ use Rattle.bit_set.proofs.set.BitSet.to_bytes.Goals as goal
 
 pub returns-clause-elements : goal.returns-clause-elements
 returns-clause-elements g c =
-    rw (← c.self.view_is) (IfOk-weaker c.to_bytes.result _ _ (λ bytes is. ap elements is ∙ elements-padded c.self.inside.bits.values (8 * length bytes.items - length c.self.inside.bits.values)) c.to_bytes.ensures.values)
+    rw (← c.self.view_is) (IfOk-weaker c.to_bytes.result _ _ (λ bytes is. ap elements is
+    ∙ elements-padded c.self.inside.bits.values (8 * length bytes.items - length c.self.inside.bits.values)) c.to_bytes.ensures.values)

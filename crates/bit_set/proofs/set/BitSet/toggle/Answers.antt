@@ -22,4 +22,5 @@ pub returns-then-remove-clause-changes : goal.returns-then-remove-clause-changes
 returns-then-remove-clause-changes g c =
     let was = sym c.remove.ensures.returned ∙ c.if-remove.true in
     let fits = rw c.self.view_is at c.len.ensures.fits in
-    changes_toggled c.args.value c.args.self.now.values c.remove.new.self.values (omega (arith, has-within c.args.self.now.values c.args.value was, fits.holds_values, fits.fits)) was c.remove.ensures.elements
+    changes_toggled c.args.value c.args.self.now.values c.remove.new.self.values
+    (omega (arith, has-within c.args.self.now.values c.args.value was, fits.holds_values, fits.fits)) was c.remove.ensures.elements

@@ -1,6 +1,8 @@
 use Rattle.std.proofs.{Common.{◌∙◌, ◌-◌, ap, length, not, take}}
 use Rattle.bit_blocks.specs.{declared.block.merge.Merge.TheVariants.{Difference, Union}, Merges.merge_of}
-use Rattle.bit_set.{proofs.{AlgebraLemmas.elements-lengthened, MemberLemmas.counted_within, NotedLemmas.{elements-except, length-lengthened-except, members-except, told_of_lengthened, told_unchanged, union_count, union_kept}, SetLemmas.IsAscending-elements}, specs.{Changes.{Changes, Outcome.Returned}, Order.same_sets, Sets.{difference, elements, union}}}
+use Rattle.bit_set.proofs.{AlgebraLemmas.elements-lengthened, MemberLemmas.counted_within}
+use Rattle.bit_set.proofs.{NotedLemmas.{elements-except, length-lengthened-except, members-except, told_of_lengthened, told_unchanged, union_count, union_kept}, SetLemmas.IsAscending-elements}
+use Rattle.bit_set.specs.{Changes.{Changes, Outcome.Returned}, Order.same_sets, Sets.{difference, elements, union}}
 use Rattle.bit_set.proofs.set.BitSet.union_with_difference.Goals as goal
 
 pub returns-clause-elements : goal.returns-clause-elements
@@ -26,19 +28,15 @@ pub returns-clause-changed : goal.returns-clause-changed
 returns-clause-changed g c =
     let long = returns-clause-length g c in
     let len = c.len.ensures.value ∙ ap (λ bits. length bits.values) c.other.view_is in
-    told_of_lengthened c.args.self.now.values c.self.inside.bits.values c.unite_difference-changed.new.self.values c.len.result c.unite_difference-changed.result (ap (λ bits. bits.values) c.self.view_is ∙ c.in_ok-lengthen.ensures.ok) (rw len long) c.unite_difference-changed.ensures.kept
-
-pub returns-clause-were_in : goal.returns-clause-were_in
-returns-clause-were_in g c =
-    let s = elements c.args.self.now.values in
-    let t = difference (elements c.args.other.now.values) (elements c.args.except.now.values) in
-    returns-clause-changed g c ∙ ap (λ u. not (same_sets s u)) (returns-clause-elements g c) ∙ ap not (union_kept s t (IsAscending-elements c.args.self.now.values))
+    told_of_lengthened c.args.self.now.values c.self.inside.bits.values c.unite_difference-changed.new.self.values c.len.result c.unite_difference-changed.result
+    (ap (λ bits. bits.values) c.self.view_is ∙ c.in_ok-lengthen.ensures.ok) (rw len long) c.unite_difference-changed.ensures.kept
 
 pub returns-clause-count : goal.returns-clause-count
 returns-clause-count g c =
     let s = elements c.args.self.now.values in
     let t = difference (elements c.args.other.now.values) (elements c.args.except.now.values) in
-    rw (returns-clause-were_in g c, returns-clause-elements g c) (union_count s t (IsAscending-elements c.args.self.now.values))
+    let tells = returns-clause-changed g c ∙ ap (λ u. not (same_sets s u)) (returns-clause-elements g c) ∙ ap not (union_kept s t (IsAscending-elements c.args.self.now.values)) in
+    rw (tells, returns-clause-elements g c) (union_count s t (IsAscending-elements c.args.self.now.values))
 
 pub returns-clause-unchanged : goal.returns-clause-unchanged
 returns-clause-unchanged g c = told_unchanged (elements c.args.self.now.values) (elements c.unite_difference-changed.new.self.values) c.unite_difference-changed.result (returns-clause-changed g c)

@@ -13,6 +13,7 @@ returns g c =
     let ys = c.args.others.now in
     let left = ap (map f) c.split_at.ensures.back ∙ sym (drop-map f c.min.result xs) in
     let right = ap (map f) c.split_at-2.ensures.back ∙ sym (drop-map f c.min-2.result ys) in
-    let tells : IsTrue c.difference_is_zero.result ↔ MergesToFalse Difference w (drop c.min.result (map f xs)) (drop c.min-2.result (map f ys)) = rw (left, right) at c.difference_is_zero.ensures.zero in
+    let tells : IsTrue c.difference_is_zero.result
+    ↔ MergesToFalse Difference w (drop c.min.result (map f xs)) (drop c.min-2.result (map f ys)) = rw (left, right) at c.difference_is_zero.ensures.zero in
     rest_decides w at c.min.result c.min-2.result (map f xs) (map f ys) c.difference_is_zero.result g.met.B.BitBlock.width_law.positive
     (c.min.ensures ∙ ap (min at) (sym (length-map xs f))) (c.min-2.ensures ∙ ap (min at) (sym (length-map ys f))) c.requires.before tells

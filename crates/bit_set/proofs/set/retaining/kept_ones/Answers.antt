@@ -1,7 +1,8 @@
 use Rattle.std.proofs.Common.{◌≡◌, ◌<◌, ◌+◌, ◌^◌, All, [], ◌∷◌, arith, refl, length, ap, ◌∙◌, sym, subst, of_calls, Bool, true, false, not}
 use Rattle.std.proofs.lemmas.{Bool.{false≢true}, List.Elements.{All-head, All-tail}}
 use Rattle.bit_set.specs.Retained.{HasTested, ones}
-use Rattle.bit_set.proofs.{IndexLemmas.{AscendsFrom-indexes, indexes-lowest, indexes-none}, RetainLemmas.{ones-cleared, positive, tested-more, tested-none}, set.retaining.kept_ones.Given.Over, set.retaining.kept_ones.Goals.After-take_lowest_one-bit}
+use Rattle.bit_set.proofs.{IndexLemmas.{AscendsFrom-indexes, indexes-lowest, indexes-none}, RetainLemmas.{ones-cleared, positive, tested-more, tested-none}, set.retaining.kept_ones.Given.Over}
+use Rattle.bit_set.proofs.{set.retaining.kept_ones.Goals.After-take_lowest_one-bit}
 use Rattle.bit_set.proofs.set.retaining.kept_ones.Goals as goal
 
 pub loop-rest-init : goal.loop-rest-init
@@ -13,7 +14,8 @@ take_lowest_one-bit-requires-clause-of_block g c = c.loop-rest.invariant.of_rest
 pub take_lowest_one-bit-requires-clause-not_zero : goal.take_lowest_one-bit-requires-clause-not_zero
 take_lowest_one-bit-requires-clause-not_zero g c =
     positive (g.B.BitBlock.number c.loop-rest.rest) (λ none.
-    sym (c.ne.ensures ∙ ap not ((g.met.B.BitBlock.eq_law c.loop-rest.rest c.zero.result c.loop-rest.invariant.of_rest c.zero.ensures.of_block).1 (none ∙ sym c.zero.ensures.of_number))) ∙ c.loop-rest-test.true)
+    sym (c.ne.ensures ∙ ap not ((g.met.B.BitBlock.eq_law c.loop-rest.rest c.zero.result c.loop-rest.invariant.of_rest c.zero.ensures.of_block).1 (none ∙ sym c.zero.ensures.of_number)))
+    ∙ c.loop-rest-test.true)
 
 -- the next one is the first of those that are left
 next : (g : Over) (c : After-take_lowest_one-bit g) →
@@ -46,8 +48,10 @@ loop-rest-preserved-then-not-keep g c =
       callable = search (of_calls, before.callable, c.keep.ensures);
       of_rest = c.take_lowest_one-bit.ensures.of_block;
       of_kept = set.of_block;
-      tested = tested-more _ c.args.index c.args.keep.now (ones w c.args.index (number c.args.block)) c.loop-rest.keep (ones w c.args.index (number c.loop-rest.kept)) (c.args.index + c.take_lowest_one-bit.result) (ones w c.args.index (number c.take_lowest_one-bit.new.block))
-          (ones w c.args.index (number c.loop-rest.rest)) c.keep.result c.keep.new.self (ones w c.args.index (number c.with_bit-kept.result)) (AscendsFrom-indexes w c.args.index (number c.args.block) []) before.tested first c.keep.ensures (less ∙ grind (arith, c.if-not-keep.true));
+      tested = tested-more _ c.args.index c.args.keep.now (ones w c.args.index (number c.args.block)) c.loop-rest.keep
+          (ones w c.args.index (number c.loop-rest.kept)) (c.args.index + c.take_lowest_one-bit.result) (ones w c.args.index (number c.take_lowest_one-bit.new.block))
+          (ones w c.args.index (number c.loop-rest.rest)) c.keep.result c.keep.new.self (ones w c.args.index (number c.with_bit-kept.result))
+          (AscendsFrom-indexes w c.args.index (number c.args.block) []) before.tested first c.keep.ensures (less ∙ grind (arith, c.if-not-keep.true));
       fits = All-tail (λ n. n < 2 ^ 64) _ _ (subst (All (λ n. n < 2 ^ 64)) first before.fits);
     }
 
@@ -61,8 +65,10 @@ loop-rest-preserved g c =
       callable = search (of_calls, before.callable, c.keep.ensures);
       of_rest = c.take_lowest_one-bit.ensures.of_block;
       of_kept = before.of_kept;
-      tested = tested-more _ c.args.index c.args.keep.now (ones w c.args.index (number c.args.block)) c.loop-rest.keep (ones w c.args.index (number c.loop-rest.kept)) (c.args.index + c.take_lowest_one-bit.result) (ones w c.args.index (number c.take_lowest_one-bit.new.block))
-          (ones w c.args.index (number c.loop-rest.rest)) c.keep.result c.keep.new.self (ones w c.args.index (number c.loop-rest.kept)) (AscendsFrom-indexes w c.args.index (number c.args.block) []) before.tested first c.keep.ensures (grind (arith, c.if-not-keep.false));
+      tested = tested-more _ c.args.index c.args.keep.now (ones w c.args.index (number c.args.block)) c.loop-rest.keep
+          (ones w c.args.index (number c.loop-rest.kept)) (c.args.index + c.take_lowest_one-bit.result) (ones w c.args.index (number c.take_lowest_one-bit.new.block))
+          (ones w c.args.index (number c.loop-rest.rest)) c.keep.result c.keep.new.self (ones w c.args.index (number c.loop-rest.kept))
+          (AscendsFrom-indexes w c.args.index (number c.args.block) []) before.tested first c.keep.ensures (grind (arith, c.if-not-keep.false));
       fits = All-tail (λ n. n < 2 ^ 64) _ _ (subst (All (λ n. n < 2 ^ 64)) first before.fits);
     }
 
@@ -70,7 +76,8 @@ pub returns-clause-tested : goal.returns-clause-tested
 returns-clause-tested g c =
     let same : g.B.PartialEq.eq c.loop-rest.rest c.zero.result ≡ true = opposite _ (sym c.ne.ensures ∙ c.loop-rest-test.false) in
     let none = (g.met.B.BitBlock.eq_law c.loop-rest.rest c.zero.result c.loop-rest.invariant.of_rest c.zero.ensures.of_block).0 same ∙ c.zero.ensures.of_number in
-    subst (HasTested _ c.args.keep.now (ones g.B.BitBlock.width c.args.index (g.B.BitBlock.number c.args.block)) c.loop-rest.keep (ones g.B.BitBlock.width c.args.index (g.B.BitBlock.number c.loop-rest.kept))) (indexes-none g.B.BitBlock.width c.args.index _ none) c.loop-rest.invariant.tested
+    subst (HasTested _ c.args.keep.now (ones g.B.BitBlock.width c.args.index (g.B.BitBlock.number c.args.block)) c.loop-rest.keep
+    (ones g.B.BitBlock.width c.args.index (g.B.BitBlock.number c.loop-rest.kept))) (indexes-none g.B.BitBlock.width c.args.index _ none) c.loop-rest.invariant.tested
   where
     opposite : (b : Bool) → not b ≡ false → b ≡ true
     opposite true is = refl

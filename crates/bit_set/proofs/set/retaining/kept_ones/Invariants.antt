@@ -10,7 +10,8 @@ invariant-loop-rest g l =
       callable : goal.F-IsAlwaysCallable g l.keep;
       of_rest : g.B.BitBlock.is_block l.rest;
       of_kept : g.B.BitBlock.is_block l.kept;
-      tested : HasTested (λ state value passed next. goal.F-step g state value passed next) l.fn.keep (ones w l.index (g.B.BitBlock.number l.fn.block)) l.keep (ones w l.index (g.B.BitBlock.number l.kept)) rest;
+      tested : HasTested (λ state value passed next. goal.F-step g state value passed next) l.fn.keep
+          (ones w l.index (g.B.BitBlock.number l.fn.block)) l.keep (ones w l.index (g.B.BitBlock.number l.kept)) rest;
       fits : All (λ n. n < 2 ^ 64) rest;
     }
 

@@ -4,7 +4,9 @@ use Rattle.bit_set.proofs.{SparseLemmas.ones_ahead, walk.Iter.count.Goals.After-
 use Rattle.bit_set.proofs.walk.Iter.count.Goals as goal
 
 -- the ones of the blocks in hand and those between them are all, and can be counted
-all : (g : _) (c : After-self g) → (count_ones (g.B.BitBlock.number c.self.inside.block) + ones_left g.B.BitBlock.number c.self.inside.nonzero.left + count_ones (g.B.BitBlock.number c.self.inside.back) ≡ length c.args.self.left) × (length c.args.self.left < 2 ^ 64)
+all : (g : _) (c : After-self g)
+    → (count_ones (g.B.BitBlock.number c.self.inside.block) + ones_left g.B.BitBlock.number c.self.inside.nonzero.left + count_ones (g.B.BitBlock.number c.self.inside.back) ≡ length c.args.self.left)
+    × (length c.args.self.left < 2 ^ 64)
 all g c =
     let left = ap (λ walk. length walk.left) c.self.view_is in (
       ones_ahead g.B.BitBlock.width g.B.BitBlock.number g.B.BitBlock.is_block (λ x is. (g.met.B.BitBlock.number_law x is).0) _ _ _ c.self.invariant ∙ left,

@@ -4,7 +4,8 @@ use Rattle.bit_set.proofs.walk.Iter.nth.Goals as goal
 
 pub returns-in_err-next : goal.returns-in_err-next
 returns-in_err-next g c =
-    rw c.from_residual.ensures (skips_to_end g.B.BitBlock.width c.args.self.now c.loop-ahead.self c.next.new.self (c.args.n - c.loop-ahead.ahead) c.args.n c.loop-ahead.invariant.so (omega arith) c.in_err-next.ensures.steps)
+    rw c.from_residual.ensures (skips_to_end g.B.BitBlock.width c.args.self.now c.loop-ahead.self c.next.new.self
+    (c.args.n - c.loop-ahead.ahead) c.args.n c.loop-ahead.invariant.so (omega arith) c.in_err-next.ensures.steps)
 
 pub loop-ahead-preserved : goal.loop-ahead-preserved
 loop-ahead-preserved g c =
@@ -24,4 +25,5 @@ pub returns : goal.returns
 returns g c =
     let w = g.B.BitBlock.width in
     let calls : c.args.n - c.loop-ahead.ahead ≡ c.args.n = omega (arith, c.loop-ahead-test.false) in
-    skips w c.args.self.now c.loop-ahead.self c.next-2.new.self c.args.n c.next-2.result c.ascends.ensures (subst (λ n. Passes w n c.args.self.now c.loop-ahead.self) calls c.loop-ahead.invariant.so) c.next-2.ensures.steps
+    skips w c.args.self.now c.loop-ahead.self c.next-2.new.self c.args.n c.next-2.result c.ascends.ensures
+    (subst (λ n. Passes w n c.args.self.now c.loop-ahead.self) calls c.loop-ahead.invariant.so) c.next-2.ensures.steps

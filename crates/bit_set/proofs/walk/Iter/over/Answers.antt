@@ -4,7 +4,8 @@ use Rattle.bit_set.proofs.{FromLemmas.{BeginsFrom, begins_from, last_fits, start
 use Rattle.bit_set.proofs.walk.Iter.over.Goals as goal
 
 -- the walk as it is made
-begun : (g : _) (c : After-bits g) → BeginsFrom g.B.BitBlock.width g.B.BitBlock.number g.B.BitBlock.is_block c.args.bits.now.values 0 (record { block = c.block_or_zero.result; index = 0 }) c.nonzero_past_first.result (record { block = c.zero.result; index = c.saturating_sub.result * c.bits.result })
+begun : (g : _) (c : After-bits g) → BeginsFrom g.B.BitBlock.width g.B.BitBlock.number g.B.BitBlock.is_block c.args.bits.now.values 0
+    (record { block = c.block_or_zero.result; index = 0 }) c.nonzero_past_first.result (record { block = c.zero.result; index = c.saturating_sub.result * c.bits.result })
 begun g c =
     let w = g.B.BitBlock.width in
     let number = g.B.BitBlock.number in
@@ -14,7 +15,8 @@ begun g c =
     let none : 0 * w ≡ 0 = omega arith in
     let same = made.blocks ∙ sym c.storage-blocks.ensures.numbers in
     let count : length t.blocks ≡ length c.storage-blocks.result.now = sym (length-map t.blocks number) ∙ ap length same ∙ length-map c.storage-blocks.result.now number in
-    rw (c.bits.ensures, c.saturating_sub.ensures, ← count) (rw none at (begins_from w number g.B.BitBlock.is_block c.args.bits.now.values 0 0 c.block_or_zero.result c.zero.result t g.met.B.BitBlock.width_law.positive
+    rw (c.bits.ensures, c.saturating_sub.ensures, ← count)
+    (rw none at (begins_from w number g.B.BitBlock.is_block c.args.bits.now.values 0 0 c.block_or_zero.result c.zero.result t g.met.B.BitBlock.width_law.positive
     (λ x is. (g.met.B.BitBlock.number_law x is).0)
     (record { numbers = made.blocks; each = made.each; start = made.start; fits = omega (arith, made.fits.holds_values, made.fits.fits) })
     c.block_or_zero.ensures.of_block c.zero.ensures.of_block c.zero.ensures.of_number

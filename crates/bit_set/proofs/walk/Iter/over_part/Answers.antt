@@ -1,14 +1,16 @@
-use Rattle.std.proofs.{Common.{◌≡◌, ℕ, ◌+◌, ◌-◌, ◌*◌, ◌/◌, ◌^◌, ◌<◌, ◌≤◌, ◌&&◌, pow_pos, leb, max, min, length, get_or, ap, refl, sym, subst, ◌∙◌, arith}, lemmas.List.length-map}
+use Rattle.std.proofs.{Common.{◌≡◌, ◌-◌, ◌*◌, ◌/◌, ◌≤◌, ◌&&◌, pow_pos, leb, min, length, get_or, ap, refl, sym, subst, ◌∙◌, arith}, lemmas.List.length-map}
 use Rattle.bit_blocks.specs.{Bits.blocks_for, Digits.is_one}
 use Rattle.bit_words.specs.Nonzero.{CutsAt, Hand, walk_past}
-use Rattle.bit_set.{specs.{Indexes.{seen_of, IsSparseWalk}, Walk.IsAtStartOfPart}, proofs.{FromLemmas.{BeginsFrom, begins_from}, PartLemmas.begins_part, SparseLemmas.whole_index, WalkLemmas.length-blocks, walk.Iter.over_part.Goals.After-clear_from}}
+use Rattle.bit_set.specs.{Indexes.{seen_of, IsSparseWalk}, Walk.IsAtStartOfPart}
+use Rattle.bit_set.proofs.{FromLemmas.{begins_from}, PartLemmas.begins_part, SparseLemmas.whole_index, WalkLemmas.length-blocks, walk.Iter.over_part.Goals.After-clear_from}
 use Rattle.bit_set.proofs.walk.Iter.over_part.Goals as goal
 
 -- the walk as it is made
 begun : (g : _) (c : After-clear_from g) →
     let front : Hand _ = record { block = c.clear_from.result; index = c.block_from-first.result.0 * c.bits.result } in
     let back : Hand _ = record { block = c.nonzero_between-nonzero.result.1; index = c.last_of_part-last.result * c.bits-2.result } in
-    IsSparseWalk g.B.BitBlock.width g.B.BitBlock.number g.B.BitBlock.is_block front c.nonzero_between-nonzero.result.0 back × IsAtStartOfPart g.B.BitBlock.width c.args.bits.now.values c.args.start c.args.end (seen_of g.B.BitBlock.width g.B.BitBlock.number front c.nonzero_between-nonzero.result.0 back)
+    IsSparseWalk g.B.BitBlock.width g.B.BitBlock.number g.B.BitBlock.is_block front c.nonzero_between-nonzero.result.0 back
+    × IsAtStartOfPart g.B.BitBlock.width c.args.bits.now.values c.args.start c.args.end (seen_of g.B.BitBlock.width g.B.BitBlock.number front c.nonzero_between-nonzero.result.0 back)
 begun g c =
     let w = g.B.BitBlock.width in
     let number = g.B.BitBlock.number in
@@ -35,7 +37,8 @@ begun g c =
     let last_is = whole_index w last pos in
     let top_is = whole_index w (length xs - 1) pos in
     let top = length-blocks w number xs values made.blocks in
-    rw (c.bits.ensures, c.bits-2.ensures) (begins_part w number is_block pos (λ x is. (g.met.B.BitBlock.number_law x is).0) values c.args.start c.args.end (record { block = block; index = k * w }) (record { block = naught; index = (length xs - 1) * w }) (record { block = c.nonzero_between-nonzero.result.1; index = last * w }) s c.nonzero_between-nonzero.result.0 c.clear_from.result
+    rw (c.bits.ensures, c.bits-2.ensures) (begins_part w number is_block pos (λ x is. (g.met.B.BitBlock.number_law x is).0) values c.args.start c.args.end (record { block = block; index = k * w })
+    (record { block = naught; index = (length xs - 1) * w }) (record { block = c.nonzero_between-nonzero.result.1; index = last * w }) s c.nonzero_between-nonzero.result.0 c.clear_from.result
     (record {
       begins = begins;
       used_up = zero.1;
@@ -43,7 +46,8 @@ begun g c =
       last = top_is ∙ ap (λ n. n - 1) top;
       at = last_is ∙ c.last_of_part-last.ensures ∙ omega (arith, k_is, top_is, count);
       whole = ap (λ n. n * w) (sym last_is);
-      cut = rw last_is (subst (λ i. CutsAt w number last (c.args.end - last * w) (walk_past w number i xs) c.nonzero_between-nonzero.result.1 c.nonzero_between-nonzero.result.0) first (rw (c.saturating_sub.ensures, c.bits-2.ensures) at made.cut));
+      cut = rw last_is (subst (λ i. CutsAt w number last (c.args.end - last * w) (walk_past w number i xs) c.nonzero_between-nonzero.result.1 c.nonzero_between-nonzero.result.0) first
+          (rw (c.saturating_sub.ensures, c.bits-2.ensures) at made.cut));
       at_back = c.nonzero_between-nonzero.ensures.of_block;
       in_hand = c.clear_from.ensures.of_block;
       digit = rw (c.saturating_sub-2.ensures, c.bits.ensures) at c.clear_from.ensures.digits;

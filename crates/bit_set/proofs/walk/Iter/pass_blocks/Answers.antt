@@ -14,7 +14,8 @@ passed : (g : Over) (c : After-skip_blocks g) →
 passed g c =
     let w = g.B.BitBlock.width in
     let zero = c.zero-self-inside in
-    let (walk, there, passes) = all_passed w g.B.BitBlock.number g.B.BitBlock.is_block (λ x is. (g.met.B.BitBlock.number_law x is).0) _ _ _ _ zero.result c.skip_blocks.result c.self.invariant zero.ensures.of_block zero.ensures.of_number c.skip_blocks.ensures.skips in
+    let (walk, there, passes) = all_passed w g.B.BitBlock.number g.B.BitBlock.is_block
+    (λ x is. (g.met.B.BitBlock.number_law x is).0) _ _ _ _ zero.result c.skip_blocks.result c.self.invariant zero.ensures.of_block zero.ensures.of_number c.skip_blocks.ensures.skips in
     let left = ap (λ walk. length walk.left) c.self.view_is in
     (walk, omega (arith, there, left, c.count_ones-ones.ensures), rw (c.count_ones-ones.ensures, ← c.self.view_is) passes)
 

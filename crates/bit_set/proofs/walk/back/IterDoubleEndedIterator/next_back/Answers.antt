@@ -1,5 +1,6 @@
-use Rattle.std.proofs.Common.{ℕ, ◌+◌, ◌<◌, ◌^◌, length, length-append, Some, ap, arith}
-use Rattle.bit_set.{specs.{Indexes.{seen_of, IsSparseWalk}, Walk.AdvancesBack}, proofs.{SparseLemmas.{refilled_back, refilled_back-end, given_last}, walk.back.IterDoubleEndedIterator.next_back.Goals.After-take_highest_one}}
+use Rattle.std.proofs.Common.{ℕ, ◌+◌, ◌-◌, ◌<◌, ◌^◌, length, length-append, Some, ap, arith}
+use Rattle.bit_set.specs.{Indexes.{seen_of, IsSparseWalk}, Walk.AdvancesBack}
+use Rattle.bit_set.proofs.{SparseLemmas.{refilled_back, refilled_back-end, given_last}, walk.back.IterDoubleEndedIterator.next_back.Goals.After-take_highest_one}
 use Rattle.bit_set.proofs.walk.back.IterDoubleEndedIterator.next_back.Goals as goal
 
 -- the last element, out of the block that has it
@@ -7,14 +8,17 @@ given : (g : _) (c : After-take_highest_one g) →
     let old = c.self.inside in
     let new = c.refill_back.new in
     let x = new.back_index + c.take_highest_one.result in
-    IsSparseWalk g.B.BitBlock.width g.B.BitBlock.number g.B.BitBlock.is_block (record { block = new.block; index = old.index }) new.self (record { block = c.take_highest_one.new.block; index = new.back_index }) × (x < 2 ^ 64)
-    × AdvancesBack g.B.BitBlock.width (seen_of g.B.BitBlock.width g.B.BitBlock.number (record { block = old.block; index = old.index }) old.nonzero (record { block = old.back; index = old.back_index })) (Some x)
+    IsSparseWalk g.B.BitBlock.width g.B.BitBlock.number g.B.BitBlock.is_block (record { block = new.block; index = old.index }) new.self
+    (record { block = c.take_highest_one.new.block; index = new.back_index }) × (x < 2 ^ 64 - 1)
+    × AdvancesBack g.B.BitBlock.width
+    (seen_of g.B.BitBlock.width g.B.BitBlock.number (record { block = old.block; index = old.index }) old.nonzero (record { block = old.back; index = old.back_index })) (Some x)
     (seen_of g.B.BitBlock.width g.B.BitBlock.number (record { block = new.block; index = old.index }) new.self (record { block = c.take_highest_one.new.block; index = new.back_index }))
 given g c =
     let pos = g.met.B.BitBlock.width_law.positive in
     let taken = c.take_highest_one.ensures in
     given_last g.B.BitBlock.width g.B.BitBlock.number g.B.BitBlock.is_block pos _ _ _ _ _ _
-    (refilled_back g.B.BitBlock.width g.B.BitBlock.number g.B.BitBlock.is_block pos _ _ _ _ _ _ c.self.invariant c.if-not-refill_back.ensures.of_back c.if-not-refill_back.ensures.of_block c.if-not-refill_back.ensures.refills)
+    (refilled_back g.B.BitBlock.width g.B.BitBlock.number g.B.BitBlock.is_block pos _ _ _ _ _ _ c.self.invariant
+    c.if-not-refill_back.ensures.of_back c.if-not-refill_back.ensures.of_block c.if-not-refill_back.ensures.refills)
     taken.of_block (g.met.B.BitBlock.number_law _ taken.of_block).0 taken.highest taken.within taken.cleared
 
 pub invariant_of-self : goal.invariant_of-self

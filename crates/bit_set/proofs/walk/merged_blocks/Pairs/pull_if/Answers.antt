@@ -12,7 +12,8 @@ pub returns-clause-steps : goal.returns-clause-steps
 returns-clause-steps g c =
     rw (← c.self.view_is) (both_pulled_if _ _ _ _ _ _ _ _ _ _ _ _ _ _ c.in-Some-Some.is-0 c.in-Some-Some.is-1 c.next_if.ensures c.next_if-2.ensures (record { digit = c.of_blocks.ensures.digits }))
 
-sound : (g : _) (c : After-next_if-2 g) → (All g.B.BitBlock.is_block c.next_if.new.self.left) × (All g.B.BitBlock.is_block c.next_if-2.new.self.left) × (c.next_if-2.new.self.pulls ≡ c.next_if.new.self.pulls)
+sound : (g : _) (c : After-next_if-2 g) → (All g.B.BitBlock.is_block c.next_if.new.self.left)
+    × (All g.B.BitBlock.is_block c.next_if-2.new.self.left) × (c.next_if-2.new.self.pulls ≡ c.next_if.new.self.pulls)
 sound g c = (
   (All-next_if _ _ _ _ _ _ c.self.invariant.0 c.next_if.ensures).1,
   (All-next_if _ _ _ _ _ _ c.self.invariant.1 c.next_if-2.ensures).1,

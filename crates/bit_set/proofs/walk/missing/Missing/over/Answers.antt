@@ -4,7 +4,8 @@ use Rattle.bit_set.{proofs.{MissingLemmas.{BeginsMissing, begins_missing}, walk.
 use Rattle.bit_set.proofs.walk.missing.Missing.over.Goals as goal
 
 -- the walk as it is made
-begun : (g : _) (c : After-clear_below g) → BeginsMissing (g.B.BitBlock.is_block c.clear_below.result) g.B.BitBlock.width (c.min-from.result / c.bits.result * c.bits-2.result) (g.B.BitBlock.number c.clear_below.result) c.args.start c.args.end c.args.bits.now.values
+begun : (g : _) (c : After-clear_below g) → BeginsMissing (g.B.BitBlock.is_block c.clear_below.result) g.B.BitBlock.width
+    (c.min-from.result / c.bits.result * c.bits-2.result) (g.B.BitBlock.number c.clear_below.result) c.args.start c.args.end c.args.bits.now.values
 begun g c =
     let w = g.B.BitBlock.width in
     let k = c.min-from.result / c.bits.result in

@@ -11,8 +11,10 @@ went : (g : _) (c : After-bits g) →
     IsWalk (g.B.BitBlock.is_block new) w at (number new) c.pull_if.new.self × GoesOn w (seen_of_two w it.index (number it.block) it.source) (seen_of_two w at (number new) c.pull_if.new.self)
 went g c =
     let it = c.self.inside in
-    let zero : c.eq-used_up.result ≡ true → g.B.BitBlock.number it.block ≡ 0 = λ wanted. (g.met.B.BitBlock.eq_law it.block c.zero.result c.self.invariant.in_hand c.zero.ensures.of_block).0 (sym c.eq-used_up.ensures ∙ wanted) ∙ c.zero.ensures.of_number in
-    went_on g.B.BitBlock.is_block g.B.BitBlock.width it.index _ g.B.BitBlock.number it.block c.if-used_up.self c.in-Some.next c.eq-used_up.result _ _ c.self.invariant c.in-Some.ensures.given zero c.in-Some.ensures.steps
+    let zero : c.eq-used_up.result ≡ true → g.B.BitBlock.number it.block ≡ 0 =
+    λ wanted. (g.met.B.BitBlock.eq_law it.block c.zero.result c.self.invariant.in_hand c.zero.ensures.of_block).0 (sym c.eq-used_up.ensures ∙ wanted) ∙ c.zero.ensures.of_number in
+    went_on g.B.BitBlock.is_block g.B.BitBlock.width it.index _ g.B.BitBlock.number it.block c.if-used_up.self
+    c.in-Some.next c.eq-used_up.result _ _ c.self.invariant c.in-Some.ensures.given zero c.in-Some.ensures.steps
     (elim c.if-used_up.branch [ then-used_up at ↦ inl (at.if-used_up.true, at.self-is) | else-used_up at ↦ inr (at.if-used_up.false, at.self-is) ])
     (ap₂ (λ k n. it.index + k * n) c.from.ensures c.bits.ensures)
 

@@ -1,0 +1,79 @@
+// Calls that make a set, in one pass, what it and two others give, and tell whether that changed it. They write no block
+// before the first that change.
+ghost use Rattle.std.specs.Prelude.{◌≡◌, ◌+◌, ◌≤◌, max, not, if◌then◌else◌, IfOk, OnOk, length, false};
+ghost use Rattle.bit_words.specs.Growth.{Grows};
+ghost use Rattle.bit_set.specs.Members.{IsCounted, IsDifference, IsUnionWithIntersection};
+ghost use Rattle.bit_set.specs.Sets.{elements, union, intersection, difference, is_subset};
+ghost use Rattle.bit_set.specs.{Changes.{Change, Changes, outcome_of_flag}, Order.same_sets};
+
+use crate::bit_vec::Merge;
+use crate::{BitBlock, BitSet};
+use std::alloc::AllocError;
+
+impl<B: BitBlock> BitSet<B> {
+    /// Puts in what is both in `other` and in `also`, and returns whether some of it was not in. The length becomes the
+    /// greater of the set's own and that of `other`. One pass over the blocks of all three sets, and no memory within the
+    /// capacity. Fails only where the length of `other` passes the capacity and no memory is found; elements, length and
+    /// capacity then stay.
+    ///
+    /// ```
+    /// // Of what is wanted, what is at hand is found too.
+    /// let grew = found.union_with_intersection(&wanted, &at_hand)?;
+    /// ```
+    pub fn union_with_intersection(&mut self, other: &Self, also: &Self) -> Result<bool, AllocError>
+        ensures elements { OnOk result (elements self.new.values ≡ union (elements self.old.values)
+            (intersection (elements other.now.values) (elements also.now.values))) }
+        ensures members { OnOk result (IsUnionWithIntersection (elements self.old.values) (elements other.now.values)
+            (elements also.now.values) (elements self.new.values)) }
+        ensures changed { IfOk result (λ changed. changed
+            ≡ not (same_sets (elements self.old.values) (elements self.new.values))) }
+        ensures unchanged { IfOk result (λ changed. changed ≡ false
+            → elements self.new.values ≡ elements self.old.values) }
+        ensures were_in { IfOk result (λ changed. changed
+            ≡ not (is_subset (intersection (elements other.now.values) (elements also.now.values))
+            (elements self.old.values))) }
+        ensures count { IfOk result (λ changed. length (elements self.old.values) + (if changed then 1 else 0)
+            ≤ length (elements self.new.values)) }
+        ensures counted { OnOk result (IsCounted self.new.values) }
+        ensures length { OnOk result (length self.new.values ≡ max (length self.old.values) (length other.now.values)) }
+        ensures grows { Grows (length other.now.values) result self.old self.new }
+        ensures changes { Changes (Change.MergeChanges Merge.Union
+            (intersection (elements other.now.values) (elements also.now.values)))
+            self.old.values (outcome_of_flag result) self.new.values }
+    {
+        self.lengthen(other.bits.len())?;
+        let changed = self.bits.unite_intersection(&other.bits, &also.bits);
+        prove!(self.bits.len() <= usize::MAX);
+        Ok(changed)
+    }
+
+    /// Makes the elements those of `other` that are not in `except`, and returns whether they were others before. The
+    /// length becomes the greater of the set's own and that of `other`. One pass over the blocks of all three sets, and no
+    /// memory within the capacity. Fails only where the length of `other` passes the capacity and no memory is found;
+    /// elements, length and capacity then stay.
+    ///
+    /// ```
+    /// // What is asked for and was not given yet.
+    /// let differs = left.copy_difference(&asked, &given)?;
+    /// ```
+    pub fn copy_difference(&mut self, other: &Self, except: &Self) -> Result<bool, AllocError>
+        ensures elements { OnOk result (elements self.new.values
+            ≡ difference (elements other.now.values) (elements except.now.values)) }
+        ensures members { OnOk result (IsDifference (elements other.now.values) (elements except.now.values)
+            (elements self.new.values)) }
+        ensures changed { IfOk result (λ changed. changed
+            ≡ not (same_sets (elements self.old.values) (elements self.new.values))) }
+        ensures unchanged { IfOk result (λ changed. changed ≡ false
+            → elements self.new.values ≡ elements self.old.values) }
+        ensures counted { OnOk result (IsCounted self.new.values) }
+        ensures length { OnOk result (length self.new.values ≡ max (length self.old.values) (length other.now.values)) }
+        ensures grows { Grows (length other.now.values) result self.old self.new }
+        ensures changes { Changes (Change.CopyDifference (elements other.now.values) (elements except.now.values))
+            self.old.values (outcome_of_flag result) self.new.values }
+    {
+        self.lengthen(other.bits.len())?;
+        let changed = self.bits.become_difference(&other.bits, &except.bits);
+        prove!(self.bits.len() <= usize::MAX);
+        Ok(changed)
+    }
+}
