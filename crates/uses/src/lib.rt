@@ -23,6 +23,8 @@ pub mod matrices;
 pub mod merging;
 pub mod reading;
 pub mod relations;
+pub mod round_one;
+pub mod round_two;
 pub mod searching;
 pub mod selecting;
 pub mod worklists;

@@ -10,9 +10,15 @@ mod commands_tests;
 #[cfg(test)]
 mod expect;
 #[cfg(test)]
+mod kinds_tests;
+#[cfg(test)]
 mod loops_tests;
 #[cfg(test)]
 mod matrices_tests;
+#[cfg(test)]
+mod rounds_tests;
+#[cfg(test)]
+mod rows_tests;
 #[cfg(test)]
 mod set_tests;
 #[cfg(test)]

@@ -1,0 +1,42 @@
+//! What is not in a set.
+ghost use Rattle.std.specs.Prelude.{◌≡◌, ℕ, ◌+◌, ◌&&◌, not, nat_lt, length, IfOk, nat_le};
+ghost use Rattle.bit_set.specs.Sets.{elements, has, those_below, IsAscending};
+
+use bit_set::{BitBlock, BitSet, SetError};
+use std::alloc::{AllocError, Global};
+
+/// The numbers below `n` that are not in the set. With the members below `n` they are `n` many.
+pub fn complement_below<B: BitBlock>(
+    alloc: Global,
+    set: &BitSet<B>,
+    n: usize,
+) -> Result<BitSet<B>, SetError>
+    ensures members { IfOk result (λ rest. (x : ℕ) → has (elements rest.values) x
+        ≡ (nat_lt x n && not (has (elements set.now.values) x))) }
+    ensures count { IfOk result (λ rest. length (elements rest.values) + length (those_below (elements set.now.values) n) ≡ n) }
+{
+    let mut rest = BitSet::new_general(alloc);
+    rest.insert_range(0..n)?;
+    rest.difference_with(set)?;
+    Ok(rest)
+}
+
+/// The ports from `low` on and below `high` that are not in use, in ascending order.
+pub fn free_ports<B: BitBlock>(
+    alloc: Global,
+    used: &BitSet<B>,
+    low: usize,
+    high: usize,
+) -> Result<Vec<usize>, AllocError>
+    ensures members { IfOk result (λ ports. (x : ℕ) → has ports.items x
+        ≡ (nat_le low x && nat_lt x high && not (has (elements used.now.values) x))) }
+    ensures ascends { IfOk result (λ ports. IsAscending ports.items) }
+{
+    let mut ports = Vec::new(alloc);
+    for port in low..high {
+        if !used.contains(port) {
+            ports.push(port)?;
+        }
+    }
+    Ok(ports)
+}

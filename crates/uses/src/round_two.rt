@@ -1,0 +1,8 @@
+//! Callers of a second round, for which nothing in the library was changed.
+
+pub mod allocating;
+pub mod complements;
+pub mod filtering;
+pub mod from_the_back;
+pub mod merging;
+pub mod selecting;

@@ -1,0 +1,32 @@
+//! Numbers that are handed out.
+ghost use Rattle.std.specs.Prelude.{◌≡◌, ℕ, ◌+◌, ◌≤◌, ◌&&◌, ◌||◌, nat_lt, nat_le, IsOk, IfOk, OnErr, IfSome, IfNone};
+ghost use Rattle.bit_set.specs.Sets.{elements, has};
+ghost use Rattle.bit_set.specs.Gaps.{IsFirstGap, HasAmong};
+
+use bit_set::{BitBlock, BitSet, SetError};
+
+/// Claims the first `count` free pages in a row that end by `limit`, and gives the first of them; None where there are no
+/// such pages. Where it claims none, the pages stay as they were.
+pub fn claim_run<B: BitBlock>(
+    used: &mut BitSet<B>,
+    count: usize,
+    limit: usize,
+) -> Result<Option<usize>, SetError>
+    ensures first { IfOk result (λ found. IfSome found (λ at. IsFirstGap (elements used.old.values) 0 count at)) }
+    ensures within { IfOk result (λ found. IfSome found (λ at. at + count ≤ limit)) }
+    ensures claimed { IfOk result (λ found. IfSome found (λ at. (x : ℕ) → has (elements used.new.values) x
+        ≡ ((nat_le at x && nat_lt x (at + count)) || has (elements used.old.values) x))) }
+    ensures none { IfOk result (λ found. IfNone found
+        ((at : ℕ) → at + count ≤ limit → HasAmong (elements used.old.values) count at)) }
+    ensures unchanged { IfOk result (λ found. IfNone found (elements used.new.values ≡ elements used.old.values)) }
+    ensures err { OnErr result (elements used.new.values ≡ elements used.old.values) }
+    ensures succeeds { limit ≤ used.old.capacity → IsOk result }
+{
+    match used.first_gap(0, count) {
+        Some(at) if at + count <= limit => {
+            used.insert_range(at..at + count)?;
+            Ok(Some(at))
+        }
+        _ => Ok(None),
+    }
+}
