@@ -12,6 +12,7 @@ use std::alloc::{AllocError, Global};
 enum Making {
     WithCapacity,
     FromBytes,
+    FromBytesLsb,
     FromIter,
     FromRanges,
     UnionOf,
@@ -22,12 +23,14 @@ enum Making {
     BitsClone,
     BitsCloneTail,
     ToBytes,
+    ToBytesLsb,
 }
 
 #[derive(Clone, Copy)]
 enum PlainMaking {
     WithCapacity,
     FromBytes,
+    FromBytesLsb,
     BitsFromElem,
     BitsFromBytes,
 }
@@ -51,6 +54,17 @@ const ROWS: &[Row<OnSets<Making>>] = &[
             call: Making::FromBytes,
             capacity: Capacity::Exact,
             returned: State::Of(&[0, 9, 90, 127], 128),
+            lent: LENT,
+            failed: FIRST,
+        },
+    },
+    Row {
+        name: "from_bytes_lsb",
+        asks: &[Ask::Exact(128)],
+        call: OnSets {
+            call: Making::FromBytesLsb,
+            capacity: Capacity::Exact,
+            returned: State::Of(&[7, 14, 93, 120], 128),
             lent: LENT,
             failed: FIRST,
         },
@@ -166,6 +180,17 @@ const ROWS: &[Row<OnSets<Making>>] = &[
             failed: FIRST,
         },
     },
+    Row {
+        name: "to_bytes_lsb",
+        asks: &[Ask::Other(1, 626), Ask::Exact(5008)],
+        call: OnSets {
+            call: Making::ToBytesLsb,
+            capacity: Capacity::Exact,
+            returned: State::Of(&[3, 7, 5000], 5008),
+            lent: LENT,
+            failed: FIRST,
+        },
+    },
 ];
 
 // The calls that are over blocks of 32 bits alone.
@@ -188,6 +213,17 @@ const PLAIN_ROWS: &[Row<OnSets<PlainMaking>>] = &[
             call: PlainMaking::FromBytes,
             capacity: Capacity::Exact,
             returned: State::Of(&[0, 9, 90, 127], 128),
+            lent: LENT,
+            failed: FIRST,
+        },
+    },
+    Row {
+        name: "plain_from_bytes_lsb",
+        asks: &[Ask::Exact(128)],
+        call: OnSets {
+            call: PlainMaking::FromBytesLsb,
+            capacity: Capacity::Exact,
+            returned: State::Of(&[7, 14, 93, 120], 128),
             lent: LENT,
             failed: FIRST,
         },
@@ -269,15 +305,23 @@ fn there_and_back<B: BitBlock>(alloc: Global, lent: &BitSet<B>) -> Result<BitSet
     Ok(BitSet::from_bytes_general(alloc, &bytes)?)
 }
 
+// The same in the other order.
+fn there_and_back_lsb<B: BitBlock>(alloc: Global, lent: &BitSet<B>) -> Result<BitSet<B>, Fault> {
+    let bytes = lent.to_bytes_lsb(alloc)?;
+    Ok(BitSet::from_bytes_lsb_general(alloc, &bytes)?)
+}
+
 fn new_set<B: BitBlock>(alloc: Global, call: Making, lent: &BitSet<B>) -> Result<BitSet<B>, Fault> {
     match call {
         Making::WithCapacity | Making::UnionOf | Making::IntersectionOf | Making::Clone => {
             Ok(copied_set(alloc, call, lent)?)
         }
         Making::FromBytes => Ok(BitSet::from_bytes_general(alloc, &BYTES)?),
+        Making::FromBytesLsb => Ok(BitSet::from_bytes_lsb_general(alloc, &BYTES)?),
         Making::FromIter => Ok(set_of(alloc, &[9, 450, 5000])?),
         Making::FromRanges => Ok(BitSet::from_ranges(alloc, "9, 450,5000")?),
         Making::ToBytes => there_and_back(alloc, lent),
+        Making::ToBytesLsb => there_and_back_lsb(alloc, lent),
         _ => Ok(BitSet::from_bit_vec_general(new_bits(alloc, call, lent.get_ref())?)),
     }
 }
@@ -293,6 +337,7 @@ fn new_plain_set(alloc: Global, call: PlainMaking) -> Result<BitSet<u32>, Fault>
     match call {
         PlainMaking::WithCapacity => Ok(BitSet::with_capacity(alloc, 5000)?),
         PlainMaking::FromBytes => Ok(BitSet::from_bytes(alloc, &BYTES)?),
+        PlainMaking::FromBytesLsb => Ok(BitSet::from_bytes_lsb(alloc, &BYTES)?),
         _ => Ok(BitSet::from_bit_vec(new_plain_bits(alloc, call)?)),
     }
 }

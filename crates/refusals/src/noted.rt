@@ -14,6 +14,8 @@ enum Noted {
     Difference,
     Symmetric,
     UnionWithDifference,
+    UnionWithIntersection,
+    CopyDifference,
 }
 
 const ROWS: &[Row<OnSets<Noted>>] = &[
@@ -94,6 +96,28 @@ const ROWS: &[Row<OnSets<Noted>>] = &[
             failed: FIRST,
         },
     },
+    Row {
+        name: "union_with_intersection",
+        asks: &[Ask::Grown(5001)],
+        call: OnSets {
+            call: Noted::UnionWithIntersection,
+            capacity: Capacity::Short,
+            returned: State::Of(&[3, 7, 447, 5000], 5001),
+            lent: LENT,
+            failed: FIRST,
+        },
+    },
+    Row {
+        name: "copy_difference",
+        asks: &[Ask::Grown(5001)],
+        call: OnSets {
+            call: Noted::CopyDifference,
+            capacity: Capacity::Short,
+            returned: LENT,
+            lent: LENT,
+            failed: FIRST,
+        },
+    },
 ];
 
 // Each call changes the set.
@@ -109,6 +133,8 @@ fn changed_by<B: BitBlock>(
         Noted::Difference => set.difference_changes(lent),
         Noted::Symmetric => set.symmetric_difference_changes(lent),
         Noted::UnionWithDifference => set.union_with_difference(lent, &BitSet::new_general(alloc)),
+        Noted::UnionWithIntersection => set.union_with_intersection(lent, lent),
+        Noted::CopyDifference => set.copy_difference(lent, &BitSet::new_general(alloc)),
     }
 }
 
