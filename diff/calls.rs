@@ -32,6 +32,8 @@ calls! {
         WithCapacityGeneral "with_capacity_general" "sn"
         FromBytes "from_bytes" "s*"
         FromBytesGeneral "from_bytes_general" "s*"
+        FromBytesLsb "from_bytes_lsb" "s*"
+        FromBytesLsbGeneral "from_bytes_lsb_general" "s*"
         FromIter "from_iter" "s*"
         BitsNew "bits.new" "s"
         BitsNewGeneral "bits.new_general" "s"
@@ -64,6 +66,8 @@ calls! {
         DifferenceChanges "difference_changes" "st"
         SymmetricDifferenceChanges "symmetric_difference_changes" "st"
         UnionWithDifference "union_with_difference" "stn"
+        UnionWithIntersection "union_with_intersection" "stn"
+        CopyDifference "copy_difference" "stn"
         InsertRange "insert_range" "snm"
         RemoveRange "remove_range" "snm"
         ToggleRange "toggle_range" "snm"
@@ -107,9 +111,14 @@ calls! {
         Previous "previous" "sn"
         NextMissing "next_missing" "sn"
         ToBytes "to_bytes" "s"
+        ToBytesLsb "to_bytes_lsb" "s"
         FirstGap "first_gap" "snm"
         IsProperSubset "is_proper_subset" "st"
         Ranges "ranges" "s"
+        UnionCount "union_count" "st"
+        IntersectionCount "intersection_count" "st"
+        DifferenceCount "difference_count" "st"
+        SymmetricDifferenceCount "symmetric_difference_count" "st"
     }
     Walk {
         Iter "iter" "snm"
@@ -146,6 +155,8 @@ calls! {
         BitsMergeChangesDifference "bits.merge_changes_difference" "st"
         BitsMergeChangesSymmetric "bits.merge_changes_symmetric" "st"
         BitsUniteDifference "bits.unite_difference" "stn"
+        BitsUniteIntersection "bits.unite_intersection" "stn"
+        BitsBecomeDifference "bits.become_difference" "stn"
         BitsSetRange "bits.set_range" "snm"
         BitsClearRange "bits.clear_range" "snm"
         BitsNegateRange "bits.negate_range" "snm"
@@ -218,6 +229,24 @@ impl Line {
 
     pub fn bytes(&self) -> Vec<u8> {
         self.numbers.iter().map(|number| *number as u8).collect()
+    }
+
+    /// Whether the call makes a set what it and two others give.
+    pub fn is_fused(&self) -> bool {
+        match self.call {
+            Call::UnionWithDifference | Call::UnionWithIntersection | Call::CopyDifference => true,
+            _ => self.is_fused_of_bits(),
+        }
+    }
+
+    /// Likewise a list of bits, which the second must not be longer than.
+    pub fn is_fused_of_bits(&self) -> bool {
+        matches!(self.call, Call::BitsUniteDifference | Call::BitsUniteIntersection | Call::BitsBecomeDifference)
+    }
+
+    /// Those of which calls in the other order make the same.
+    pub fn reversed_bytes(&self) -> Vec<u8> {
+        self.bytes().iter().map(|byte| byte.reverse_bits()).collect()
     }
 
     /// Whether the call is left out, since it would change a set by itself.

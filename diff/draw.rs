@@ -1,31 +1,65 @@
-//! Scripts drawn at random. Each script has a size of its own: how long its sets are, and how dense.
+//! Scripts drawn at random. Each script has a size of its own: how long its sets are, and how dense; half of them have sets
+//! of one shape.
 use crate::calls::{CALLS, Call, Group, Line};
 use crate::model::{Model, width};
 use crate::random::Random;
+
+/// What the sets of a script are like: any sets; long ones of few elements; of nearly all; of runs.
+#[derive(Clone, Copy, PartialEq)]
+pub enum Shape {
+    Any,
+    Few,
+    Full,
+    Runs,
+}
 
 /// Draws the lines of one script, each by what the sets then have.
 pub struct Draw {
     random: Random,
     lines_left: usize,
+    pub shape: Shape,
     /// The lengths that are drawn stay below this, and sets of more elements are emptied.
     most: usize,
     most_elements: usize,
 }
 
+/// How long the sets of a script get, and of more than how many elements one is emptied.
+fn any_size(random: &mut Random) -> (usize, usize) {
+    let summary = width() * width();
+    match random.below(1000) {
+        0..200 => (3 * width() + 2, usize::MAX),
+        200..450 => (2 * summary + 2, usize::MAX),
+        450..700 => (9 * summary + 2, 20_000),
+        700..950 => (35 * summary + 2, 20_000),
+        950..995 => (1 << 20, 20_000),
+        _ => (5_000_000, 500_000),
+    }
+}
+
+/// The same of a script whose sets are long. Full ones are no longer than the model has time for.
+fn long_size(random: &mut Random, shape: Shape) -> (usize, usize) {
+    let summary = width() * width();
+    let most = random.of(&[2, 9, 9, 35, 35, 70]) * summary + 2;
+    match shape {
+        Shape::Few if random.once_in(8) => (random.of(&[1 << 20, 1 << 22]), 60),
+        Shape::Few => (most.min(1 << 20), 60),
+        Shape::Full => (most.min(if random.once_in(20) { 200_000 } else { 20_000 }), usize::MAX),
+        _ => (most.min(1 << 20), 20_000),
+    }
+}
+
 impl Draw {
     pub fn new(seed: u64) -> Draw {
         let mut random = Random::new(seed);
-        let summary = width() * width();
-        let (most, most_elements) = match random.below(1000) {
-            0..200 => (3 * width() + 2, usize::MAX),
-            200..450 => (2 * summary + 2, usize::MAX),
-            450..700 => (9 * summary + 2, 20_000),
-            700..950 => (35 * summary + 2, 20_000),
-            950..995 => (1 << 20, 20_000),
-            _ => (5_000_000, 500_000),
+        // Full sets take most of the time.
+        let shapes = [Shape::Few, Shape::Few, Shape::Runs, Shape::Full];
+        let shape = if random.once_in(2) { Shape::Any } else { random.of(&shapes) };
+        let (most, most_elements) = match shape {
+            Shape::Any => any_size(&mut random),
+            _ => long_size(&mut random, shape),
         };
         let lines_left = 50 + random.below(150);
-        Draw { random, lines_left, most, most_elements }
+        Draw { random, lines_left, shape, most, most_elements }
     }
 
     /// The next line of the script.
@@ -33,7 +67,13 @@ impl Draw {
         self.lines_left = self.lines_left.checked_sub(1)?;
         let set = self.random.below(4);
         if sets[set].elements.len() > self.most_elements && self.random.once_in(4) {
-            return Some(Line::new(self.random.of(&[Call::MakeEmpty, Call::Reset, Call::BitsRemoveAll]), set));
+            let kept = [Call::MakeEmpty, Call::Clear];
+            let cut = [Call::MakeEmpty, Call::Reset, Call::BitsRemoveAll];
+            let choices = if self.shape == Shape::Few { &kept[..] } else { &cut[..] };
+            return Some(Line::new(self.random.of(choices), set));
+        }
+        if self.shape != Shape::Any && sets[set].len < self.most / 2 && !self.random.once_in(3) {
+            return Some(self.grown(set, sets[set].len));
         }
         let is_new = sets[set].len == 0 && self.random.once_in(2);
         let mut line = Line::new(if is_new { Call::BitsGrow } else { self.call(sets[set].len) }, set);
@@ -44,12 +84,23 @@ impl Draw {
         Some(line)
     }
 
-    /// A call, those that change single elements or merge more often. Texts are for short sets.
+    /// Makes a set that is short nearly as long as sets get: with no new elements, or in a script of full sets with all.
+    fn grown(&mut self, set: usize, len: usize) -> Line {
+        let first = (self.most - len).saturating_sub(self.random.below(3 * width()));
+        Line { first, second: usize::from(self.shape == Shape::Full), ..Line::new(Call::BitsGrow, set) }
+    }
+
+    /// A call, those that change single elements or merge more often, and in a script of runs those on ranges. Texts are for
+    /// short sets.
     fn call(&mut self, len: usize) -> Call {
-        let often =
-            [Call::Insert, Call::Insert, Call::Remove, Call::Extend, Call::BitsSet, Call::BitsGrow, Call::UnionWith];
+        let often: &[Call] = match self.shape {
+            Shape::Any => &[Call::Insert, Call::Insert, Call::Remove, Call::Extend, Call::BitsSet, Call::BitsGrow, Call::UnionWith],
+            Shape::Few => &[Call::Insert, Call::Insert, Call::BitsSet, Call::UnionWith, Call::SymmetricDifferenceWith],
+            Shape::Full => &[Call::Remove, Call::Remove, Call::RemoveRange, Call::UnionWith, Call::IntersectWith],
+            Shape::Runs => &[Call::InsertRange, Call::InsertRange, Call::RemoveRange, Call::UnionWith, Call::DifferenceWith],
+        };
         loop {
-            let call = if self.random.once_in(4) { self.random.of(&often) } else { self.random.of(CALLS).0 };
+            let call = if self.random.once_in(4) { self.random.of(often) } else { self.random.of(CALLS).0 };
             let is_long = match call {
                 Call::Debug | Call::BitsDebug => len > 2000,
                 Call::Display | Call::Json | Call::IntoIter | Call::BitsStorage => len > 20_000,
@@ -115,7 +166,7 @@ impl Draw {
             Call::BitsFirstOneFrom | Call::BitsLastOneBefore | Call::BitsFirstZeroFrom => {
                 line.first = self.element(set);
             }
-            Call::UnionWithDifference | Call::BitsUniteDifference => line.first = self.random.below(4),
+            _ if line.is_fused() => line.first = self.random.below(4),
             Call::Contains | Call::Remove | Call::Truncate if is_far => line.first = usize::MAX - self.random.below(2),
             Call::BitsGet | Call::SplitOff if is_far => line.first = usize::MAX - self.random.below(2),
             Call::Insert | Call::Remove | Call::Contains => line.first = self.element(set),
@@ -165,7 +216,16 @@ impl Draw {
         if line.call.form().contains('b') {
             line.second = usize::from(self.random.once_in(2));
         }
-        // Long lists of true values are for scripts of short sets.
+        if self.shape == Shape::Few {
+            if line.call.form().contains('b') && !matches!(line.call, Call::Set | Call::BitsSet | Call::BitsReplace) {
+                line.second = 0;
+            }
+            return;
+        }
+        // Long lists of true values are for scripts of short sets, and of full ones.
+        if self.shape == Shape::Full {
+            return;
+        }
         if self.most > 20_000 && line.call.form() == "snb" && line.first > 3000 && !self.random.once_in(12) {
             line.second = 0;
         }
@@ -201,7 +261,13 @@ impl Draw {
     /// A range from an element on, which may be empty. Long ones are for scripts of short sets.
     fn range(&mut self, line: &mut Line, set: &Model) {
         line.first = self.element(set);
-        let is_short = self.most > 20_000 && !self.random.once_in(12);
+        let is_short = match self.shape {
+            Shape::Any => self.most > 20_000 && !self.random.once_in(12),
+            Shape::Few => true,
+            // A part of a full set that is taken out is short, and that of a set of runs any.
+            Shape::Full => !self.random.once_in(12),
+            Shape::Runs => false,
+        };
         line.second = match self.random.below(4) {
             0 if !is_short => self.element(set),
             1 if !is_short => self.length(),
@@ -258,7 +324,8 @@ impl Draw {
 
     /// Elements in a cluster, evenly apart, at edges, or anywhere, in any order.
     fn elements(&mut self, set: &Model, is_far: bool) -> Vec<usize> {
-        let count = self.random.of(&[0, 1, 2, 5, 12, 40]);
+        let counts = [0, 1, 2, 5, 12, 40];
+        let count = self.random.of(if self.shape == Shape::Few { &counts[..4] } else { &counts[..] });
         let start = self.element(set);
         let apart = self.random.of(&[1, 2, 7, width(), width() * width()]);
         let kind = self.random.below(4);

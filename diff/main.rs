@@ -18,7 +18,7 @@ use bends::{BENDS, Bend};
 use calls::{CALLS, Line};
 use compare::{BLOCKS, Blocks, Difference, Sides};
 use departures::DEPARTURES;
-use draw::Draw;
+use draw::{Draw, Shape};
 use model::{Model, width};
 use random::Random;
 use std::process::ExitCode;
@@ -31,17 +31,25 @@ struct Tally {
     calls: usize,
     of_each: Vec<usize>,
     of_sizes: [usize; SIZES.len()],
+    of_runs: usize,
     met: Vec<usize>,
 }
 
+/// Whether a set is so long that its summary has blocks enough to be passed over many at a time.
+fn is_long(set: &Model) -> bool {
+    set.len > 8 * width() * width()
+}
+
 /// Sizes of a set, each with what is so called.
-const SIZES: [(&str, fn(&Model) -> bool); 6] = [
+const SIZES: [(&str, fn(&Model) -> bool); 8] = [
     ("longer than a block", |set| set.len > width()),
     ("longer than a block of the summary tells of", |set| set.len > width() * width()),
     ("longer than 8 blocks of the summary tell of", |set| set.len > 8 * width() * width()),
     ("longer than 32 blocks of the summary tell of", |set| set.len > 32 * width() * width()),
     ("longer than a million", |set| set.len > 1_000_000),
     ("of more than ten thousand elements", |set| set.elements.len() > 10_000),
+    ("that are long, with elements in one block of 32 at most", |set| is_long(set) && set.elements.len() * 32 < set.blocks()),
+    ("that are long, with all but one number in 16", |set| is_long(set) && set.elements.len() * 16 >= set.len * 15),
 ];
 
 /// A script whose sides differ.
@@ -98,6 +106,7 @@ fn search(calls: usize, seed: u64, bend: Option<&'static Bend>, tally: &mut Tall
         let difference = sides.differ(&mut script, |sets| {
             let line = draw.line(sets)?;
             tally.count(&line, &sets[line.set]);
+            tally.of_runs += usize::from(draw.shape == Shape::Runs);
             Some(line)
         });
         tally.met.iter_mut().zip(&sides.met).for_each(|(all, met)| *all += met);
@@ -110,7 +119,7 @@ fn search(calls: usize, seed: u64, bend: Option<&'static Bend>, tally: &mut Tall
 
 impl Tally {
     fn new() -> Tally {
-        Tally { calls: 0, of_each: vec![0; CALLS.len()], of_sizes: [0; SIZES.len()], met: vec![0; DEPARTURES.len()] }
+        Tally { calls: 0, of_each: vec![0; CALLS.len()], of_sizes: [0; SIZES.len()], of_runs: 0, met: vec![0; DEPARTURES.len()] }
     }
 
     fn count(&mut self, line: &Line, set: &Model) {
@@ -126,6 +135,7 @@ impl Tally {
         for ((name, _), count) in SIZES.iter().zip(self.of_sizes) {
             println!("on sets {name}: {count}");
         }
+        println!("on sets of runs: {}", self.of_runs);
         let least = CALLS.iter().zip(&self.of_each).min_by_key(|(_, count)| **count);
         least.into_iter().for_each(|(call, count)| println!("of each call at least {count} ({})", call.2));
         for (departure, count) in DEPARTURES.iter().zip(&self.met) {

@@ -171,6 +171,7 @@ impl Set for Model {
             Call::FromBytes | Call::FromBytesGeneral | Call::BitsFromBytes | Call::BitsFromBytesGeneral => {
                 Model::of_bytes(&line.bytes())
             }
+            Call::FromBytesLsb | Call::FromBytesLsbGeneral => Model::of_bytes(&line.reversed_bytes()),
             Call::FromIter => {
                 let mut set = Model::default();
                 set.extend(&line.numbers)?;
@@ -322,12 +323,16 @@ impl Set for Model {
         self.elements.iter().copied().collect()
     }
 
-    fn united_with_difference(&mut self, one: &Model, two: Option<&Model>) -> bool {
-        let count = self.elements.len();
-        let left_out = |number: &usize| two.is_some_and(|two| two.elements.contains(number));
-        self.elements.extend(one.elements.iter().filter(|number| !left_out(number)));
+    fn fused(&mut self, call: Call, one: &Model, two: Option<&Model>) -> bool {
+        let old = self.elements.clone();
+        let in_two = |number: &usize| two.is_some_and(|two| two.elements.contains(number));
+        let wanted = matches!(call, Call::UnionWithIntersection | Call::BitsUniteIntersection);
+        if matches!(call, Call::CopyDifference | Call::BitsBecomeDifference) {
+            self.elements.clear();
+        }
+        self.elements.extend(one.elements.iter().filter(|number| in_two(number) == wanted));
         self.len = self.len.max(one.len);
-        self.elements.len() != count
+        self.elements != old
     }
 
     fn popped(&mut self, call: Call) -> Option<usize> {

@@ -56,6 +56,7 @@ impl Block for u32 {
             Call::New => return Some(BitSet::new()),
             Call::WithCapacity | Call::WithCapacityGeneral => return Some(BitSet::with_capacity(line.first)),
             Call::FromBytes | Call::FromBytesGeneral => return Some(BitSet::from_bytes(&line.bytes())),
+            Call::FromBytesLsb | Call::FromBytesLsbGeneral => return Some(BitSet::from_bytes(&line.reversed_bytes())),
             Call::BitsNew => BitVec::new(),
             Call::BitsFromElem | Call::BitsFromElemGeneral => BitVec::from_elem(line.first, line.bit()),
             Call::BitsFromBytes | Call::BitsFromBytesGeneral => BitVec::from_bytes(&line.bytes()),
@@ -223,7 +224,7 @@ impl<B: Block> Set for Peer<B> {
         elements
     }
 
-    fn united_with_difference(&mut self, _one: &Self, _two: Option<&Self>) -> bool {
+    fn fused(&mut self, _call: Call, _one: &Self, _two: Option<&Self>) -> bool {
         unreachable!("by the model")
     }
 

@@ -62,7 +62,8 @@ fn lesser(line: &Line) -> Vec<Line> {
     if line.call.form().contains('t') {
         lines.extend((0..line.other).map(|other| Line { other, ..line.clone() }));
     }
-    let less = |number: usize| [0, number / 2, number - number / 8, number.saturating_sub(1)];
+    let part = |number: usize, part: usize| number - number / part;
+    let less = |number: usize| [0, number / 2, part(number, 8), part(number, 64), part(number, 512), number.saturating_sub(1)];
     for count in less(line.numbers.len()) {
         lines.push(Line { numbers: line.numbers[..count].to_vec(), ..line.clone() });
         let begin = line.numbers.len() - count;

@@ -44,7 +44,7 @@ pub trait Set: Sized + Ord + Hash + Clone {
     fn walk<'a>(&'a self, line: &Line, other: &'a Self) -> Box<dyn Walk + 'a>;
     fn elements(&self) -> Vec<usize>;
     /// The call that changes this set by two others, and whether it did.
-    fn united_with_difference(&mut self, one: &Self, two: Option<&Self>) -> bool;
+    fn fused(&mut self, call: Call, one: &Self, two: Option<&Self>) -> bool;
     fn popped(&mut self, call: Call) -> Option<usize>;
     fn read_range(&self, call: Call, from: usize, to: usize) -> usize;
     fn found(&self, call: Call, number: usize) -> Option<usize>;
@@ -160,12 +160,12 @@ pub fn answer<S: Set>(sets: &mut [S; 4], line: &Line, answers: &mut Answers) {
         Group::Read => read(&sets[line.set], &sets[line.other], line, answers),
         Group::Walk => walk(&sets[line.set], &sets[line.other], line, answers),
         _ if line.is_idle() => {}
-        _ if line.call == Call::BitsUniteDifference && sets[line.set].bits_len() < sets[line.other].bits_len() => {}
-        _ if matches!(line.call, Call::UnionWithDifference | Call::BitsUniteDifference) => {
+        _ if line.is_fused_of_bits() && sets[line.set].bits_len() < sets[line.other].bits_len() => {}
+        _ if line.is_fused() => {
             let mut set = sets[line.set].clone();
             let third = line.first % 4;
             let two = if third == line.set { None } else { Some(&sets[third]) };
-            let changed = set.united_with_difference(&sets[line.other], two);
+            let changed = set.fused(line.call, &sets[line.other], two);
             sets[line.set] = set;
             answers.truth(changed);
         }
@@ -220,6 +220,11 @@ fn move_over<S: Set>(set: &mut S, other: &mut S, line: &Line) {
     }
 }
 
+// How many elements a walk over two sets gives.
+fn count_walked<S: Set>(set: &S, other: &S, walk: Call) -> usize {
+    set.walk(&Line::new(walk, 0), other).count_left()
+}
+
 fn read<S: Set>(set: &S, other: &S, line: &Line, answers: &mut Answers) {
     match line.call {
         Call::Contains => answers.truth(set.contains(line.first)),
@@ -250,7 +255,15 @@ fn read<S: Set>(set: &S, other: &S, line: &Line, answers: &mut Answers) {
         Call::NextMissing => answers.number(set.next_missing(line.first)),
         Call::FirstGap => answers.item(set.first_gap(line.first, line.second)),
         Call::ToBytes => answers.bytes(&set.to_bytes()),
+        Call::ToBytesLsb => {
+            let bytes: Vec<u8> = set.to_bytes().iter().map(|byte| byte.reverse_bits()).collect();
+            answers.bytes(&bytes);
+        }
         Call::IsProperSubset => answers.truth(set.is_subset(other) && !set.is_superset(other)),
+        Call::UnionCount => answers.number(count_walked(set, other, Call::Union)),
+        Call::IntersectionCount => answers.number(count_walked(set, other, Call::Intersection)),
+        Call::DifferenceCount => answers.number(count_walked(set, other, Call::Difference)),
+        Call::SymmetricDifferenceCount => answers.number(count_walked(set, other, Call::SymmetricDifference)),
         Call::Ranges => {
             answers.text(&ranges_text(&runs(&set.elements(), 0, usize::MAX)));
             answers.truth(true);

@@ -1,6 +1,6 @@
 // Calls that change the bit vector that a set lends.
 use crate::answers::Answers;
-use crate::calls::{Lengthening, Ranged, Writing};
+use crate::calls::{Fusing, Lengthening, Ranged, Writing};
 use bit_set::BitBlock;
 use bit_set::bit_vec::{BitVec, Merge, Steps, block_or_zero};
 use std::alloc::AllocError;
@@ -24,15 +24,20 @@ pub(crate) fn merge_and_tell<B: BitBlock>(
     }
 }
 
-// What the second list has and the third has not, where the second is no longer than the first.
-pub(crate) fn unite_difference<B: BitBlock>(
+// What the first list becomes by two others, where the second is no longer than the first.
+pub(crate) fn fuse_bits<B: BitBlock>(
+    fusing: Fusing,
     bits: &mut BitVec<B>,
     other: &BitVec<B>,
-    except: &BitVec<B>,
+    third: &BitVec<B>,
     answers: &mut Answers,
 ) {
     if other.len() <= bits.len() {
-        answers.truth(bits.unite_difference(other, except));
+        answers.truth(match fusing {
+            Fusing::UnionWithDifference => bits.unite_difference(other, third),
+            Fusing::UnionWithIntersection => bits.unite_intersection(other, third),
+            Fusing::CopyDifference => bits.become_difference(other, third),
+        });
     }
 }
 

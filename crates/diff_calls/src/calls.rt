@@ -7,6 +7,7 @@ pub(crate) enum Making {
     New,
     WithCapacity,
     FromBytes,
+    FromBytesLsb,
 }
 
 // What makes a set of all four sets.
@@ -71,13 +72,25 @@ pub(crate) enum Moving {
     CopyRange,
 }
 
-// What returns a number of a set.
+// What makes a set, or a list of bits, what it and two others give.
+#[derive(Clone, Copy)]
+pub(crate) enum Fusing {
+    UnionWithDifference,
+    UnionWithIntersection,
+    CopyDifference,
+}
+
+// What returns a number of a set, alone or beside a second one.
 #[derive(Clone, Copy)]
 pub(crate) enum Counting {
     Count,
     Len,
     CountInRange,
     NextMissing,
+    Union,
+    Intersection,
+    Difference,
+    SymmetricDifference,
 }
 
 // What returns a truth value of a set, alone or beside a second one.
@@ -114,6 +127,7 @@ pub(crate) enum Telling {
     Debug,
     Json,
     ToBytes,
+    ToBytesLsb,
     Ranges,
 }
 
@@ -231,7 +245,7 @@ pub(crate) enum Call {
     IntoBitVec,
     Combine(Merge),
     CombineAndTell(Merge),
-    UnionWithDifference,
+    Fuse(Fusing),
     Move(Moving),
     Count(Counting),
     Ask(Asking),
@@ -243,7 +257,7 @@ pub(crate) enum Call {
     WriteRange(Ranged),
     MergeBlocks(Merge),
     MergeAndTell(Merge),
-    UniteDifference,
+    FuseBits(Fusing),
     CountBits(BitCounting),
     AskBits(BitAsking),
     FindBit(BitFinding),
@@ -259,6 +273,8 @@ const CALLS: &[Call] = &[
     Call::MakeGeneral(Making::WithCapacity),
     Call::Make(Making::FromBytes),
     Call::MakeGeneral(Making::FromBytes),
+    Call::Make(Making::FromBytesLsb),
+    Call::MakeGeneral(Making::FromBytesLsb),
     Call::FromIter,
     Call::List(Listing::New),
     Call::ListGeneral(Listing::New),
@@ -288,7 +304,9 @@ const CALLS: &[Call] = &[
     Call::CombineAndTell(Merge::Intersection),
     Call::CombineAndTell(Merge::Difference),
     Call::CombineAndTell(Merge::Symmetric),
-    Call::UnionWithDifference,
+    Call::Fuse(Fusing::UnionWithDifference),
+    Call::Fuse(Fusing::UnionWithIntersection),
+    Call::Fuse(Fusing::CopyDifference),
     Call::Change(Changing::InsertRange),
     Call::Lessen(Lessening::RemoveRange),
     Call::Change(Changing::ToggleRange),
@@ -328,9 +346,14 @@ const CALLS: &[Call] = &[
     Call::Find(Finding::Previous),
     Call::Count(Counting::NextMissing),
     Call::Tell(Telling::ToBytes),
+    Call::Tell(Telling::ToBytesLsb),
     Call::Find(Finding::FirstGap),
     Call::Ask(Asking::IsProperSubset),
     Call::Tell(Telling::Ranges),
+    Call::Count(Counting::Union),
+    Call::Count(Counting::Intersection),
+    Call::Count(Counting::Difference),
+    Call::Count(Counting::SymmetricDifference),
     Call::Walk(Walking::Iter),
     Call::Walk(Walking::IntoIter),
     Call::Walk(Walking::IterFrom),
@@ -362,7 +385,9 @@ const CALLS: &[Call] = &[
     Call::MergeAndTell(Merge::Intersection),
     Call::MergeAndTell(Merge::Difference),
     Call::MergeAndTell(Merge::Symmetric),
-    Call::UniteDifference,
+    Call::FuseBits(Fusing::UnionWithDifference),
+    Call::FuseBits(Fusing::UnionWithIntersection),
+    Call::FuseBits(Fusing::CopyDifference),
     Call::WriteRange(Ranged::Set),
     Call::WriteRange(Ranged::Clear),
     Call::WriteRange(Ranged::Negate),

@@ -42,6 +42,7 @@ pub(crate) fn made<B: BitBlock>(
         Making::New => Ok(BitSet::new_general(alloc)),
         Making::WithCapacity => sized(BitSet::with_capacity_general(alloc, len)),
         Making::FromBytes => BitSet::from_bytes_general(alloc, bytes),
+        Making::FromBytesLsb => BitSet::from_bytes_lsb_general(alloc, bytes),
     }
 }
 

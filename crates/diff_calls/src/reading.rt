@@ -9,14 +9,18 @@ use std::alloc::Global;
 pub(crate) fn count<B: BitBlock>(
     counting: Counting,
     set: &BitSet<B>,
-    number: usize,
-    end: usize,
+    other: &BitSet<B>,
+    (number, end): (usize, usize),
 ) -> usize {
     match counting {
         Counting::Count => set.count(),
         Counting::Len => set.len(),
         Counting::CountInRange => set.count_in_range(number..end),
         Counting::NextMissing => set.next_missing(number),
+        Counting::Union => set.union_count(other),
+        Counting::Intersection => set.intersection_count(other),
+        Counting::Difference => set.difference_count(other),
+        Counting::SymmetricDifference => set.symmetric_difference_count(other),
     }
 }
 
@@ -97,6 +101,7 @@ pub(crate) fn tell<B: Width>(
         Telling::Debug => answers.text(format!(in alloc; "{set:?}")),
         Telling::Json => B::through_json(alloc, set, answers),
         Telling::ToBytes => answers.made_bytes(set.to_bytes(alloc)),
+        Telling::ToBytesLsb => answers.made_bytes(set.to_bytes_lsb(alloc)),
         Telling::Ranges => tell_ranges(alloc, set, answers),
     }
 }

@@ -1,8 +1,8 @@
 // A script, from its words to the words that its calls return.
 use crate::answers::Answers;
-use crate::bits::{lengthen, merge_and_tell, merge_blocks, unite_difference, write, write_range};
+use crate::bits::{fuse_bits, lengthen, merge_and_tell, merge_blocks, write, write_range};
 use crate::blocks::storage;
-use crate::calls::Call;
+use crate::calls::{Call, Fusing};
 use crate::changing::{change, combine, combine_and_tell, lessen, move_over, pop, through_bit_vec};
 use crate::lines::Line;
 use crate::looking::{ask_bits, count_bits, find_bit, look, tell_bits};
@@ -162,7 +162,7 @@ impl<B: Width> Sets<B> {
         let (set, other) = (self.named(line.set), self.named(line.other));
         let (first, second) = (line.first, line.second);
         match line.call {
-            Call::Count(counting) => answers.number(count(counting, set, first, second)),
+            Call::Count(counting) => answers.number(count(counting, set, other, (first, second))),
             Call::Ask(asking) => answers.truth(ask(asking, set, other, (first, second))),
             Call::Find(finding) => answers.item(find(finding, set, first, second)),
             Call::Tell(telling) => tell(alloc, telling, set, other, answers),
@@ -181,19 +181,28 @@ impl<B: Width> Sets<B> {
         *self.named_mut(line.set) = set;
     }
 
-    // Merges what the second has and the third has not into a set that was taken out of its place.
+    // Makes a set that was taken out of its place what it, the second and the third give.
     fn fuse_into(&self, line: &Line<'_>, set: &mut BitSet<B>, answers: &mut Answers) {
-        let (other, except) = (self.named(line.other), self.named(line.first));
+        let (other, third) = (self.named(line.other), self.named(line.first));
         match line.call {
-            Call::UniteDifference => {
-                unite_difference(set.get_mut(), other.get_ref(), except.get_ref(), answers);
+            Call::FuseBits(fusing) => {
+                fuse_bits(
+                    fusing,
+                    set.get_mut(),
+                    other.get_ref(),
+                    third.get_ref(),
+                    answers,
+                );
             }
-            _ => answers.told(set.union_with_difference(other, except)),
+            Call::Fuse(Fusing::UnionWithIntersection) => {
+                answers.told(set.union_with_intersection(other, third));
+            }
+            Call::Fuse(Fusing::CopyDifference) => answers.told(set.copy_difference(other, third)),
+            _ => answers.told(set.union_with_difference(other, third)),
         }
     }
 
-    // Merges what the second set of a line has and the third has not into the first. The first is empty where it is the
-    // third.
+    // Makes the first set of a line what it, the second and the third give. The first is empty where it is the third.
     fn fuse(&mut self, alloc: Global, line: &Line<'_>, answers: &mut Answers) {
         if line.set % 4 == line.other % 4 {
             return;
@@ -215,7 +224,7 @@ impl<B: Width> Sets<B> {
             Call::Count(_) | Call::Ask(_) | Call::Find(_) | Call::Tell(_) | Call::Walk(_) => {
                 self.read(alloc, line, answers);
             }
-            Call::UnionWithDifference | Call::UniteDifference => self.fuse(alloc, line, answers),
+            Call::Fuse(_) | Call::FuseBits(_) => self.fuse(alloc, line, answers),
             _ => self.change(alloc, line, answers),
         }
     }

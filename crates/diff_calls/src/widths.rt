@@ -110,6 +110,7 @@ impl Width for u32 {
             Making::New => Ok(BitSet::new(alloc)),
             Making::WithCapacity => sized(BitSet::with_capacity(alloc, len)),
             Making::FromBytes => BitSet::from_bytes(alloc, bytes),
+            Making::FromBytesLsb => BitSet::from_bytes_lsb(alloc, bytes),
         }
     }
 
