@@ -40,3 +40,16 @@ impl Density {
         Density { label, len, members, numbers }
     }
 }
+
+/// Two sets of runs of so many numbers below `len`, in ascending order: half of the runs of the second are in the first.
+pub fn overlapping(len: usize, count: usize, run: usize) -> [Vec<usize>; 2] {
+    let mut random = Random::start();
+    let [first, mut second] = [0, 1].map(|_| random.numbers_below(len - run, count));
+    second[..count / 2].copy_from_slice(&first[..count / 2]);
+    [first, second].map(|starts| {
+        let mut numbers: Vec<usize> = starts.iter().flat_map(|start| *start..*start + run).collect();
+        numbers.sort_unstable();
+        numbers.dedup();
+        numbers
+    })
+}

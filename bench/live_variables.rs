@@ -1,7 +1,8 @@
 //! Rows of live variables.
 use crate::inputs::Random;
-use crate::peers::{Set, total};
-use crate::table::{Table, Work};
+use crate::peers::{Flow, total};
+use crate::sparse_peers::SparseBits;
+use crate::table::{Side, Table, Work};
 use bit_set::BitSet;
 use bit_vec::BitBlock;
 use fixedbitset::FixedBitSet;
@@ -20,12 +21,18 @@ const EACH: usize = 8;
 /// The numbers of each block: its successors, and the variables that it generates and that it kills. A block is
 /// followed by the next one, and with a chance of a quarter by any, else by the one after the next.
 pub fn random_numbers(blocks: usize, variables: usize) -> Vec<usize> {
+    numbers_of_live(blocks, variables, 1)
+}
+
+/// The same, where one in `apart` variables is ever read or written.
+fn numbers_of_live(blocks: usize, variables: usize, apart: usize) -> Vec<usize> {
     let mut random = Random::start();
     let mut numbers = Vec::new();
     for block in 0..blocks {
         let second = if random.below(4) == 0 { random.below(blocks) } else { (block + 2) % blocks };
         numbers.extend([(block + 1) % blocks, second]);
-        numbers.extend(random.numbers_below(variables, 2 * EACH));
+        let chosen = random.numbers_below(variables / apart, 2 * EACH);
+        numbers.extend(chosen.iter().map(|number| number * apart));
     }
     numbers
 }
@@ -37,7 +44,7 @@ struct Block<'a, S> {
     killed: S,
 }
 
-impl<'a, S: Set> Block<'a, S> {
+impl<'a, S: Flow> Block<'a, S> {
     fn of(variables: usize, numbers: &'a [usize]) -> Self {
         let (successors, sets) = numbers.split_at(SUCCESSORS);
         let (generated, killed) = sets.split_at(EACH);
@@ -72,9 +79,9 @@ impl<'a, S: Set> Block<'a, S> {
 
 /// The variables that are live at the start of each block. Goes over the blocks from the last to the first, again and
 /// again until no set changes.
-fn solve<S: Set>(variables: usize, blocks: &[Block<S>]) -> Vec<S> {
-    let mut live = vec![S::for_numbers_below(variables); blocks.len()];
-    let mut spare = S::for_numbers_below(variables);
+fn solve<S: Flow>(variables: usize, blocks: &[Block<S>]) -> Vec<S> {
+    let mut live = vec![S::of(variables, &[]); blocks.len()];
+    let mut spare = S::of(variables, &[]);
     let mut has_changed = true;
     while has_changed {
         has_changed = false;
@@ -92,9 +99,9 @@ fn solve<S: Set>(variables: usize, blocks: &[Block<S>]) -> Vec<S> {
 /// The same sets, by the fewest passes that these calls allow: a block is passed over where the sets of its successors
 /// did not grow since it was visited, what flows in is put together in a spare set, beside what the block has, and that
 /// is compared and then takes its place.
-fn solve_by_changes<S: Set>(variables: usize, blocks: &[Block<S>]) -> Vec<S> {
+fn solve_by_changes<S: Flow>(variables: usize, blocks: &[Block<S>]) -> Vec<S> {
     let mut live: Vec<S> = blocks.iter().map(|block| block.generated.clone()).collect();
-    let mut spare = S::for_numbers_below(variables);
+    let mut spare = S::of(variables, &[]);
     // When the set of a block grew last, and when the block was visited last.
     let (mut grew, mut visited) = (vec![1; blocks.len()], vec![0; blocks.len()]);
     let mut now = 1;
@@ -119,7 +126,7 @@ fn solve_by_changes<S: Set>(variables: usize, blocks: &[Block<S>]) -> Vec<S> {
 }
 
 /// Adds up how many variables are live at the starts of the blocks.
-fn count_live<S: Set>(
+fn count_live<S: Flow>(
     variables: usize,
     numbers: &[usize],
     turns: usize,
@@ -127,7 +134,7 @@ fn count_live<S: Set>(
 ) -> usize {
     let blocks: Vec<Block<S>> =
         numbers.chunks(SUCCESSORS + 2 * EACH).map(|row| Block::of(variables, row)).collect();
-    total(turns, |_| solve(variables, &blocks).iter().map(S::count).sum())
+    total(turns, |_| solve(variables, &blocks).iter().map(Flow::count).sum())
 }
 
 fn row<B: BitBlock>(table: &mut Table, blocks: &str, here: OnBlocks, count: usize, variables: usize) {
@@ -144,6 +151,22 @@ fn row<B: BitBlock>(table: &mut Table, blocks: &str, here: OnBlocks, count: usiz
         &|_, turns| count_live::<BitSet<B>>(variables, &numbers, turns, solve_by_changes),
         &|_, turns| count_live::<FixedBitSet>(variables, &numbers, turns, solve_by_changes),
     ]);
+}
+
+/// A row of the table of sparse sets: many variables, of which 20 are live.
+pub fn row_of_few(table: &mut Table) {
+    let (count, variables) = (2_000, 100_000);
+    let numbers = numbers_of_live(count, variables, variables / 20);
+    let here: Side = &|_, turns| unsafe { bench_live_variables_u64(variables, numbers.as_ptr(), numbers.len(), turns) };
+    let sides = [
+        Some(here),
+        None,
+        Some(&|_, turns| count_live::<SparseBits>(variables, &numbers, turns, solve_by_changes)),
+        Some(&|_, turns| count_live::<FixedBitSet>(variables, &numbers, turns, solve_by_changes)),
+        None,
+    ];
+    let name = format!("`solve` of {count} blocks with {variables} variables of which 20 are live");
+    table.row_beside(&name, Work { unit: "block", units: count, turns: 2, numbers: &[] }, &sides);
 }
 
 pub fn rows(table: &mut Table) {

@@ -72,6 +72,37 @@ pub trait Set: Clone + Ord {
     }
 }
 
+/// What the solution of a data flow needs of a set.
+pub trait Flow: Clone + PartialEq {
+    fn of(len: usize, numbers: &[usize]) -> Self;
+    fn clear(&mut self);
+    fn count(&self) -> usize;
+    fn union_with(&mut self, other: &Self);
+    fn difference_with(&mut self, other: &Self);
+}
+
+impl<S: Set> Flow for S {
+    fn of(len: usize, numbers: &[usize]) -> Self {
+        <S as Set>::of(len, numbers)
+    }
+
+    fn clear(&mut self) {
+        <S as Set>::clear(self);
+    }
+
+    fn count(&self) -> usize {
+        <S as Set>::count(self)
+    }
+
+    fn union_with(&mut self, other: &Self) {
+        <S as Set>::union_with(self, other);
+    }
+
+    fn difference_with(&mut self, other: &Self) {
+        <S as Set>::difference_with(self, other);
+    }
+}
+
 /// Writes the methods that both peers have under the same name.
 macro_rules! methods_of_both {
     ($set:ty) => {

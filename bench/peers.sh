@@ -66,6 +66,34 @@ get_peers() {
     mv "$folder/unpacked" "$folder/root"
 }
 
+# Debian's package PACKAGE, unpacked in the folder of that name in `folder`.
+#   get_package PACKAGE
+get_package() {
+    [ ! -d "$folder/$1" ] || return 0
+    command -v apt-get > /dev/null || missing apt-get "it gets Debian's package $1"
+    command -v dpkg-deb > /dev/null || missing dpkg-deb "it unpacks Debian's package $1"
+    say "getting $1"
+    rm -rf "$folder/package" && mkdir "$folder/package"
+    if ! in_folder "$folder/package" apt-get download "$1" > "$log" 2>&1; then
+        apt-get update >> "$log" 2>&1 || true
+        in_folder "$folder/package" apt-get download "$1" >> "$log" 2>&1 || {
+            tail -n 10 "$log" >&2
+            missing "a package" "apt-get could not get $1 (a list of packages that is out of date needs 'apt-get update', as root)"
+        }
+    fi
+    quietly dpkg-deb -x "$folder"/package/*.deb "$folder/package/root"
+    mkdir -p "$folder/packages"
+    mv "$folder"/package/*.deb "$folder/packages/$1.deb"
+    mv "$folder/package/root" "$folder/$1"
+}
+
+# CRoaring as Debian builds it: the shared library, in `croaring`.
+get_croaring() {
+    get_package libroaring0
+    croaring="$(echo "$folder"/libroaring0/usr/lib/*/libroaring.so.0)"
+    [ -f "$croaring" ] || missing "$croaring" "it is part of Debian's package libroaring0; remove $folder/libroaring0 and try again"
+}
+
 # Both sides are built for the same processors: rt builds for x86-64-v2.
 rust() {
     quietly rustc -C opt-level=3 -C "target-cpu=$cpu" --cap-lints allow "$@"
@@ -119,23 +147,76 @@ build_static() {
         || quietly in_folder "$crates/$name" "$kit/bin/rattle" build "${words[@]}" src/lib.rt
 }
 
-# Builds the Rust program SOURCE over the static libraries NAMES and over the peers.
-#   build_program NAMES SOURCE PROGRAM
-build_program() {
-    local name libraries=() memory
+# Builds the Rust program SOURCE over the static libraries NAMES.
+#   build_over NAMES SOURCE PROGRAM [FLAG OF RUSTC..]
+build_over() {
+    local name libraries=()
     say "proving and building this library, which takes some minutes the first time"
     for name in $1; do
         build_static "$name"
         libraries+=(-C "link-arg=$crates/$name/out/lib$name.a")
     done
+    rust --edition 2024 "$2" "${libraries[@]}" -o "$3" "${@:4}"
+}
+
+# The same, over the peers too.
+#   build_program NAMES SOURCE PROGRAM [FLAG OF RUSTC..]
+build_program() {
+    local memory
     memory="$(dirname "$(rt doc | head -n 1)")/c/liblibc_c.a"
     [ -f "$memory" ] || missing "$memory" "the toolchain's library of the calls that take memory"
-    rust --edition 2024 "$2" -L "$folder" --extern "bit_set=$folder/libbit_set.rlib" \
-        --extern "bit_vec=$folder/libbit_vec.rlib" --extern "fixedbitset=$folder/libfixedbitset.rlib" \
-        "${libraries[@]}" -C "link-arg=$memory" -o "$3"
+    build_over "$@" -C "link-arg=$memory" -L "$folder" --extern "bit_set=$folder/libbit_set.rlib" \
+        --extern "bit_vec=$folder/libbit_vec.rlib" --extern "fixedbitset=$folder/libfixedbitset.rlib"
+}
+
+# Debian's sources of CRoaring, by lists of packages of their own.
+get_croaring_sources() {
+    local lists="$folder/sources"
+    mkdir -p "$lists/state/partial" "$lists/cache/archives/partial"
+    echo 'deb-src http://deb.debian.org/debian bookworm main' > "$lists/sources.list"
+    local apt=(apt-get -o "Dir::Etc::sourcelist=$lists/sources.list" -o Dir::Etc::sourceparts=-
+        -o "Dir::State::lists=$lists/state" -o "Dir::Cache=$lists/cache")
+    in_folder "$lists" "${apt[@]}" update > "$log" 2>&1 || return 1
+    # Only the authors' archive is of use, and what Debian adds to it may be missing.
+    in_folder "$lists" "${apt[@]}" source --download-only croaring >> "$log" 2>&1 || true
+    tar -C "$lists" -xf "$(echo "$lists"/croaring_*.orig.tar.*)" 2> /dev/null
+}
+
+# CRoaring built for the processors of the other sides, in `croaring_built`, which stays empty where its sources cannot be had.
+build_croaring() {
+    croaring_built="$folder/libroaring_$cpu.so"
+    [ ! -f "$croaring_built" ] || return 0
+    say "building CRoaring"
+    if ! get_croaring_sources; then
+        say "the sources of CRoaring cannot be had: it is timed as Debian builds it alone"
+        croaring_built=
+        return 0
+    fi
+    local root
+    root="$(echo "$folder"/sources/CRoaring-*)"
+    quietly cc -O3 "-march=$cpu" -DNDEBUG -std=c11 -D_GNU_SOURCE -fPIC -shared "-I$root/include" "$root"/src/*.c "$root"/src/containers/*.c -o "$croaring_built"
+}
+
+# LLVM's sparse bit vectors, by C names: headers alone, of Debian's package.
+build_sparse_bits() {
+    local headers=/usr/lib/llvm-14/include compiler
+    [ -d "$headers/llvm/ADT" ] || {
+        get_package llvm-14-dev
+        headers="$folder/llvm-14-dev$headers"
+    }
+    compiler="$(command -v clang++ || command -v g++)" || missing clang++ "or g++, which compiles LLVM's SparseBitVector"
+    quietly "$compiler" -std=c++14 -O3 "-march=$cpu" -DNDEBUG -fno-exceptions -I"$headers" -c "$bench/sparse_bits.cc" -o "$folder/sparse_bits.o"
 }
 
 # Which toolchains and peers these are.
 tell_versions() {
     echo "$(rt version), $(rustc --version), peers for $cpu: $(cd "$sources" && echo bit-set-* bit-vec-* fixedbitset-*)"
+}
+
+# Which commit this is.
+tell_commit() {
+    local commit
+    if commit="$(git -C "$crates" describe --always --dirty 2> /dev/null)"; then
+        echo "commit $commit"
+    fi
 }

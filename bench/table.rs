@@ -151,14 +151,23 @@ impl Table {
         print!("| {name}{mark} | {unit} |");
     }
 
-    /// Prints the time of each side, and this library's over the other's.
+    /// Prints the time of each side, and this library's over the other's. There are at most two peers.
     pub fn row(&mut self, name: &str, work: Work, sides: &[Side]) {
-        let times = self.times(&work, sides);
+        let sides: [Option<Side>; 3] = std::array::from_fn(|place| sides.get(place).copied());
+        self.row_beside(name, work, &sides);
+    }
+
+    /// The same beside any number of peers, some of which may lack the call.
+    pub fn row_beside(&mut self, name: &str, work: Work, sides: &[Option<Side>]) {
+        let there: Vec<Side> = sides.iter().flatten().copied().collect();
+        let times = self.times(&work, &there);
         self.print_name(name, work.unit, &times);
-        print!(" {:.2} |", times.of_sides[0]);
-        for side in 1..3 {
-            match times.of_sides.get(side) {
-                Some(time) => print!(" {time:.2} | {:.2} |", times.of_sides[0] / time),
+        let here = times.of_sides[0];
+        print!(" {here:.2} |");
+        let mut of_peers = times.of_sides[1..].iter();
+        for side in &sides[1..] {
+            match side.and_then(|_| of_peers.next()) {
+                Some(time) => print!(" {time:.2} | {:.2} |", here / time),
                 None => print!(" | |"),
             }
         }

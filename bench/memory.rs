@@ -1,0 +1,87 @@
+//! How many bytes sets hold. This library takes memory by the calls below, in the place of the toolchain's; what else takes
+//! memory is seen by the C library.
+use std::cell::Cell;
+use std::ffi::c_void;
+use std::hint::black_box;
+use std::ptr::NonNull;
+
+unsafe extern "C" {
+    fn malloc(size: usize) -> *mut c_void;
+    fn realloc(place: *mut c_void, size: usize) -> *mut c_void;
+    fn free(place: *mut c_void);
+    fn malloc_usable_size(place: *mut c_void) -> usize;
+    fn mallinfo2() -> MallInfo;
+}
+
+/// What the C library tells of its memory: the fifth number is of what is mapped, the eighth of the rest that is in use.
+type MallInfo = [usize; 10];
+
+thread_local! {
+    static HELD: Cell<usize> = const { Cell::new(0) };
+    static MOST: Cell<usize> = const { Cell::new(0) };
+}
+
+/// Whether there is memory, and where.
+#[repr(C)]
+pub struct Found {
+    is_there: usize,
+    place: *mut c_void,
+}
+
+/// Counts what is at the place, where there is memory.
+fn found(place: *mut c_void) -> Found {
+    if place.is_null() {
+        return Found { is_there: 0, place: NonNull::<u128>::dangling().as_ptr().cast() };
+    }
+    HELD.set(HELD.get() + unsafe { malloc_usable_size(place) });
+    MOST.set(MOST.get().max(HELD.get()));
+    Found { is_there: 1, place }
+}
+
+fn leave(place: *mut c_void) {
+    HELD.set(HELD.get() - unsafe { malloc_usable_size(place) });
+}
+
+#[unsafe(no_mangle)]
+extern "C" fn rattle_alloc(size: usize, align: usize) -> Found {
+    found(unsafe { malloc(if size == 0 { align } else { size }) })
+}
+
+#[unsafe(no_mangle)]
+extern "C" fn rattle_realloc(place: *mut c_void, _old: usize, size: usize, align: usize) -> Found {
+    leave(place);
+    let moved = unsafe { realloc(place, if size == 0 { align } else { size }) };
+    if moved.is_null() {
+        let kept = found(place);
+        return Found { is_there: 0, ..kept };
+    }
+    found(moved)
+}
+
+#[unsafe(no_mangle)]
+extern "C" fn rattle_dealloc(place: *mut c_void) {
+    leave(place);
+    unsafe { free(place) };
+}
+
+/// How many bytes this library held at most while the work was done.
+pub fn most_held(work: impl FnOnce() -> usize) -> usize {
+    let before = HELD.get();
+    MOST.set(before);
+    black_box(work());
+    MOST.get() - before
+}
+
+fn in_use() -> usize {
+    let info = unsafe { mallinfo2() };
+    info[4] + info[7]
+}
+
+/// How many bytes the made value holds of what is taken by the C library's calls.
+pub fn held_by<T>(make: impl FnOnce() -> T) -> usize {
+    let before = in_use();
+    let made = black_box(make());
+    let after = in_use();
+    drop(made);
+    after.saturating_sub(before)
+}
