@@ -7,6 +7,13 @@ use std::time::Instant;
 
 const LIMIT: usize = 1 << 20;
 const ROUNDS: usize = 60;
+const FIVE: [usize; 5] = [3, 40, 70, 100, 120];
+const ROWS: [&str; 19] = [
+    "contains", "insert", "remove", "grow", "walk 1", "walk 2", "walk 16", "walk 64", "walk 256", "walk 4096",
+    "walk 65536", "union 2", "union 256", "intersection 2", "intersection 256", "difference 2", "difference 256",
+    "symmetric 2", "symmetric 256",
+];
+const SMALL_ROWS: [&str; 4] = ["five: walk", "five: first", "five: clone", "new"];
 
 macro_rules! sides {
     ($($name:ident is $set:path;)*) => {
@@ -23,7 +30,24 @@ macro_rules! sides {
                     set
                 }
 
+                // Ten thousand calls on a set of five, which each call must take for another one.
+                fn small_row(name: &str) -> Box<dyn FnMut() -> usize> {
+                    let five: Set = FIVE.iter().copied().collect();
+                    let times = |call: fn(&Set) -> usize| {
+                        Box::new(move || (0..10_000).fold(0, |a, _| a ^ call(black_box(&five)))) as Box<dyn FnMut() -> usize>
+                    };
+                    match name {
+                        "five: walk" => times(|set| set.iter().fold(0, |a, n| a ^ n)),
+                        "five: first" => times(|set| set.iter().next().unwrap()),
+                        "five: clone" => times(|set| { black_box(set.clone()); 0 }),
+                        _ => times(|_| { black_box(Set::default()); 0 }),
+                    }
+                }
+
                 pub fn row(name: &str, numbers: &[usize]) -> Box<dyn FnMut() -> usize> {
+                    if SMALL_ROWS.contains(&name) {
+                        return small_row(name);
+                    }
                     let (call, every) = name.split_once(' ').unwrap_or((name, "2"));
                     let every: usize = every.parse().unwrap();
                     let (mut set, other, numbers) = (filled(every, 3), filled(every, 5), numbers.to_vec());
@@ -63,11 +87,7 @@ fn main() {
         return;
     }
     println!("| row | ours, ms | bit-set, ms | ratio |\n|---|---|---|---|");
-    for name in [
-        "contains", "insert", "remove", "grow", "walk 1", "walk 2", "walk 16", "walk 64", "walk 256", "walk 4096",
-        "walk 65536", "union 2", "union 256", "intersection 2", "intersection 256", "difference 2", "difference 256",
-        "symmetric 2", "symmetric 256",
-    ] {
+    for name in ROWS.iter().chain(&SMALL_ROWS) {
         let (mut x, mut y) = (ours::row(name, &numbers), theirs::row(name, &numbers));
         let (mut least, mut theirs) = (f64::MAX, f64::MAX);
         for _ in 0..ROUNDS {

@@ -1,13 +1,14 @@
-"""Sets of whole numbers as bits, over a library of which every call is proved.
+"""Sets of whole numbers as bits, and matrices of them, over a library of which every call is proved.
 
 A BitSet is a MutableSet of numbers from 0 to MAX_ELEMENT. It takes an eighth of a byte for each number up to its greatest
-member. Its methods are those of set, with ranges, ends and searches beside them.
+member. Its methods are those of set, with ranges, ends and searches beside them. A BitMatrix has rows that are sets of
+columns, as the edges of a graph are.
 """
 
 from collections.abc import MutableSet
 
-from ._bit_set import MAX_ELEMENT, BitSet
+from ._bit_set import MAX_ELEMENT, BitMatrix, BitSet
 
-__all__ = ["MAX_ELEMENT", "BitSet"]
+__all__ = ["MAX_ELEMENT", "BitMatrix", "BitSet"]
 
 MutableSet.register(BitSet)

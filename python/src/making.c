@@ -1,13 +1,14 @@
 /* Sets as they are made, and what goes into them and out again. */
 #include "set.h"
 
-static PyObject *blank(PyTypeObject *type)
+/* An object that has nothing of the library's yet. */
+PyObject *blank(PyTypeObject *type)
 {
     return ((allocfunc)PyType_GetSlot(type, Py_tp_alloc))(type, 0);
 }
 
-/* What was made, or NULL with a MemoryError where the library found none for its set. */
-static PyObject *made_if(bool found_memory, PyObject *made)
+/* What was made, or NULL with a MemoryError where the library found none for it. */
+PyObject *made_if(bool found_memory, PyObject *made)
 {
     if (found_memory)
         return made;

@@ -2,7 +2,7 @@
 #include "set.h"
 #include <structmember.h>
 
-PyTypeObject *bit_set_type, *walk_type;
+PyTypeObject *bit_set_type, *matrix_type, *walk_type;
 PyObject *abstract_set, *array_type;
 
 #define METHOD(name, how, text) {#name, (PyCFunction)set_##name, how, text}
@@ -91,6 +91,59 @@ static PyType_Spec set_spec = {
     "bit_set.BitSet", sizeof(BitSet), 0, Py_TPFLAGS_DEFAULT | Py_TPFLAGS_BASETYPE, set_slots,
 };
 
+#define MATRIX_METHOD(name, how, text) {#name, (PyCFunction)matrix_##name, how, text}
+
+static PyMethodDef matrix_methods[] = {
+    MATRIX_METHOD(from_row, METH_VARARGS | METH_CLASS, "from_row($type, members, rows, /)\n--\n\nMake a matrix of so many rows that each have the members, with as many columns as the set is long."),
+    MATRIX_METHOD(copy, METH_NOARGS, "copy($self, /)\n--\n\nReturn a matrix of the same rows."),
+    MATRIX_METHOD(row, METH_O, "row($self, row, /)\n--\n\nReturn the set of the columns that are in the row."),
+    MATRIX_METHOD(add, METH_VARARGS, "add($self, row, column, /)\n--\n\nPut the column into the row. Return whether it was not in."),
+    MATRIX_METHOD(discard, METH_VARARGS, "discard($self, row, column, /)\n--\n\nTake the column out of the row. Return whether it was in."),
+    MATRIX_METHOD(count, METH_O, "count($self, row, /)\n--\n\nReturn how many columns are in the row."),
+    MATRIX_METHOD(count_all, METH_NOARGS, "count_all($self, /)\n--\n\nReturn how many columns are in all rows together."),
+    MATRIX_METHOD(add_range, METH_VARARGS, "add_range($self, row, start, stop, /)\n--\n\nPut each column of range(start, stop) into the row."),
+    MATRIX_METHOD(fill_row, METH_O, "fill_row($self, row, /)\n--\n\nPut each column into the row."),
+    MATRIX_METHOD(clear_row, METH_O, "clear_row($self, row, /)\n--\n\nTake each column out of the row."),
+    MATRIX_METHOD(union_rows, METH_VARARGS, "union_rows($self, read, write, /)\n--\n\nPut what is in the row read into the row write. Return whether that changed it."),
+    MATRIX_METHOD(intersect_rows, METH_VARARGS, "intersect_rows($self, read, write, /)\n--\n\nKeep in the row write what is in the row read. Return whether that changed it."),
+    MATRIX_METHOD(difference_rows, METH_VARARGS, "difference_rows($self, read, write, /)\n--\n\nTake out of the row write what is in the row read. Return whether that changed it."),
+    MATRIX_METHOD(union_row_with, METH_VARARGS, "union_row_with($self, members, row, /)\n--\n\nPut the members into the row. Return whether that changed it."),
+    MATRIX_METHOD(is_subset_row, METH_VARARGS, "is_subset_row($self, row, other, /)\n--\n\nReturn whether each column of the row is in the other row."),
+    MATRIX_METHOD(is_disjoint_row, METH_VARARGS, "is_disjoint_row($self, row, other, /)\n--\n\nReturn whether no column is in both rows."),
+    MATRIX_METHOD(transpose, METH_NOARGS, "transpose($self, /)\n--\n\nReturn the matrix that has a row for each column, with the rows that have that column."),
+    MATRIX_METHOD(transitive_closure, METH_NOARGS, "transitive_closure($self, /)\n--\n\nMake each row what a path of one edge or more leads to, where an edge leads from a row to each of its columns."),
+    MATRIX_METHOD(reflexive_transitive_closure, METH_NOARGS, "reflexive_transitive_closure($self, /)\n--\n\nMake each row what a path of any number of edges leads to, also of none."),
+    MATRIX_METHOD(dominators, METH_O, "dominators($self, entry, /)\n--\n\nReturn the matrix whose row v has what lies on every path from the row entry to v."),
+    {"__copy__", matrix_copy, METH_NOARGS, NULL},
+    {"__deepcopy__", matrix_copy, METH_O, NULL},
+    {"__reduce__", matrix_reduce, METH_NOARGS, NULL},
+    {"__setstate__", matrix_setstate, METH_O, NULL},
+    {NULL, NULL, 0, NULL},
+};
+
+static PyGetSetDef matrix_attributes[] = {
+    {"rows", matrix_rows, NULL, "How many rows there are.", NULL},
+    {"columns", matrix_columns, NULL, "How many columns there are.", NULL},
+    {NULL, NULL, NULL, NULL, NULL},
+};
+
+static PyType_Slot matrix_slots[] = {
+    {Py_tp_doc, "BitMatrix(rows, columns)\n--\n\nRows of columns, each row a set. (row, column) in matrix says whether a row has a column. The numbers of both stay as they are made."},
+    {Py_tp_new, matrix_new},
+    {Py_tp_dealloc, matrix_dealloc},
+    {Py_tp_repr, matrix_repr},
+    {Py_tp_hash, PyObject_HashNotImplemented},
+    {Py_tp_richcompare, matrix_compare},
+    {Py_tp_methods, matrix_methods},
+    {Py_tp_getset, matrix_attributes},
+    {Py_sq_contains, matrix_contains},
+    {0, NULL},
+};
+
+static PyType_Spec matrix_spec = {
+    "bit_set.BitMatrix", sizeof(BitMatrix), 0, Py_TPFLAGS_DEFAULT | Py_TPFLAGS_BASETYPE, matrix_slots,
+};
+
 static PyType_Slot walk_slots[] = {
     {Py_tp_dealloc, walk_dealloc},
     {Py_tp_traverse, walk_traverse},
@@ -130,11 +183,13 @@ PyMODINIT_FUNC PyInit__bit_set(void)
     PyObject *module = PyModule_Create(&module_definition);
     PyObject *greatest = PyLong_FromSize_t(NO_MEMBER - 1);
     bit_set_type = (PyTypeObject *)PyType_FromSpec(&set_spec);
+    matrix_type = (PyTypeObject *)PyType_FromSpec(&matrix_spec);
     walk_type = (PyTypeObject *)PyType_FromSpec(&walk_spec);
     abstract_set = attribute_of("collections.abc", "Set");
     array_type = attribute_of("array", "array");
     bool is_made = module && walk_type && abstract_set && array_type
-        && add_object(module, "BitSet", (PyObject *)bit_set_type) && add_object(module, "MAX_ELEMENT", greatest);
+        && add_object(module, "BitSet", (PyObject *)bit_set_type)
+        && add_object(module, "BitMatrix", (PyObject *)matrix_type) && add_object(module, "MAX_ELEMENT", greatest);
     Py_XDECREF(greatest);
     if (!is_made)
         Py_CLEAR(module);

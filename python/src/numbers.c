@@ -4,7 +4,8 @@
 /* Reads a number below SIZE_MAX from an int or another index. FAILED alone leaves an exception. */
 enum reading read_number(PyObject *object, size_t *number)
 {
-    if (PyLong_Check(object)) {
+    /* In the stable ABI the second of these is a call. */
+    if (PyLong_CheckExact(object) || PyLong_Check(object)) {
         *number = PyLong_AsSize_t(object);
     } else {
         if (!PyIndex_Check(object))

@@ -19,6 +19,11 @@ typedef struct {
     PyObject *weak_references;
 } BitSet;
 
+typedef struct {
+    PyObject_HEAD
+    bit_matrix *matrix;
+} BitMatrix;
+
 /* A walk over the members in groups. The set may be changed meanwhile. */
 typedef struct {
     PyObject_HEAD
@@ -37,8 +42,8 @@ enum reading { FAILED = -1, NO_NUMBER = 0, NUMBER = 1 };
 
 typedef bool merge(bit_set *, const bit_set *);
 
-/* The two types, `Set` of collections.abc, and the type of arrays. */
-extern PyTypeObject *bit_set_type, *walk_type;
+/* The types, `Set` of collections.abc, and the type of arrays. */
+extern PyTypeObject *bit_set_type, *matrix_type, *walk_type;
 extern PyObject *abstract_set, *array_type;
 
 /* What a later Python's headers of the stable ABI no longer name, though each has it. */
@@ -63,6 +68,12 @@ static inline PyObject *none_if(bool found_memory)
     Py_RETURN_NONE;
 }
 
+/* An int. Python makes one of a `long` faster than one of a `size_t`. */
+static inline PyObject *int_of(size_t number)
+{
+    return number <= LONG_MAX ? PyLong_FromLong((long)number) : PyLong_FromSize_t(number);
+}
+
 /* numbers.c */
 PyObject *member_or_none(size_t member);
 bool read_bound(PyObject *object, size_t *bound, int *outside);
@@ -71,6 +82,8 @@ enum reading read_number(PyObject *object, size_t *number);
 
 /* making.c */
 PyObject *as_bit_set(PyObject *members);
+PyObject *blank(PyTypeObject *type);
+PyObject *made_if(bool found_memory, PyObject *made);
 PyObject *set_add(PyObject *self, PyObject *member);
 PyObject *set_copy(PyObject *self, PyObject *Py_UNUSED(none));
 PyObject *set_copy_range(PyObject *self, PyObject *arguments);
@@ -150,5 +163,36 @@ PyObject *set_first_gap(PyObject *self, PyObject *arguments);
 PyObject *set_next_run(PyObject *self, PyObject *from);
 PyObject *set_shift_down(PyObject *self, PyObject *distance);
 PyObject *set_shift_up(PyObject *self, PyObject *distance);
+
+/* matrix.c */
+PyObject *matrix_add(PyObject *self, PyObject *arguments);
+PyObject *matrix_add_range(PyObject *self, PyObject *arguments);
+PyObject *matrix_clear_row(PyObject *self, PyObject *row_object);
+PyObject *matrix_columns(PyObject *self, void *Py_UNUSED(closure));
+PyObject *matrix_compare(PyObject *self, PyObject *other, int operation);
+PyObject *matrix_copy(PyObject *self, PyObject *Py_UNUSED(none));
+PyObject *matrix_count(PyObject *self, PyObject *row_object);
+PyObject *matrix_count_all(PyObject *self, PyObject *Py_UNUSED(none));
+PyObject *matrix_difference_rows(PyObject *self, PyObject *arguments);
+PyObject *matrix_discard(PyObject *self, PyObject *arguments);
+PyObject *matrix_dominators(PyObject *self, PyObject *entry_object);
+PyObject *matrix_fill_row(PyObject *self, PyObject *row_object);
+PyObject *matrix_from_row(PyObject *type, PyObject *arguments);
+PyObject *matrix_intersect_rows(PyObject *self, PyObject *arguments);
+PyObject *matrix_is_disjoint_row(PyObject *self, PyObject *arguments);
+PyObject *matrix_is_subset_row(PyObject *self, PyObject *arguments);
+PyObject *matrix_new(PyTypeObject *type, PyObject *arguments, PyObject *named);
+PyObject *matrix_reduce(PyObject *self, PyObject *Py_UNUSED(none));
+PyObject *matrix_reflexive_transitive_closure(PyObject *self, PyObject *Py_UNUSED(none));
+PyObject *matrix_repr(PyObject *self);
+PyObject *matrix_row(PyObject *self, PyObject *row_object);
+PyObject *matrix_rows(PyObject *self, void *Py_UNUSED(closure));
+PyObject *matrix_setstate(PyObject *self, PyObject *rows);
+PyObject *matrix_transitive_closure(PyObject *self, PyObject *Py_UNUSED(none));
+PyObject *matrix_transpose(PyObject *self, PyObject *Py_UNUSED(none));
+PyObject *matrix_union_row_with(PyObject *self, PyObject *arguments);
+PyObject *matrix_union_rows(PyObject *self, PyObject *arguments);
+int matrix_contains(PyObject *self, PyObject *pair);
+void matrix_dealloc(PyObject *self);
 
 #endif

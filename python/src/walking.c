@@ -19,7 +19,7 @@ static PyObject *list_of(PyObject *self)
     for (Py_ssize_t done = 0; list && done < size;) {
         size_t count = bit_set_copy_members(set_of(self), from, group, GROUP);
         for (size_t at = 0; at < count; at++) {
-            PyObject *member = PyLong_FromSize_t(group[at]);
+            PyObject *member = int_of(group[at]);
             if (!member) {
                 Py_DECREF(list);
                 return NULL;
@@ -126,7 +126,7 @@ PyObject *walk_next(PyObject *object)
     Walk *walk = (Walk *)object;
     if (walk->place == walk->count && !walk->has_ended)
         fill(walk);
-    return walk->place < walk->count ? PyLong_FromSize_t(walk->group[walk->place++]) : NULL;
+    return walk->place < walk->count ? int_of(walk->group[walk->place++]) : NULL;
 }
 
 int walk_traverse(PyObject *object, visitproc visit, void *arg)

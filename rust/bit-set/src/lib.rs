@@ -2,7 +2,8 @@
 //!
 //! What has a bit vector in its type (`from_bit_vec`, `into_bit_vec`, `get_ref`, `get_mut`) is left out, since the library
 //! shows none, and so are the features `serde`, `miniserde`, `nanoserde` and `borsh` of 0.8, whose form is a bit vector's.
-//! Blocks have 32 bits, or 64. A call that finds no memory ends the process, as those of `Vec` do.
+//! Blocks have 32 bits, or 64. A call that finds no memory ends the process, as those of `Vec` do. A thread keeps one small
+//! set of each width that it let go, for the next that it makes.
 //!
 //! ```
 //! let mut set = bit_set::BitSet::new();
@@ -20,11 +21,14 @@ use std::marker::PhantomData;
 use std::mem::{size_of, MaybeUninit};
 use std::ptr::null_mut;
 use std::sync::OnceLock;
+use std::thread::LocalKey;
 
 use bit_set_sys as raw;
+use spare::Spare;
 
 mod further;
 mod matrix;
+mod spare;
 mod walks;
 
 pub use matrix::{BitMatrix, Row};
@@ -36,6 +40,10 @@ pub trait BitBlock: raw::Calls + 'static {
     #[doc(hidden)]
     type Rows: raw::MatrixCalls;
 
+    /// The set that the thread keeps for the next one.
+    #[doc(hidden)]
+    fn spare() -> &'static LocalKey<Spare<Self>>;
+
     /// An empty set, which the calls that read are given for one that has none of its own.
     #[doc(hidden)]
     fn empty() -> &'static BitSet<Self>;
@@ -46,6 +54,14 @@ macro_rules! blocks {
         $(
             impl BitBlock for $block {
                 type Rows = raw::Rows<$block>;
+
+                #[inline(always)]
+                fn spare() -> &'static LocalKey<Spare<Self>> {
+                    thread_local! {
+                        static SPARE: Spare<$block> = const { Spare::none() };
+                    }
+                    &SPARE
+                }
 
                 fn empty() -> &'static BitSet<Self> {
                     static EMPTY: OnceLock<BitSet<$block>> = OnceLock::new();
@@ -71,19 +87,35 @@ unsafe impl<B: BitBlock> Send for BitSet<B> {}
 // SAFETY: a call that takes a `*const` writes nothing: it is proved of a loan that is shared.
 unsafe impl<B: BitBlock> Sync for BitSet<B> {}
 
-// Ends the process where a call found no memory. No call says how much it asked for.
-#[track_caller]
+// Ends the process where a call found no memory.
+#[inline]
 fn require(done: bool) {
     if !done {
-        std::alloc::handle_alloc_error(std::alloc::Layout::new::<u64>());
+        out_of_memory();
     }
+}
+
+// No call says how much it asked for.
+#[cold]
+#[inline(never)]
+fn out_of_memory() -> ! {
+    std::alloc::handle_alloc_error(std::alloc::Layout::new::<u64>())
+}
+
+// What a call of this answer, which is below 0, ends in.
+#[cold]
+#[inline(never)]
+#[track_caller]
+fn fail(answer: i32) -> ! {
+    assert_ne!(answer, -2, "usize::MAX is no element");
+    out_of_memory()
 }
 
 impl<B: BitBlock> Drop for BitSet<B> {
     fn drop(&mut self) {
         if !self.set.is_null() {
             // SAFETY: the set is this one's own, and is used no more.
-            unsafe { B::free(self.set) }
+            unsafe { spare::let_go::<B>(self.set) }
         }
     }
 }
@@ -128,14 +160,20 @@ impl<B: BitBlock> BitSet<B> {
     // An empty set of the library's.
     #[cold]
     fn allocated() -> Self {
-        // SAFETY: `out` is null.
-        Self::made(|out| unsafe { B::new(out) })
+        Self::owning(spare::empty::<B>())
     }
 
     // The set that a call puts out.
     fn made(call: impl FnOnce(*mut *mut raw::Set) -> bool) -> Self {
         let mut set = null_mut();
         require(call(&mut set));
+        BitSet { set, blocks: PhantomData }
+    }
+
+    // The set that was made, which is null where there was no memory.
+    #[inline]
+    fn owning(set: *mut raw::Set) -> Self {
+        require(!set.is_null());
         BitSet { set, blocks: PhantomData }
     }
 
@@ -158,10 +196,12 @@ impl<B: BitBlock> BitSet<B> {
     }
 
     // What a call returns that tells whether it changed anything.
+    #[inline]
     #[track_caller]
     fn changed(answer: i32) -> bool {
-        assert_ne!(answer, -2, "usize::MAX is no element");
-        require(answer >= 0);
+        if answer < 0 {
+            fail(answer);
+        }
         answer == 1
     }
 
@@ -304,6 +344,7 @@ impl<B: BitBlock> BitSet<B> {
 }
 
 // Writes words of 64 bits from one on, by a call that copies blocks, and returns how many it wrote.
+#[inline]
 fn copy_words<B: BitBlock>(
     from: usize,
     words: &mut [MaybeUninit<u64>],
@@ -337,7 +378,8 @@ impl<B: BitBlock> Clone for BitSet<B> {
         if self.set.is_null() {
             return Self::NEW;
         }
-        Self::made(|out| unsafe { B::clone(out, self.read()) })
+        // SAFETY: the set is lent for the call.
+        Self::owning(unsafe { spare::clone::<B>(self.set) })
     }
 
     fn clone_from(&mut self, other: &Self) {

@@ -8,7 +8,7 @@ const FEW: usize = 8;
 const WIDTH: usize = u64::BITS as usize;
 
 // What a walk is over: the next group of blocks.
-trait Source<B: BitBlock> {
+trait Source<B: BitBlock>: Copy {
     /// A number with no element between `from` and it; `None` where there is none from `from` on.
     fn search(&self, from: usize) -> Option<usize>;
 
@@ -16,28 +16,63 @@ trait Source<B: BitBlock> {
     fn copy(&self, first: usize, group: &mut [MaybeUninit<u64>]) -> usize;
 }
 
+type Words = [MaybeUninit<u64>; GROUP];
+
 #[derive(Clone)]
 struct Walk<S> {
     source: S,
-    // The group, of which what is below `end` is written: a small one, or where there are more a large one.
+    // What is left of the block in hand, and its first number.
+    block: u64,
+    base: usize,
+    // The first group, where there is no other.
     few: [MaybeUninit<u64>; FEW],
-    many: Vec<MaybeUninit<u64>>,
-    // Which block the group begins with, the one of the group that is next, and where the group ends.
+    many: Option<Box<Words>>,
+    // Which block the group begins with, the one of it that is next, and where it ends.
     first: usize,
     at: usize,
     end: usize,
     // How many blocks the next group has: few where those that are not zero are far apart. None where there is no more.
     size: usize,
-    // What is left of the block in hand, and its first number.
-    block: u64,
-    base: usize,
+}
+
+// The group after one: its blocks, which one it begins with, where it ends, and how many blocks the next one has.
+struct Following {
+    words: Box<Words>,
+    first: usize,
+    end: usize,
+    size: usize,
+}
+
+impl Following {
+    // The group of at most `size` blocks from the first that is not zero on, from block `past` on.
+    #[cold]
+    #[inline(never)]
+    fn copy<B: BitBlock>(source: impl Source<B>, words: Option<Box<Words>>, past: usize, size: usize) -> Option<Self> {
+        let first = source.search(past.checked_mul(WIDTH)?)? / WIDTH;
+        let mut words = words.unwrap_or_else(|| Box::new([MaybeUninit::uninit(); GROUP]));
+        let end = source.copy(first, &mut words[..size]);
+        let size = match end == size {
+            false => 0,
+            true if first - past < FEW => GROUP.min(2 * size),
+            true => FEW,
+        };
+        Some(Following { words, first, end, size })
+    }
 }
 
 impl<S> Walk<S> {
+    // The first group begins at 0 without a search: of a small set it is all there is.
     #[inline]
-    fn over(source: S) -> Self {
-        let few = [MaybeUninit::uninit(); FEW];
-        Walk { source, few, many: Vec::new(), first: 0, at: 0, end: 0, size: FEW, block: 0, base: 0 }
+    fn over<B: BitBlock>(source: S) -> Self
+    where
+        S: Source<B>,
+    {
+        let mut few = [MaybeUninit::uninit(); FEW];
+        let end = source.copy(0, &mut few);
+        let size = if end == FEW { 2 * FEW } else { 0 };
+        // SAFETY: the blocks below `end` are written.
+        let block = if end == 0 { 0 } else { unsafe { few[0].assume_init() } };
+        Walk { source, block, base: 0, few, many: None, first: 0, at: 1, end, size }
     }
 
     // Below this number every element was returned.
@@ -48,57 +83,35 @@ impl<S> Walk<S> {
         }
     }
 
-    // Takes the next block that is not zero in hand, and returns whether there is one. What is written here is no part of
-    // the group, and so stays in registers of the caller's loop.
+    // Takes the next block that is not zero in hand, and returns whether there is one. No call gets a reference to the walk,
+    // so that its parts stay in registers of the caller's loop.
     #[inline(always)]
     fn advance<B: BitBlock>(&mut self) -> bool
     where
         S: Source<B>,
     {
         loop {
-            let group = if self.many.is_empty() { &self.few[..] } else { &self.many };
+            let group = self.many.as_ref().map_or(self.few.as_ptr(), |many| many.as_ptr());
             while self.at < self.end {
-                let at = self.at;
-                self.at += 1;
                 // SAFETY: the blocks below `end` are written.
-                self.block = unsafe { group[at].assume_init() };
+                self.block = unsafe { (*group.add(self.at)).assume_init() };
+                self.base = (self.first + self.at) * WIDTH;
+                self.at += 1;
                 if self.block != 0 {
-                    self.base = (self.first + at) * WIDTH;
                     return true;
                 }
             }
-            if self.size == 0 || !self.fill() {
+            if self.size == 0 {
                 return false;
             }
+            let past = self.first + self.end;
+            let Some(next) = Following::copy(self.source, self.many.take(), past, self.size) else {
+                self.size = 0;
+                return false;
+            };
+            (self.first, self.at, self.end, self.size) = (next.first, 0, next.end, next.size);
+            self.many = Some(next.words);
         }
-    }
-
-    // Copies the next group. The first one begins at 0 without a search: of a small set it is all there is.
-    #[inline(never)]
-    fn fill<B: BitBlock>(&mut self) -> bool
-    where
-        S: Source<B>,
-    {
-        let next = self.first + self.end;
-        let first = match next {
-            0 => 0,
-            _ => match next.checked_mul(WIDTH).and_then(|from| self.source.search(from)) {
-                Some(element) => element / WIDTH,
-                None => return false,
-            },
-        };
-        if self.size > FEW && self.many.is_empty() {
-            self.many = vec![MaybeUninit::uninit(); GROUP];
-        }
-        let group = if self.many.is_empty() { &mut self.few[..] } else { &mut self.many[..self.size] };
-        let count = self.source.copy(first, group);
-        (self.first, self.at, self.end) = (first, 0, count);
-        self.size = match count == self.size {
-            false => 0,
-            true if first - next < FEW => GROUP.min(2 * self.size),
-            true => FEW,
-        };
-        true
     }
 
     #[inline]
@@ -109,14 +122,27 @@ impl<S> Walk<S> {
         if self.block == 0 && !self.advance() {
             return None;
         }
+        Some(self.take_lowest())
+    }
+
+    // Takes the lowest one out of the block in hand, which is not zero.
+    #[inline]
+    fn take_lowest(&mut self) -> usize {
         let lowest = self.block.trailing_zeros() as usize;
         self.block &= self.block - 1;
-        Some(self.base + lowest)
+        self.base + lowest
     }
 }
 
-#[derive(Clone)]
 struct One<'a, B: BitBlock>(&'a BitSet<B>);
+
+impl<B: BitBlock> Clone for One<'_, B> {
+    fn clone(&self) -> Self {
+        *self
+    }
+}
+
+impl<B: BitBlock> Copy for One<'_, B> {}
 
 impl<B: BitBlock> Source<B> for One<'_, B> {
     fn search(&self, from: usize) -> Option<usize> {
@@ -138,8 +164,15 @@ const DIFFERENCE: u8 = 2;
 const SYMMETRIC: u8 = 3;
 
 // What two sets make.
-#[derive(Clone)]
 struct Two<'a, B: BitBlock, const MERGE: u8>(&'a BitSet<B>, &'a BitSet<B>);
+
+impl<B: BitBlock, const MERGE: u8> Clone for Two<'_, B, MERGE> {
+    fn clone(&self) -> Self {
+        *self
+    }
+}
+
+impl<B: BitBlock, const MERGE: u8> Copy for Two<'_, B, MERGE> {}
 
 impl<B: BitBlock, const MERGE: u8> Source<B> for Two<'_, B, MERGE> {
     fn search(&self, from: usize) -> Option<usize> {
@@ -217,17 +250,27 @@ impl<B: BitBlock> BitSet<B> {
     }
 }
 
+impl<B: BitBlock> Iter<'_, B> {
+    // Takes out of the block in hand what was returned from the back, and returns whether something is left.
+    #[inline]
+    fn cut(&mut self) -> bool {
+        let left = self.end.saturating_sub(self.walk.base);
+        if left < WIDTH {
+            self.walk.block &= !(u64::MAX << left);
+        }
+        self.walk.block != 0
+    }
+}
+
 impl<B: BitBlock> Iterator for Iter<'_, B> {
     type Item = usize;
 
     #[inline]
     fn next(&mut self) -> Option<usize> {
-        let element = self.walk.next()?;
-        if element >= self.end {
-            self.end = 0;
+        if self.walk.block == 0 && !(self.walk.advance() && self.cut()) {
             return None;
         }
-        Some(element)
+        Some(self.walk.take_lowest())
     }
 }
 
@@ -235,6 +278,7 @@ impl<B: BitBlock> DoubleEndedIterator for Iter<'_, B> {
     fn next_back(&mut self) -> Option<usize> {
         let element = self.walk.source.0.previous(self.end).filter(|&element| element >= self.walk.passed());
         self.end = element.unwrap_or(0);
+        self.cut();
         element
     }
 }

@@ -1,6 +1,8 @@
 //! Random calls, from a fixed seed, beside the sets of Rust.
 use bit_set::{BitBlock, BitSet};
+use std::cell::RefCell;
 use std::collections::BTreeSet;
+use std::thread;
 
 struct Draws(u64);
 
@@ -154,6 +156,72 @@ fn walks_from_both_ends() {
                 _ => assert_eq!(walk.next_back(), other.next_back()),
             }
         }
+    }
+}
+
+#[test]
+fn walks_over_sets_of_many_groups() {
+    let mut draws = Draws(7);
+    for _ in 0..60 {
+        let mut draw = || -> BTreeSet<usize> {
+            let (start, length) = (draws.below(100_000), draws.below(20_000));
+            let far = (0..draws.below(30)).map(|_| draws.below(1_000_000)).collect::<Vec<_>>();
+            (start..start + length).step_by(1 + draws.below(90)).chain(far).collect()
+        };
+        let (a, b) = (draw(), draw());
+        let (x, y): (BitSet, BitSet) = (a.iter().copied().collect(), b.iter().copied().collect());
+        assert!(x.union(&y).eq(a.union(&b).copied()));
+        assert!(x.intersection(&y).eq(a.intersection(&b).copied()));
+        assert!(x.difference(&y).eq(a.difference(&b).copied()));
+        assert!(x.symmetric_difference(&y).eq(a.symmetric_difference(&b).copied()));
+        let mut walk = x.iter();
+        walk.by_ref().take(a.len() / 2).for_each(drop);
+        assert!(walk.clone().eq(a.iter().copied().skip(a.len() / 2)));
+        assert_eq!((walk.by_ref().last(), walk.next()), (a.iter().copied().skip(a.len() / 2).last(), None));
+    }
+}
+
+#[test]
+fn sets_that_are_let_go_and_made_again() {
+    let mut draws = Draws(8);
+    let (mut sets, mut models) = (Vec::<BitSet>::new(), Vec::<BTreeSet<usize>>::new());
+    for _ in 0..3000 {
+        let at = draws.below(6);
+        match draws.below(4) {
+            0 if sets.len() > at => drop((sets.swap_remove(at), models.swap_remove(at))),
+            1 if sets.len() > at => {
+                sets.push(sets[at].clone());
+                models.push(models[at].clone());
+            }
+            _ if sets.len() < 6 => {
+                sets.push(BitSet::new());
+                models.push(BTreeSet::new());
+            }
+            _ => {
+                let bound = [60, 1200, 5000][draws.below(3)];
+                let value = draws.below(bound);
+                assert_eq!(sets[at].insert(value), models[at].insert(value));
+            }
+        }
+        sets.iter().zip(&models).for_each(|(set, model)| same(set, model));
+    }
+}
+
+#[test]
+fn threads_end_with_sets_of_their_own() {
+    thread_local! {
+        static EARLY: RefCell<BitSet> = RefCell::default();
+        static LATE: RefCell<BitSet> = RefCell::default();
+    }
+    for _ in 0..20 {
+        let set: BitSet = (0..40).collect();
+        let made = thread::spawn(move || {
+            EARLY.with(|early| early.borrow_mut().insert(1));
+            drop(set.clone());
+            LATE.with(|late| *late.borrow_mut() = set.clone());
+            set
+        });
+        assert!(made.join().unwrap().iter().eq(0..40));
     }
 }
 

@@ -1,0 +1,351 @@
+/* Matrices of bits. A row and a column are looked at first, since the library owes no call one that is not there. */
+#include "set.h"
+
+static bit_matrix *matrix_of(PyObject *object)
+{
+    return ((BitMatrix *)object)->matrix;
+}
+
+static bool is_matrix(PyObject *object)
+{
+    return PyObject_TypeCheck(object, matrix_type);
+}
+
+/* Reads a number below `count`, of rows or of columns, with an IndexError where it is none. */
+static bool read_place(PyObject *object, size_t count, const char *what, size_t *place)
+{
+    int outside;
+    if (!read_bound(object, place, &outside))
+        return false;
+    if (!outside && *place < count)
+        return true;
+    PyErr_Format(PyExc_IndexError, "there is no %s %R", what, object);
+    return false;
+}
+
+static bool read_row(PyObject *self, PyObject *object, size_t *row)
+{
+    return read_place(object, bit_matrix_rows(matrix_of(self)), "row", row);
+}
+
+static bool read_column(PyObject *self, PyObject *object, size_t *column)
+{
+    return read_place(object, bit_matrix_columns(matrix_of(self)), "column", column);
+}
+
+/* Reads the two arguments of a call as a row and a column, or as two rows. */
+static bool read_cell(PyObject *self, PyObject *arguments, size_t *row, size_t *column)
+{
+    PyObject *first, *second;
+    return PyArg_ParseTuple(arguments, "OO", &first, &second) && read_row(self, first, row)
+        && read_column(self, second, column);
+}
+
+static bool read_rows(PyObject *self, PyObject *arguments, size_t *first, size_t *second)
+{
+    PyObject *one, *other;
+    return PyArg_ParseTuple(arguments, "OO", &one, &other) && read_row(self, one, first) && read_row(self, other, second);
+}
+
+/* Reads how many rows or columns a matrix is to have. */
+static bool read_count(PyObject *object, size_t *count)
+{
+    int outside;
+    if (!read_bound(object, count, &outside))
+        return false;
+    if (outside < 0)
+        PyErr_SetString(PyExc_ValueError, "a number of rows or columns is not below 0");
+    else if (outside > 0)
+        PyErr_NoMemory();
+    return !outside;
+}
+
+PyObject *matrix_new(PyTypeObject *type, PyObject *arguments, PyObject *named)
+{
+    PyObject *rows_object, *columns_object;
+    size_t rows, columns;
+    static char *names[] = {"rows", "columns", NULL};
+    if (!PyArg_ParseTupleAndKeywords(arguments, named, "OO:BitMatrix", names, &rows_object, &columns_object)
+        || !read_count(rows_object, &rows) || !read_count(columns_object, &columns))
+        return NULL;
+    PyObject *made = blank(type);
+    return made ? made_if(bit_matrix_new(&((BitMatrix *)made)->matrix, rows, columns), made) : NULL;
+}
+
+PyObject *matrix_from_row(PyObject *type, PyObject *arguments)
+{
+    PyObject *members, *rows_object;
+    size_t rows;
+    if (!PyArg_ParseTuple(arguments, "OO", &members, &rows_object) || !read_count(rows_object, &rows))
+        return NULL;
+    PyObject *row = as_bit_set(members);
+    if (!row)
+        return NULL;
+    PyObject *made = blank((PyTypeObject *)type);
+    if (made)
+        made = made_if(bit_matrix_from_set(&((BitMatrix *)made)->matrix, set_of(row), rows), made);
+    Py_DECREF(row);
+    return made;
+}
+
+void matrix_dealloc(PyObject *self)
+{
+    PyTypeObject *type = Py_TYPE(self);
+    bit_matrix_free(matrix_of(self));
+    ((freefunc)PyType_GetSlot(type, Py_tp_free))(self);
+    Py_DECREF(type);
+}
+
+static PyObject *made_of(PyObject *self, bool (*call)(bit_matrix **, const bit_matrix *))
+{
+    PyObject *made = blank(Py_TYPE(self));
+    return made ? made_if(call(&((BitMatrix *)made)->matrix, matrix_of(self)), made) : NULL;
+}
+
+PyObject *matrix_copy(PyObject *self, PyObject *Py_UNUSED(none))
+{
+    return made_of(self, bit_matrix_clone);
+}
+
+PyObject *matrix_transpose(PyObject *self, PyObject *Py_UNUSED(none))
+{
+    return made_of(self, bit_matrix_transpose);
+}
+
+PyObject *matrix_dominators(PyObject *self, PyObject *entry_object)
+{
+    size_t entry;
+    if (!read_row(self, entry_object, &entry))
+        return NULL;
+    PyObject *made = blank(Py_TYPE(self));
+    return made ? made_if(bit_matrix_dominators(&((BitMatrix *)made)->matrix, matrix_of(self), entry), made) : NULL;
+}
+
+PyObject *matrix_transitive_closure(PyObject *self, PyObject *Py_UNUSED(none))
+{
+    bit_matrix_transitive_closure(matrix_of(self));
+    Py_RETURN_NONE;
+}
+
+PyObject *matrix_reflexive_transitive_closure(PyObject *self, PyObject *Py_UNUSED(none))
+{
+    bit_matrix_reflexive_transitive_closure(matrix_of(self));
+    Py_RETURN_NONE;
+}
+
+PyObject *matrix_rows(PyObject *self, void *Py_UNUSED(closure))
+{
+    return PyLong_FromSize_t(bit_matrix_rows(matrix_of(self)));
+}
+
+PyObject *matrix_columns(PyObject *self, void *Py_UNUSED(closure))
+{
+    return PyLong_FromSize_t(bit_matrix_columns(matrix_of(self)));
+}
+
+/* Whether a pair of a row and a column is in. Another object is not. */
+int matrix_contains(PyObject *self, PyObject *pair)
+{
+    size_t row, column;
+    if (!PyTuple_Check(pair) || PyTuple_Size(pair) != 2)
+        return 0;
+    enum reading reading = read_number(PyTuple_GetItem(pair, 0), &row);
+    if (reading == NUMBER)
+        reading = read_number(PyTuple_GetItem(pair, 1), &column);
+    if (reading != NUMBER)
+        return (int)reading;
+    return row < bit_matrix_rows(matrix_of(self)) && column < bit_matrix_columns(matrix_of(self))
+        && bit_matrix_contains(matrix_of(self), row, column);
+}
+
+static PyObject *change_cell(PyObject *self, PyObject *arguments, bool (*call)(bit_matrix *, size_t, size_t))
+{
+    size_t row, column;
+    return read_cell(self, arguments, &row, &column) ? PyBool_FromLong(call(matrix_of(self), row, column)) : NULL;
+}
+
+PyObject *matrix_add(PyObject *self, PyObject *arguments)
+{
+    return change_cell(self, arguments, bit_matrix_insert);
+}
+
+PyObject *matrix_discard(PyObject *self, PyObject *arguments)
+{
+    return change_cell(self, arguments, bit_matrix_remove);
+}
+
+PyObject *matrix_count(PyObject *self, PyObject *row_object)
+{
+    size_t row;
+    return read_row(self, row_object, &row) ? PyLong_FromSize_t(bit_matrix_count(matrix_of(self), row)) : NULL;
+}
+
+PyObject *matrix_count_all(PyObject *self, PyObject *Py_UNUSED(none))
+{
+    return PyLong_FromSize_t(bit_matrix_count_all(matrix_of(self)));
+}
+
+PyObject *matrix_row(PyObject *self, PyObject *row_object)
+{
+    size_t row;
+    if (!read_row(self, row_object, &row))
+        return NULL;
+    PyObject *made = blank(bit_set_type);
+    return made ? made_if(bit_matrix_row_to_set(&((BitSet *)made)->set, matrix_of(self), row), made) : NULL;
+}
+
+static PyObject *merge_rows(PyObject *self, PyObject *arguments, bool (*call)(bit_matrix *, size_t, size_t))
+{
+    size_t read, write;
+    return read_rows(self, arguments, &read, &write) ? PyBool_FromLong(call(matrix_of(self), read, write)) : NULL;
+}
+
+PyObject *matrix_union_rows(PyObject *self, PyObject *arguments)
+{
+    return merge_rows(self, arguments, bit_matrix_union_rows);
+}
+
+PyObject *matrix_intersect_rows(PyObject *self, PyObject *arguments)
+{
+    return merge_rows(self, arguments, bit_matrix_intersect_rows);
+}
+
+PyObject *matrix_difference_rows(PyObject *self, PyObject *arguments)
+{
+    return merge_rows(self, arguments, bit_matrix_difference_rows);
+}
+
+static PyObject *compare_rows(PyObject *self, PyObject *arguments, bool (*call)(const bit_matrix *, size_t, size_t))
+{
+    size_t row, other;
+    return read_rows(self, arguments, &row, &other) ? PyBool_FromLong(call(matrix_of(self), row, other)) : NULL;
+}
+
+PyObject *matrix_is_subset_row(PyObject *self, PyObject *arguments)
+{
+    return compare_rows(self, arguments, bit_matrix_is_subset_row);
+}
+
+PyObject *matrix_is_disjoint_row(PyObject *self, PyObject *arguments)
+{
+    return compare_rows(self, arguments, bit_matrix_is_disjoint_row);
+}
+
+/* Whether each member of a set is a column, with an IndexError where one is not. */
+static bool are_columns(PyObject *self, PyObject *set)
+{
+    size_t last = bit_set_last(set_of(set));
+    if (last == NO_MEMBER || last < bit_matrix_columns(matrix_of(self)))
+        return true;
+    PyErr_Format(PyExc_IndexError, "there is no column %zu", last);
+    return false;
+}
+
+PyObject *matrix_union_row_with(PyObject *self, PyObject *arguments)
+{
+    PyObject *members, *row_object;
+    size_t row;
+    if (!PyArg_ParseTuple(arguments, "OO", &members, &row_object))
+        return NULL;
+    PyObject *set = as_bit_set(members), *changed = NULL;
+    if (set && read_row(self, row_object, &row) && are_columns(self, set))
+        changed = PyBool_FromLong(bit_matrix_union_row_with(matrix_of(self), set_of(set), row));
+    Py_XDECREF(set);
+    return changed;
+}
+
+PyObject *matrix_add_range(PyObject *self, PyObject *arguments)
+{
+    PyObject *row_object, *start_object, *stop_object;
+    size_t row, start, stop;
+    int start_is, stop_is;
+    if (!PyArg_ParseTuple(arguments, "OOO", &row_object, &start_object, &stop_object)
+        || !read_row(self, row_object, &row) || !read_bound(start_object, &start, &start_is)
+        || !read_bound(stop_object, &stop, &stop_is))
+        return NULL;
+    int has_numbers = PyObject_RichCompareBool(start_object, stop_object, Py_LT);
+    if (has_numbers < 0)
+        return NULL;
+    if (has_numbers && (start_is || stop_is || stop > bit_matrix_columns(matrix_of(self)))) {
+        PyErr_SetString(PyExc_IndexError, "a number of the range is no column");
+        return NULL;
+    }
+    if (has_numbers)
+        bit_matrix_insert_range(matrix_of(self), row, start, stop);
+    Py_RETURN_NONE;
+}
+
+static PyObject *change_row(PyObject *self, PyObject *row_object, void (*call)(bit_matrix *, size_t))
+{
+    size_t row;
+    if (!read_row(self, row_object, &row))
+        return NULL;
+    call(matrix_of(self), row);
+    Py_RETURN_NONE;
+}
+
+PyObject *matrix_fill_row(PyObject *self, PyObject *row_object)
+{
+    return change_row(self, row_object, bit_matrix_fill_row);
+}
+
+PyObject *matrix_clear_row(PyObject *self, PyObject *row_object)
+{
+    return change_row(self, row_object, bit_matrix_clear_row);
+}
+
+PyObject *matrix_compare(PyObject *self, PyObject *other, int operation)
+{
+    if (!is_matrix(other) || (operation != Py_EQ && operation != Py_NE))
+        Py_RETURN_NOTIMPLEMENTED;
+    bool are_equal = bit_matrix_equals(matrix_of(self), matrix_of(other));
+    return PyBool_FromLong(are_equal == (operation == Py_EQ));
+}
+
+/* The rows as a list of sets, or NULL. */
+static PyObject *list_of_rows(PyObject *self)
+{
+    size_t count = bit_matrix_rows(matrix_of(self));
+    PyObject *rows = PyList_New(0);
+    for (size_t row = 0; rows && row < count; row++) {
+        PyObject *number = PyLong_FromSize_t(row);
+        PyObject *set = number ? matrix_row(self, number) : NULL;
+        Py_XDECREF(number);
+        if (!set || PyList_Append(rows, set))
+            Py_CLEAR(rows);
+        Py_XDECREF(set);
+    }
+    return rows;
+}
+
+PyObject *matrix_repr(PyObject *self)
+{
+    size_t rows = bit_matrix_rows(matrix_of(self)), columns = bit_matrix_columns(matrix_of(self));
+    return PyUnicode_FromFormat("<BitMatrix of %zu rows and %zu columns>", rows, columns);
+}
+
+PyObject *matrix_reduce(PyObject *self, PyObject *Py_UNUSED(none))
+{
+    PyObject *rows = list_of_rows(self);
+    if (!rows)
+        return NULL;
+    return Py_BuildValue("O(NN)N", (PyObject *)Py_TYPE(self), matrix_rows(self, NULL), matrix_columns(self, NULL), rows);
+}
+
+/* Puts in the rows that `__reduce__` gave. */
+PyObject *matrix_setstate(PyObject *self, PyObject *rows)
+{
+    if (!PyList_Check(rows)) {
+        PyErr_SetString(PyExc_TypeError, "the state of a matrix is a list of its rows");
+        return NULL;
+    }
+    for (Py_ssize_t at = 0; at < PyList_Size(rows); at++) {
+        PyObject *arguments = Py_BuildValue("On", PyList_GetItem(rows, at), at);
+        PyObject *changed = arguments ? matrix_union_row_with(self, arguments) : NULL;
+        Py_XDECREF(arguments);
+        if (!changed)
+            return NULL;
+        Py_DECREF(changed);
+    }
+    Py_RETURN_NONE;
+}
