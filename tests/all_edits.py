@@ -1,55 +1,99 @@
-"""Tries every must-fail edit, also those that the gate does not.
+"""Tries every edit of tests/edits.txt, also those that the gate does not, and keeps a record.
 
-    all_edits.py ROOT [CRATE ..]
+    all_edits.py ROOT [--anew] [CRATE | CRATE/EDIT ..]
 
-`rt ci` tries the edits in crates/CRATE/must-fail; tests/edits/CRATE has the others, which tests/edits.txt lists with the
-clause that each of them breaks. For each edit a line says whether the prover refuses it, the processor seconds that took,
-and the first error. A check that stopped at a limit of the prover refuses nothing. A crate is proved once more before its
-edits are tried, unless a check in its folder has kept that. The last line is 'N passed, M failed'.
+tests/edits.csv has a row for each edit: the clause that it breaks, the verdict, the processor seconds of its function, and the
+commit at which it was tried. Rows are written as they come, and an edit whose row says that it is refused is tried again only
+where it or its crate changed since that commit, so that a run which was stopped goes on where it was; --anew tries all. The
+verdict must be 'refused for a value' (see edits.py). The last line is 'N passed, M failed'.
 """
 
+import csv
 import shutil
+import subprocess
 import sys
 import tempfile
-from concurrent.futures import ThreadPoolExecutor
 from pathlib import Path
 
-from copies import check_words, copy_parts, crates_of, edits_of, run, try_edit
+from copies import crates_of, edits_of
+from edits import REFUSED, rounds_of, try_round
+
+COLUMNS = ("edit", "clause", "verdict", "seconds", "commit")
 
 
-def try_crate(root, crates, name):
-    """The rows of a crate's edits, after a row for the check of the crate as it is."""
-    edits = sorted((it for part in edits_of(root, name) for it in part), key=lambda it: it.name)
-    if not edits:
-        return []
+def read_rows(path):
+    """The rows of the record by their edits."""
+    if not path.exists():
+        return {}
+    with path.open() as file:
+        return {row["edit"]: row for row in csv.DictReader(file)}
+
+
+def write_rows(path, rows, listed):
+    """Writes the rows of the edits that are listed, in the order of the list."""
+    with path.open("w") as file:
+        out = csv.DictWriter(file, COLUMNS, lineterminator="\n")
+        out.writeheader()
+        out.writerows(rows[it] for it in listed if it in rows)
+
+
+def git(root, *words):
+    """What git says in the checkout, and whether it succeeds."""
+    done = subprocess.run(["git", "-C", root, *words], capture_output=True, text=True)
+    return done.stdout.strip(), done.returncode == 0
+
+
+def commit_of(root, crate):
+    """The commit that the crate is at, with a '+' where its files are others."""
+    commit, _ = git(root, "rev-parse", "--short=8", "HEAD")
+    changed, _ = git(root, "status", "--porcelain", f"crates/{crate}", f"tests/edits/{crate}")
+    return commit + "+" * bool(changed)
+
+
+def is_tried(root, crate, edit, row):
+    """Whether the row says that the edit is refused, and neither it nor its crate changed since."""
+    folders = [f"crates/{crate}/{it}" for it in ("src", "specs", "proofs")]
+    return bool(row) and row["verdict"] == REFUSED and git(root, "diff", "--quiet", row["commit"], "--", edit, *folders)[1]
+
+
+def try_crate(root, crates, crate, edits, at_row):
+    """Tries these edits of a crate, over what an earlier check in its folder has kept, and hands on each row."""
     with tempfile.TemporaryDirectory(prefix="all-edits-") as room:
-        folder, kept = Path(room), root / "crates" / name / "out" / "incremental"
-        copy_parts(root / "crates" / name, folder)
+        folder, kept = Path(room), root / "crates" / crate / "out" / "incremental"
         if kept.is_dir():
             shutil.copytree(kept, folder / "kept")
-        command = check_words(root, crates, name, "--incremental", "kept")
-        status, said, seconds = run(folder, *command)
-        rows = [("proved" if status == 0 else "NOT PROVED", f"{name} as it is", said[-1][:120], seconds)]
-        for edit in edits:
-            word, first, seconds = try_edit(edit, folder, *command)
-            rows.append((word, f"{name}/{edit.stem}", first, seconds))
-            print(f"{seconds:7.1f} s  {word:11}  {name}/{edit.stem}: {first}", flush=True)
-    return rows
+        commit = commit_of(root, crate)
+        for part in rounds_of(edits):
+            for edit, (verdict, shown, seconds) in try_round(root, crates, crate, folder, part).items():
+                row = (f"{crate}/{edit.stem}", f"{part[edit][0]}: {part[edit][1]}", verdict, f"{seconds:.1f}", commit)
+                at_row(dict(zip(COLUMNS, row)), shown)
 
 
 def main():
-    root = Path(sys.argv[1])
-    crates = crates_of(root)
-    names = sys.argv[2:] or list(crates)
-    with ThreadPoolExecutor(2) as pool:
-        rows = [row for found in pool.map(lambda name: try_crate(root, crates, name), names) for row in found]
-    print("\nthe slowest, in processor seconds:")
-    for word, edit, _, seconds in sorted(rows, key=lambda row: -row[3])[:10]:
-        print(f"{seconds:7.1f} s  {word:11}  {edit}")
-    failed = [row for row in rows if row[0] not in ("refused", "proved")]
-    for word, edit, first, _ in failed:
-        print(f"FAILED: {edit}: {word}: {first}")
-    print(f"{len(rows) - len(failed)} passed, {len(failed)} failed")
+    root, words = Path(sys.argv[1]), sys.argv[2:]
+    crates, path = crates_of(root), root / "tests" / "edits.csv"
+    all_edits = {name: edits_of(root, name) for name in crates}
+    listed = [f"{name}/{edit.stem}" for name, edits in all_edits.items() for edit in edits]
+    rows = read_rows(path)
+    asked = [it for it in words if it != "--anew"] or list(crates)
+    asked = [it for it in listed if it in asked or it.partition("/")[0] in asked]
+
+    def at_row(row, shown):
+        rows.update(read_rows(path))
+        rows[row["edit"]] = row
+        write_rows(path, rows, listed)
+        print(f"{row['seconds']:>7} s  {row['verdict']}: {row['edit']}: {shown[:200]}", flush=True)
+
+    for name, edits in all_edits.items():
+        kept = {} if "--anew" in words else rows
+        named = {edit: it for edit, it in edits.items() if f"{name}/{edit.stem}" in asked}
+        left = {edit: it for edit, it in named.items() if not is_tried(root, name, edit, kept.get(f"{name}/{edit.stem}"))}
+        if left:
+            try_crate(root, crates, name, left, at_row)
+    failed = [it for it in asked if rows[it]["verdict"] != REFUSED]
+    for it in failed:
+        print(f"FAILED: {it}: {rows[it]['verdict']}")
+    print(f"{len(asked) - len(failed)} passed, {len(failed)} failed")
     return 1 if failed else 0
 
 

@@ -1,7 +1,7 @@
 #!/usr/bin/env bash
-# Tries every must-fail edit of the crates that are named, or of all: those that `rt ci` tries, and those of tests/edits,
-# over the libraries that the checkout has built. An edit takes 10 to 60 seconds, once its crate is proved. The last line
-# is 'N passed, M failed'.
+# Tries each edit of tests/edits.txt, or of the crates or the CRATE/EDIT that are named, over the libraries that the checkout has built,
+# and writes tests/edits.csv. A run that was stopped goes on where it was; --anew tries all again. The last line is
+# 'N passed, M failed'.
 set -euo pipefail
 unset CDPATH
 here="$(dirname "$(readlink -f "${BASH_SOURCE[0]}")")"

@@ -107,16 +107,25 @@ def run(folder, *words, at_line=None):
 
 
 def edits_of(root, name):
-    """The edits of a crate: those that `rt ci` tries, and those that it does not."""
-    folders = (root / "crates" / name / "must-fail", root / "tests" / "edits" / name)
-    return [sorted(it.glob("*.edit")) for it in folders]
+    """The edits of a crate, each with its function and the clause that is not met, as tests/edits.txt lists them."""
+    found = {}
+    for line in (root / "tests" / "edits.txt").read_text().splitlines():
+        row = re.fullmatch(rf"{name}/(\w+): ([\w:]+), (.+)", line)
+        if row:
+            files = [folder / f"{row[1]}.edit" for folder in folders_of_edits(root, name)]
+            found[next((it for it in files if it.exists()), files[-1])] = (row[2], row[3])
+    return found
+
+
+def folders_of_edits(root, name):
+    """Where the edits of a crate are: those that `rt ci` tries, and those that it does not."""
+    return root / "crates" / name / "must-fail", root / "tests" / "edits" / name
 
 
 def gate_edits_of(root, name):
-    """The functions that must have no proof under the edits of tests/edits that the gate tries, by the edits."""
+    """Those of the edits that tests/edits.sh tries for the gate."""
     lines = (root / "tests" / "gate_edits.txt").read_text().splitlines()
-    rows = (re.fullmatch(rf"{name}/(\w+): (\S+)", it) for it in lines)
-    return {root / "tests" / "edits" / name / f"{row[1]}.edit": row[2] for row in rows if row}
+    return {edit: it for edit, it in edits_of(root, name).items() if f"{name}/{edit.stem}" in lines}
 
 
 def texts_of(edit, folder):
@@ -140,38 +149,3 @@ def write_edit(edit, folder):
     """Changes the crate in this folder by the edit."""
     for path, text in texts_of(edit, folder).items():
         (folder / path).write_text(text)
-
-
-# What rattle says where a tactic came to the end of what it may take, and so says nothing of the statement.
-LIMITS = re.compile(r"(step|depth|time|memory|size) limit|ran out of|could not tell|no verdict|gave up")
-
-
-def only_limits(said):
-    """Whether the prover came to a limit at each goal that is open. A name that is gone is no goal."""
-    goals = [it for it in said if "it is not proved that" in it or re.match(r"\S+:\d+:\d+: error", it) and " has no " not in it]
-    return any(LIMITS.search(it) for it in said) and all(LIMITS.search(it) for it in goals)
-
-
-def try_edit(edit, folder, *command):
-    """Checks the crate in this folder by the command, under the edit. Returns a word, what the first error says, and the
-    processor seconds."""
-    before = {}
-    try:
-        for path, text in texts_of(edit, folder).items():
-            before[path] = (folder / path).read_text()
-            (folder / path).write_text(text)
-        status, said, seconds = run(folder, *command)
-    except (OSError, ValueError) as error:
-        return "BAD", str(error), 0.0
-    finally:
-        for path, text in before.items():
-            (folder / path).write_text(text)
-    errors = [it for it in said if re.match(r"\S+:\d+:\d+: error", it)] or [it for it in said if ": no proof: " in it or ": not proved" in it]
-    first = errors[0][:200] if errors else said[-1][:200]
-    if status == 0:
-        return "NOT REFUSED", "the crate is still proved", seconds
-    if status != 1 or not any(it.startswith("logic=not-proved") for it in said):
-        return "NO VERDICT", first, seconds
-    if only_limits(said):
-        return "LIMIT", next(it for it in said if LIMITS.search(it))[:200], seconds
-    return "refused", first, seconds

@@ -7,11 +7,13 @@ that the checkout has built. With --edits the edits that the gate tries are trie
 kept. A row a crate, then the ten slowest functions and edits of all.
 """
 
+import resource
 import sys
 import tempfile
 from pathlib import Path
 
-from copies import check_words, copy_parts, crates_of, edits_of, gate_edits_of, run, try_edit
+from copies import check_words, copy_parts, crates_of, edits_of, gate_edits_of, run
+from edits import rounds_of, try_edits
 
 
 def prove(folder, command):
@@ -28,6 +30,21 @@ def prove(folder, command):
     return status == 0, seconds, rows
 
 
+def try_gate(root, crates, name, folder):
+    """The seconds that the function of each edit took of those that the gate tries, and what all took, over a proof that is kept."""
+    found = {edit: it for edit, it in edits_of(root, name).items() if edit.parent.name == "must-fail"} | gate_edits_of(root, name)
+    rows, spent = [], 0.0
+    if found:
+        run(folder, *check_words(root, crates, name, "--incremental", "kept"))
+        before = resource.getrusage(resource.RUSAGE_CHILDREN)
+        for part in rounds_of(found):
+            for edit, (verdict, _, seconds) in try_edits(root, crates, name, folder, part).items():
+                rows.append((seconds, f"{name}/{edit.stem} ({verdict})"))
+        after = resource.getrusage(resource.RUSAGE_CHILDREN)
+        spent = after.ru_utime + after.ru_stime - before.ru_utime - before.ru_stime
+    return rows, spent
+
+
 def cost_of(root, crates, name, with_edits):
     """The seconds of a crate's proof, of that with its tests, and of its edits; and the rows of its functions and edits."""
     with tempfile.TemporaryDirectory(prefix="cost-") as room:
@@ -38,16 +55,9 @@ def cost_of(root, crates, name, with_edits):
         tests = prove(folder, check_words(root, crates, name, *flags, "--test")) if has_tests else (True, 0.0, [])
         proof = prove(folder, check_words(root, crates, name, *flags))
         functions = tests[2] + [row for row in proof[2] if row[1] not in {it[1] for it in tests[2]}]
-        over = check_words(root, crates, name, "--incremental", "kept")
-        found = [*edits_of(root, name)[0], *gate_edits_of(root, name)] if with_edits else []
-        if found:
-            run(folder, *over)
-        edits = []
-        for edit in found:
-            word, _, seconds = try_edit(edit, folder, *over)
-            edits.append((seconds, f"{name}/{edit.stem} ({word})"))
+        edits, spent = try_gate(root, crates, name, folder) if with_edits else ([], 0.0)
     said = "" if tests[0] and proof[0] else "  NOT PROVED"
-    print(f"{name:26}{proof[1]:9.0f}{tests[1]:9.0f}{sum(it[0] for it in edits):9.0f}{len(edits):6}{said}", flush=True)
+    print(f"{name:26}{proof[1]:9.0f}{tests[1]:9.0f}{spent:9.0f}{len(edits):6}{said}", flush=True)
     return proof[1], tests[1], functions, edits
 
 

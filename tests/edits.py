@@ -1,12 +1,11 @@
 """Tries the edits that the gate tries besides those of `rt ci`: each must leave the named function without a proof.
 
-    edits.py ROOT CRATE
+    edits.py ROOT CRATE..
 
-tests/gate_edits.txt names each edit with that function. The prover is asked for the function and what it calls alone, over
-the libraries below the crate as `rt ci` has just proved them in the checkout; what it proves once is kept. Edits of
-different files are tried in one run of it: each changes bodies alone, and the proof of a function rests on the contracts of
-others, not on their bodies. A function is refused where a goal of its own is open, and not for a limit of the prover
-alone. The last line is 'N passed, M failed'.
+tests/gate_edits.txt names each edit, and tests/edits.txt its function. The prover is asked for the function and what it calls
+alone, over the libraries below the crate as they are built in the checkout; what it proves once is kept. Edits of different
+functions are tried in one run of it: each changes bodies alone, and the proof of a function rests on the contracts of others,
+not on their bodies. The last line is 'N passed, M failed'.
 """
 
 import re
@@ -14,89 +13,118 @@ import sys
 import tempfile
 from pathlib import Path
 
-from copies import LIMITS, check_words, copy_parts, crates_of, gate_edits_of, run, write_edit
+from copies import check_words, copy_parts, crates_of, gate_edits_of, run, write_edit
 
+REFUSED = "refused for a value"
 
-def check(root, crates, crate, folder, functions):
-    """What rattle says of the functions in this copy of the crate, and its status."""
-    asked = [word for function in functions for word in ("--only", function)]
-    status, said, _ = run(folder, *check_words(root, crates, crate, *asked, "--incremental", "kept"))
-    return status, said
+# How many edits are tried in one run, at the end of which they have their verdicts.
+MOST = 8
 
+# What rattle says where a tactic came to the end of what it may take, and so says nothing of the statement.
+LIMITS = re.compile(r"(step|depth|time|memory|size) limit|ran out of|could not tell|no verdict|gave up")
 
-def files_of(edit):
-    """The files that an edit changes."""
-    return set(re.findall(r"^file: (\S+)", edit.read_text(), re.M))
+# What it says of a file of a proof that names something which is not there.
+NAMES = re.compile(r" has no |: no (goal|name|field|module)\b|not in scope|is not (defined|declared)|unknown name")
 
 
 def rounds_of(edits):
-    """The edits with their functions in rounds, in none of which two change the same file."""
+    """The edits in rounds of a few, in none of which two change the same function."""
     rounds = []
-    for edit, function in edits.items():
-        free = next((it for it in rounds if not any(files_of(edit) & files_of(other) for other in it)), None)
+    for edit, (function, clause) in edits.items():
+        free = next((it for it in rounds if len(it) < MOST and all(function != other for other, _ in it.values())), None)
         if free is None:
             free = {}
             rounds.append(free)
-        free[edit] = function
+        free[edit] = (function, clause)
     return rounds
 
 
-def own_goals(said, crate, function):
-    """The goals of the function itself that are open: where its proof fails, and those that the notes above its line name.
-
-    A name that is gone is no goal, and one that waits for the proof of a callee is not named."""
+def own_goals(said, function):
+    """The goals of the function itself that are open: where its proof fails, and those that the notes above its line name."""
     folder, goals, above = f"./proofs/{function.replace('::', '/')}/", [], []
     for line in said:
-        if line.startswith(folder) and ": error: " in line and " has no " not in line:
+        if line.startswith(folder) and ": error: " in line:
             goals.append(line)
-        if line.startswith(f"fn {crate}::{function}: "):
+        if re.match(rf"fn \w+::{re.escape(function)}: ", line):
             goals += above
         above = [] if line.startswith("fn ") else above + [line] * ("it is not proved that" in line)
     return goals
 
 
-def refuses(said, crate, function):
-    """Whether the function has no proof, and one of its own goals is open for more than a limit of the prover."""
-    is_open = any(re.match(rf"fn {crate}::{function}: (not proved|no proof: expected answers in )", it) for it in said)
-    return is_open and any(not LIMITS.search(it) for it in own_goals(said, crate, function))
+def verdict_of(status, said, function):
+    """What the prover says of a function, and the goal of its own that shows it. Only a goal that is open for a value refuses:
+    a name that is gone, or a limit of the prover, says nothing of the statement."""
+    line = next((it for it in said if re.match(rf"fn \w+::{re.escape(function)}: ", it)), "")
+    goals = own_goals(said, function)
+    values = [it for it in goals if not LIMITS.search(it) and not NAMES.search(it)]
+    if line.endswith(": proved"):
+        return "NOT REFUSED", line
+    if status != 1 or not line:
+        return "NO VERDICT", " ".join(said)[-300:]
+    if values:
+        return REFUSED, values[0]
+    limits = [it for it in goals if LIMITS.search(it)]
+    return ("LIMIT", limits[0]) if limits else ("NO GOAL", (goals or [line])[0])
 
 
 def try_edits(root, crates, crate, folder, edits):
-    """For each edit, whether the prover refuses its function in a copy of the crate that has all of them, and what it says."""
+    """For each edit the verdict on its function in a copy of the crate that has all of them, what shows it, and the processor
+    seconds that its proof took."""
     copy_parts(root / "crates" / crate, folder)
-    try:
-        for edit in edits:
+    found = {}
+    for edit in edits:
+        try:
             write_edit(edit, folder)
-    except (OSError, ValueError) as error:
-        return {edit: (False, str(error)) for edit in edits}
-    status, said = check(root, crates, crate, folder, edits.values())
-    end = f"status {status}: {' '.join(said)[-300:]}"
-    refused = {edit: status == 1 and refuses(said, crate, function) for edit, function in edits.items()}
-    return {edit: (refused[edit], function if refused[edit] else end) for edit, function in edits.items()}
+        except (OSError, ValueError) as error:
+            found[edit] = ("BAD", str(error), 0.0)
+    written = {edit: it for edit, it in edits.items() if edit not in found}
+    ends, last = {}, 0.0
+
+    def at_line(line, used):
+        nonlocal last
+        if line.startswith("checked "):
+            ends[line[len("checked ") :].partition(",")[0]] = used - last
+        last = max(last, used)
+
+    asked = [word for function, _ in written.values() for word in ("--only", function)]
+    words = check_words(root, crates, crate, *asked, "--incremental", "kept", "--progress")
+    status, said, _ = run(folder, *words, at_line=at_line) if written else (0, [], 0.0)
+    for edit, (function, _) in written.items():
+        seconds = ends.get(f"{crate}::{function}", 0.0)
+        found[edit] = (*verdict_of(status, said, function), seconds)
+    return found
 
 
 def try_round(root, crates, crate, folder, edits):
-    """As `try_edits`, and each edit that is not refused there by itself, since another may keep its goals from being tried."""
+    """As `try_edits`, and each edit by itself that another may have kept from a verdict."""
     found = try_edits(root, crates, crate, folder, edits)
-    for edit, function in edits.items():
-        if not found[edit][0] and len(edits) > 1:
-            found.update(try_edits(root, crates, crate, folder, {edit: function}))
+    for edit, it in edits.items():
+        if found[edit][0] in ("BAD", "NO GOAL", "NO VERDICT") and len(edits) > 1:
+            found.update(try_edits(root, crates, crate, folder, {edit: it}))
+    return found
+
+
+def try_gate(root, crates, crate):
+    """Tries those edits of a crate, and returns for each whether it is refused."""
+    found = []
+    with tempfile.TemporaryDirectory(prefix="edits-") as room:
+        for edits in rounds_of(gate_edits_of(root, crate)):
+            for edit, (verdict, shown, seconds) in try_round(root, crates, crate, Path(room), edits).items():
+                found.append(verdict == REFUSED)
+                line = f"refused: {crate}/{edit.stem}: {edits[edit][0]} in {seconds:.1f} s"
+                print(line if found[-1] else f"FAILED: {crate}/{edit.stem}: {verdict}: {shown}", flush=True)
+    if not found:
+        found.append(False)
+        print(f"FAILED: tests/gate_edits.txt names no edit of {crate}")
     return found
 
 
 def main():
-    root, crate = Path(sys.argv[1]), sys.argv[2]
-    crates, passed, failed = crates_of(root), 0, 0
-    with tempfile.TemporaryDirectory(prefix="edits-") as room:
-        for edits in rounds_of(gate_edits_of(root, crate)):
-            for edit, (refused, said) in try_round(root, crates, crate, Path(room), edits).items():
-                passed, failed = passed + refused, failed + (not refused)
-                print(f"{'refused' if refused else 'FAILED'}: {crate}/{edit.stem}: {said}", flush=True)
-    if not passed + failed:
-        failed = 1
-        print(f"FAILED: tests/gate_edits.txt names no edit of {crate}")
-    print(f"{passed} passed, {failed} failed")
-    return 1 if failed else 0
+    root = Path(sys.argv[1])
+    crates = crates_of(root)
+    found = [it for crate in sys.argv[2:] for it in try_gate(root, crates, crate)]
+    print(f"{sum(found)} passed, {len(found) - sum(found)} failed")
+    return 0 if found and all(found) else 1
 
 
 if __name__ == "__main__":

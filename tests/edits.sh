@@ -1,6 +1,6 @@
 #!/usr/bin/env bash
-# Tries the edits of a crate that tests/gate_edits.txt names, over the libraries below it as `rt ci` has just proved them
-# here. The last line is 'N passed, M failed'.
+# Tries the edits of these crates that tests/gate_edits.txt names, over the libraries below them as `rt ci` has just proved
+# them here. The last line is 'N passed, M failed'.
 set -euo pipefail
 unset CDPATH
 here="$(dirname "$(readlink -f "${BASH_SOURCE[0]}")")"

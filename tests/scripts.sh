@@ -89,7 +89,8 @@ ended_by_signal() {
     shift 3
     forget_calls
     take_seconds 30
-    start_group "$@" < /dev/null > "$room/wrote" 2> "$room/said"
+    # A test that runs under nohup, or behind, ignores some of the signals, and a script cannot undo that.
+    start_group env --default-signal=HUP,INT,QUIT,TERM "$@" < /dev/null > "$room/wrote" 2> "$room/said"
     local run=$!
     expect "$what: it does not begin" wait_until is_called "$call"
     kill -s "$signal" "$run"
