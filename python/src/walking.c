@@ -11,22 +11,20 @@ int set_bool(PyObject *self)
     return !bit_set_is_empty(set_of(self));
 }
 
+/* The members as a list. It is made before they are read, since making it may run code that changes the set. */
 static PyObject *list_of(PyObject *self)
 {
-    Py_ssize_t size = set_length(self);
-    size_t group[GROUP], from = 0;
-    PyObject *list = PyList_New(size);
-    for (Py_ssize_t done = 0; list && done < size;) {
-        size_t count = bit_set_copy_members(set_of(self), from, group, GROUP);
-        for (size_t at = 0; at < count; at++) {
+    size_t group[GROUP], from = 0, count = GROUP;
+    PyObject *list = PyList_New(0);
+    while (list && count == GROUP) {
+        count = bit_set_copy_members(set_of(self), from, group, GROUP);
+        for (size_t at = 0; list && at < count; at++) {
             PyObject *member = int_of(group[at]);
-            if (!member) {
-                Py_DECREF(list);
-                return NULL;
-            }
-            PyList_SetItem(list, done++, member);
+            if (!member || PyList_Append(list, member))
+                Py_CLEAR(list);
+            Py_XDECREF(member);
         }
-        from = group[count - 1] + 1;
+        from = count ? group[count - 1] + 1 : from;
     }
     return list;
 }
@@ -46,35 +44,46 @@ PyObject *set_repr(PyObject *self)
     return text;
 }
 
+/* So many zeros as an array of the machine's words. */
+static PyObject *zeros(Py_ssize_t count)
+{
+    PyObject *zero = PyObject_CallFunction(array_type, "s(i)", sizeof(size_t) == 8 ? "Q" : "I", 0);
+    PyObject *array = zero ? PySequence_Repeat(zero, count) : NULL;
+    Py_XDECREF(zero);
+    return array;
+}
+
 /* The members as an array of the machine's words, which NumPy reads with no copy. */
 PyObject *set_to_array(PyObject *self, PyObject *Py_UNUSED(none))
 {
     void *place;
-    Py_ssize_t length;
-    PyObject *array = NULL, *zero = PyObject_CallFunction(array_type, "s(i)", sizeof(size_t) == 8 ? "Q" : "I", 0);
-    if (zero)
-        array = PySequence_Repeat(zero, set_length(self));
-    Py_XDECREF(zero);
-    if (!array)
-        return NULL;
-    if (PyObject_AsWriteBuffer(array, &place, &length)) {
-        Py_DECREF(array);
-        return NULL;
-    }
-    bit_set_copy_members(set_of(self), 0, place, (size_t)length / sizeof(size_t));
+    Py_ssize_t length, count;
+    PyObject *array = NULL;
+    /* Making the array may run code that changes the set. */
+    do {
+        Py_XDECREF(array);
+        count = set_length(self);
+        array = zeros(count);
+    } while (array && set_length(self) != count);
+    if (array && PyObject_AsWriteBuffer(array, &place, &length))
+        Py_CLEAR(array);
+    if (array)
+        bit_set_copy_members(set_of(self), 0, place, (size_t)length / sizeof(size_t));
     return array;
 }
 
 PyObject *set_reduce(PyObject *self, PyObject *Py_UNUSED(none))
 {
     PyObject *array = set_to_array(self, NULL);
+    if (!array)
+        return NULL;
     PyObject *state = PyObject_GetAttrString(self, "__dict__");
     if (!state) {
         PyErr_Clear();
         state = Py_None;
         Py_INCREF(state);
     }
-    return array ? Py_BuildValue("O(N)N", (PyObject *)Py_TYPE(self), array, state) : NULL;
+    return Py_BuildValue("O(N)N", (PyObject *)Py_TYPE(self), array, state);
 }
 
 PyObject *set_sizeof(PyObject *self, PyObject *Py_UNUSED(none))
