@@ -2,7 +2,9 @@
 
 pub mod allocating;
 pub mod complements;
+pub mod filling;
 pub mod filtering;
 pub mod from_the_back;
 pub mod merging;
+pub mod reading;
 pub mod selecting;
