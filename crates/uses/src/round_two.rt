@@ -7,4 +7,5 @@ pub mod filtering;
 pub mod from_the_back;
 pub mod merging;
 pub mod reading;
+pub mod relations;
 pub mod selecting;
