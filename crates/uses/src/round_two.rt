@@ -1,4 +1,4 @@
-//! Callers of a second round, for which nothing in the library was changed.
+//! Callers of a second round; for one of them the library has a lemma more.
 
 pub mod allocating;
 pub mod complements;

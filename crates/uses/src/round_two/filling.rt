@@ -1,5 +1,5 @@
-//! Sets that are filled.
-ghost use Rattle.std.specs.Prelude.{◌≡◌, ℕ, ◌&&◌, not, nat_le, nat_lt, IfOk};
+//! Sets that are filled, and out of which numbers are taken.
+ghost use Rattle.std.specs.Prelude.{◌≡◌, ℕ, ◌+◌, ◌<◌, ◌≤◌, ◌%◌, ◌==◌, ◌&&◌, not, nat_le, nat_lt, IfOk};
 ghost use Rattle.bit_set.specs.Sets.{elements, has};
 
 use bit_set::{BitBlock, BitSet, SetError};
@@ -24,4 +24,19 @@ pub fn seats_for_sale<B: BitBlock>(
     seats.remove_range(closed..opened);
     seats.difference_with(sold)?;
     Ok(seats)
+}
+
+/// Takes the multiples of `step` below `end` out.
+#[tactic(auto, using(bit_set::proofs::CallerLemmas::steps))]
+pub fn remove_multiples<B: BitBlock>(set: &mut BitSet<B>, step: usize, end: usize)
+    requires step { 0 < step }
+    requires fits { end + step ≤ usize.MAX }
+    ensures { (x : ℕ) → has (elements set.new.values) x
+        ≡ (has (elements set.old.values) x && not (nat_lt x end && x % step == 0)) }
+{
+    let mut multiple = 0;
+    while multiple < end {
+        set.remove(multiple);
+        multiple += step;
+    }
 }
