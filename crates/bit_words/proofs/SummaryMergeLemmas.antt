@@ -4,7 +4,7 @@ use Rattle.std.proofs.Common.{map, length, get_or, set, All, sym, ap, ap₂, ◌
 use Rattle.std.proofs.Common.{get_or-set_other, mul-le-mul_right}
 use Rattle.std.proofs.{Math.Bool.{and-false, and-true, or-false}, lemmas.{Bool.{cases_lt, cases_eq, Decides.nat_tests}, List.{get_or_past, length-map}, Nat.Bits.same_from_bits_below}}
 use Rattle.bit_blocks.specs.Digits.{IsEither, is_one}
-use Rattle.bit_blocks.specs.declared.block.merge.Merge.Merge
+use Rattle.bit_blocks.specs.declared.block.merge.Merge.{Merge}
 use Rattle.bit_blocks.specs.declared.block.merge.Merge.TheVariants.{Union, Intersection, Difference, Symmetric}
 use Rattle.bit_blocks.specs.{Merges.merge_of_values, BlockMerges.{except_at, other_at, HasMerged}, Storage.value_at}
 use Rattle.bit_blocks.{specs.Storage.is_used, proofs.{CompareLemmas.zero_from_digits, Masks.{is_one-either, is_one-zero}, MergeLemmas.merge_of_values-none, StorageLemmas.same_digit}}
