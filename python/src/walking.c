@@ -156,17 +156,27 @@ void walk_dealloc(PyObject *object)
     Py_DECREF(type);
 }
 
-PyObject *set_to_bytes(PyObject *self, PyObject *Py_UNUSED(none))
+static PyObject *bytes_by(PyObject *self, size_t (*call)(const bit_set *, size_t, uint8_t *, size_t))
 {
     size_t last = bit_set_last(set_of(self));
     size_t count = last == NO_MEMBER ? 0 : last / 8 + 1;
     PyObject *bytes = PyBytes_FromStringAndSize(NULL, (Py_ssize_t)count);
     if (bytes)
-        bit_set_copy_bytes(set_of(self), 0, (uint8_t *)PyBytes_AsString(bytes), count);
+        call(set_of(self), 0, (uint8_t *)PyBytes_AsString(bytes), count);
     return bytes;
 }
 
-static PyObject *put_bytes(PyObject *self, PyObject *bytes)
+PyObject *set_to_bytes(PyObject *self, PyObject *Py_UNUSED(none))
+{
+    return bytes_by(self, bit_set_copy_bytes);
+}
+
+PyObject *set_to_bytes_lsb(PyObject *self, PyObject *Py_UNUSED(none))
+{
+    return bytes_by(self, bit_set_copy_bytes_lsb);
+}
+
+static PyObject *put_bytes_by(PyObject *self, PyObject *bytes, bool (*call)(bit_set **, const uint8_t *, size_t))
 {
     const void *start;
     Py_ssize_t length;
@@ -176,7 +186,7 @@ static PyObject *put_bytes(PyObject *self, PyObject *bytes)
         Py_XDECREF(view);
         return NULL;
     }
-    bool found = bit_set_from_bytes(&made, start, (size_t)length);
+    bool found = call(&made, start, (size_t)length);
     Py_DECREF(view);
     if (!found)
         return PyErr_NoMemory();
@@ -185,7 +195,22 @@ static PyObject *put_bytes(PyObject *self, PyObject *bytes)
     return none_if(true);
 }
 
+static PyObject *put_bytes(PyObject *self, PyObject *bytes)
+{
+    return put_bytes_by(self, bytes, bit_set_from_bytes);
+}
+
+static PyObject *put_bytes_lsb(PyObject *self, PyObject *bytes)
+{
+    return put_bytes_by(self, bytes, bit_set_from_bytes_lsb);
+}
+
 PyObject *set_from_bytes(PyObject *type, PyObject *bytes)
 {
     return made_by(type, bytes, put_bytes);
+}
+
+PyObject *set_from_bytes_lsb(PyObject *type, PyObject *bytes)
+{
+    return made_by(type, bytes, put_bytes_lsb);
 }

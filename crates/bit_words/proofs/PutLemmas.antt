@@ -1,7 +1,7 @@
 -- Blocks that were put over others, the summary that follows them, and the list that they hold.
 use Rattle.std.specs.Global.{Vec}
-use Rattle.std.proofs.Common.{◌≡◌, ℕ, ◌+◌, ◌-◌, ◌*◌, ◌/◌, ◌%◌, ◌^◌, ◌<◌, ◌≤◌, min, false, not, ◌==◌, List, ◌++◌, All, length, get_or, map, take, drop, refl, sym, ap, ◌∙◌, subst, arith, ⊎_elim}
-use Rattle.std.proofs.Common.{div-lt_iff_lt-mul, get_or-append-add, length-append, length-drop, mul-le-mul_right, take-append-drop, vec_len}
+use Rattle.std.proofs.Common.{◌≡◌, ℕ, ◌+◌, ◌-◌, ◌*◌, ◌/◌, ◌%◌, ◌<◌, ◌≤◌, min, false, not, ◌==◌, List, ◌++◌, All, length, get_or, map, take, drop, refl, sym, ap, ◌∙◌, subst, arith, ⊎_elim}
+use Rattle.std.proofs.Common.{div-lt_iff_lt-mul, get_or-append-add, length-drop, mul-le-mul_right, take-append-drop, vec_len}
 use Rattle.std.proofs.lemmas.{Bool.{Decides.nat_tests, cases_lt}, List.{get_or_append_left, get_or-append_right, length-map, length-take-le, map-append, Elements.{All-append, All-drop, All-take}}}
 use borrow.Rule.Slice.PartMut.{put_mid}
 use Rattle.bit_blocks.specs.{Bits.{Bits, blocks_for}, Digits.is_one, Ranges.in_range, Storage.{value_at, values_of, IsPacked, IsZeroFrom, WritesInPlace, is_used}}

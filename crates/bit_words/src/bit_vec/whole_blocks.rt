@@ -11,12 +11,6 @@ use bit_blocks::packed::access::block_index;
 impl<B: BitBlock> BitVec<B> {
     /// Makes the blocks from block `from` on these, each of which must lie within the list. Copies them at once, and makes
     /// their bits in the summary anew, where one is stored, as many at once as a block has.
-    ///
-    /// ```
-    /// // Of 24 values over blocks of 8 bits all are false.
-    /// bits.put_blocks(1, &[0b100, 0b1]);
-    /// assert_eq!(bits.storage(), [0, 0b100, 0b1].as_slice());
-    /// ```
     pub fn put_blocks(&mut self, from: usize, blocks: &[B])
         requires within { (from + length blocks.now) * B.width ≤ length self.old.values }
         requires each { All B.is_block blocks.now }
