@@ -2,19 +2,21 @@
  * what is proved, and by what it is linked. Here blocks have 64 bits. The calls are there over blocks of 32 bits and of
  * 64, each in a header of its own, and a program may use both; capacities come in whole blocks.
  *
- *   Making and freeing      new, with_capacity, clone, from_bytes, from_members, split_off, copy_range, free
+ *   Making and freeing      new, with_capacity, clone, from_bytes, from_bytes_lsb, from_members, split_off, copy_range,
+ *                           free
  *   Single numbers          insert, insert_members, remove, toggle, set, contains
  *   Ends and searches       first, last, pop_first, pop_last, next, previous, next_missing, nth, next_run, first_gap;
  *                           BIT_SET_FOR_EACH, BIT_SET_FOR_EACH_RUN
  *   Ranges                  insert_range, toggle_range, remove_range, contains_all_in_range, contains_any_in_range,
  *                           count_in_range
- *   Copies                  copy_members, copy_members_back, copy_bytes, copy_blocks, put_blocks
+ *   Copies                  copy_members, copy_members_back, copy_bytes, copy_bytes_lsb, copy_blocks, put_blocks
  *   What a set says         count, is_empty, length, capacity, hash
- *   Two sets, read          is_subset, is_proper_subset, is_superset, is_disjoint, equals, compare, copy_union,
+ *   Two sets, read          is_subset, is_proper_subset, is_superset, is_disjoint, equals, compare, union_count,
+ *                           intersection_count, difference_count, symmetric_difference_count, copy_union,
  *                           copy_intersection, copy_difference, copy_symmetric_difference
  *   Two sets, in place      union_with, intersect_with, difference_with, symmetric_difference_with, union_changes,
  *                           intersection_changes, difference_changes, symmetric_difference_changes,
- *                           union_with_difference, append, copy
+ *                           union_with_difference, union_with_intersection, become_difference, append, copy
  *   A whole set             truncate, make_empty, reset, shift_up, shift_down
  *   Capacity                reserve, reserve_exact, shrink_to_fit
  *
@@ -110,6 +112,10 @@ bool bit_set_clone(bit_set **out, const bit_set *set) BIT_SET_MAY_FAIL;
 /* The set of the bits that are 1, those of each byte counted from the highest. Its length is 8 times the count. False
  * also where that is above SIZE_MAX. */
 bool bit_set_from_bytes(bit_set **out, const uint8_t *bytes, size_t count) BIT_SET_MAY_FAIL;
+
+/* The same of bits that are counted from the lowest of each byte, as Java's BitSet.valueOf, Arrow and NumPy's little order
+ * have them. */
+bool bit_set_from_bytes_lsb(bit_set **out, const uint8_t *bytes, size_t count) BIT_SET_MAY_FAIL;
 
 /* The set of these numbers, in any order. It asks for memory once, for what the greatest of them takes. False also where
  * one of them is SIZE_MAX. */
@@ -226,6 +232,9 @@ size_t bit_set_copy_members_back(const bit_set *set, size_t end, size_t *members
  * n % 8 of byte n / 8, counted from the highest, is 1. `bit_set_from_bytes` of all bytes makes the same members. */
 size_t bit_set_copy_bytes(const bit_set *set, size_t from, uint8_t *bytes, size_t room) BIT_SET_CALL;
 
+/* The same bytes with bit n % 8 counted from the lowest, as `bit_set_from_bytes_lsb` reads them. */
+size_t bit_set_copy_bytes_lsb(const bit_set *set, size_t from, uint8_t *bytes, size_t room) BIT_SET_CALL;
+
 /* Copies the blocks from block `from` on, as many as there is room for. Returns how many; the values past these stay.
  * Number n is a member where bit n % 64, counted from the lowest, of block n / 64 is 1; past the last block is none. */
 size_t bit_set_copy_blocks(const bit_set *set, size_t from, bit_set_block *blocks, size_t room) BIT_SET_CALL;
@@ -265,6 +274,13 @@ bool bit_set_equals(const bit_set *set, const bit_set *other) BIT_SET_CALL;
 /* -1, 0 or 1, as the ascending lists of members compare, from their first difference on. */
 int32_t bit_set_compare(const bit_set *set, const bit_set *other) BIT_SET_CALL;
 
+/* How many numbers are in either set, in both, in the first alone, or in just one of both. No call that counts makes a set.
+ * They pass over blocks that are zero by the summaries. */
+size_t bit_set_union_count(const bit_set *set, const bit_set *other) BIT_SET_CALL;
+size_t bit_set_intersection_count(const bit_set *set, const bit_set *other) BIT_SET_CALL;
+size_t bit_set_difference_count(const bit_set *set, const bit_set *other) BIT_SET_CALL;
+size_t bit_set_symmetric_difference_count(const bit_set *set, const bit_set *other) BIT_SET_CALL;
+
 /* Copy the blocks of what two sets make, as `bit_set_copy_blocks` does those of one set, from block `from` on: of what is
  * in either, in both, in the first alone, or in just one of both. There are as many blocks as the longer set has. */
 size_t bit_set_copy_union(const bit_set *set, const bit_set *other, size_t from, bit_set_block *blocks, size_t room)
@@ -293,6 +309,13 @@ int32_t bit_set_symmetric_difference_changes(bit_set *set, const bit_set *other)
 
 /* Puts in what is in `other` and not in `except`, and returns what these four do. `other` and `except` may be one set. */
 int32_t bit_set_union_with_difference(bit_set *set, const bit_set *other, const bit_set *except) BIT_SET_MAY_FAIL;
+
+/* Puts in what is both in `other` and in `also`, and returns what these four do. `other` and `also` may be one set. */
+int32_t bit_set_union_with_intersection(bit_set *set, const bit_set *other, const bit_set *also) BIT_SET_MAY_FAIL;
+
+/* Makes the members those of `other` that are not in `except`, and returns what these four do. `other` and `except` may be
+ * one set. */
+int32_t bit_set_become_difference(bit_set *set, const bit_set *other, const bit_set *except) BIT_SET_MAY_FAIL;
 
 /* Moves the members of `other` into `set`; `other` is empty then, and keeps its length. */
 bool bit_set_append(bit_set *set, bit_set *other) BIT_SET_MAY_FAIL;
@@ -467,13 +490,19 @@ BIT_SET_CHECK(int32_t, symmetric_difference_changes, const bit_set)
 BIT_SET_CHECK(bool, append, bit_set)
 BIT_SET_CHECK(bool, copy, const bit_set)
 
-static inline int32_t bit_set_checked_union_with_difference(bit_set *set, const bit_set *other, const bit_set *except) {
-    bit_set_stop_at_one(set, other, "union_with_difference");
-    bit_set_stop_at_one(set, except, "union_with_difference");
-    return bit_set_union_with_difference(set, other, except);
-}
+#define BIT_SET_CHECK_THREE(call)                                                                                      \
+    static inline int32_t bit_set_checked_##call(bit_set *set, const bit_set *other, const bit_set *third) {           \
+        bit_set_stop_at_one(set, other, #call);                                                                        \
+        bit_set_stop_at_one(set, third, #call);                                                                        \
+        return bit_set_##call(set, other, third);                                                                      \
+    }
+
+BIT_SET_CHECK_THREE(union_with_difference)
+BIT_SET_CHECK_THREE(union_with_intersection)
+BIT_SET_CHECK_THREE(become_difference)
 
 #undef BIT_SET_CHECK
+#undef BIT_SET_CHECK_THREE
 #define bit_set_union_with bit_set_checked_union_with
 #define bit_set_intersect_with bit_set_checked_intersect_with
 #define bit_set_difference_with bit_set_checked_difference_with
@@ -483,6 +512,8 @@ static inline int32_t bit_set_checked_union_with_difference(bit_set *set, const 
 #define bit_set_difference_changes bit_set_checked_difference_changes
 #define bit_set_symmetric_difference_changes bit_set_checked_symmetric_difference_changes
 #define bit_set_union_with_difference bit_set_checked_union_with_difference
+#define bit_set_union_with_intersection bit_set_checked_union_with_intersection
+#define bit_set_become_difference bit_set_checked_become_difference
 #define bit_set_append bit_set_checked_append
 #define bit_set_copy bit_set_checked_copy
 

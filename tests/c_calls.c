@@ -144,6 +144,14 @@ static void copies(bit_set *set, bool *table) {
     for (size_t k = 0; k < 8 * count; k++)
         CHECK((bytes[k / 8] >> (7 - k % 8) & 1) == table[8 * from + k]);
     CHECK(count <= room && (8 * (from + count) >= bit_set_length(set) || count == room) && bytes[8] == last);
+    CHECK(bit_set_copy_bytes_lsb(set, from, bytes, room) == count && bytes[8] == last);
+    for (size_t k = 0; k < 8 * count; k++)
+        CHECK((bytes[k / 8] >> k % 8 & 1) == table[8 * from + k]);
+    bit_set *part = NULL;
+    CHECK(bit_set_from_bytes_lsb(&part, bytes, count) && bit_set_length(part) == 8 * count);
+    for (size_t k = 0; k < 8 * count; k++)
+        CHECK(bit_set_contains(part, k) == table[8 * from + k]);
+    bit_set_free(part);
     size_t width = 8 * sizeof(bit_set_block);
     bit_set_block blocks[4] = {0};
     for (size_t k = 0; k < 4 * width; k++)
@@ -161,18 +169,26 @@ static int32_t merge(size_t call) {
            : call == 1 ? bit_set_intersection_changes(sets[0], sets[1])
            : call == 2 ? bit_set_difference_changes(sets[0], sets[1])
            : call == 3 ? bit_set_symmetric_difference_changes(sets[0], sets[1])
-                       : bit_set_union_with_difference(sets[0], sets[1], sets[2]);
+           : call == 4 ? bit_set_union_with_difference(sets[0], sets[1], sets[2])
+           : call == 5 ? bit_set_union_with_intersection(sets[0], sets[1], sets[2])
+                       : bit_set_become_difference(sets[0], sets[1], sets[2]);
 }
 
 static void merges(void) {
-    size_t call = draw(5);
+    size_t call = draw(7), counts[4] = {0};
     bool changed = false;
     for (size_t n = 0; n < LIMIT; n++) {
-        bool a = tables[0][n], b = tables[1][n];
-        bool merged[] = {a || b, a && b, a && !b, a != b, a || (b && !tables[2][n])};
+        bool a = tables[0][n], b = tables[1][n], c = tables[2][n];
+        bool merged[] = {a || b, a && b, a && !b, a != b, a || (b && !c), a || (b && c), b && !c};
+        for (size_t k = 0; k < 4; k++)
+            counts[k] += merged[k];
         changed = changed || merged[call] != a;
         tables[0][n] = merged[call];
     }
+    CHECK(bit_set_union_count(sets[0], sets[1]) == counts[0]);
+    CHECK(bit_set_intersection_count(sets[0], sets[1]) == counts[1]);
+    CHECK(bit_set_difference_count(sets[0], sets[1]) == counts[2]);
+    CHECK(bit_set_symmetric_difference_count(sets[0], sets[1]) == counts[3]);
     CHECK(merge(call) == changed);
 }
 

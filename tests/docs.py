@@ -7,6 +7,8 @@
 - A ```antt block begins with the name of a file, and the rest of it is in a file of that name. README's crate `mine` is
   `uses` here.
 - Each clause that a CALLING.md quotes below a line 'fn ..' is a clause of that function.
+- A CALLING.md with a heading 'All calls' has each public function of its crate there, but the laws. One with `_general` at the
+  end of its name goes by the name before that.
 - Each example of a doc comment is in a test, with a macro or with `expect` and `expect_eq`. Each public function of the
   crates in `WITH_EXAMPLES`, but the laws, has one.
 - docs/SPEED.md has the tables that bench/tables makes of the figures in docs/speed.
@@ -225,12 +227,12 @@ def check_tables(check, root):
         check.expect(is_in(table, lines), "docs/SPEED.md", f"it has no table {table[0]}")
 
 
-def public_functions(root):
+def public_functions(root, crates=("bit_blocks", "bit_words", "bit_set", "bit_matrix")):
     """The names of the functions that a program can call, those of a type as 'Type::name'."""
     exported = re.findall(r"^pub use (?:crate|bit_blocks)::([^;]*);", (root / "crates/bit_words/src/bit_vec.rt").read_text(), re.M)
     exported = set(re.findall(r"\w+", " ".join(exported)))
     names = set()
-    for crate in ("bit_blocks", "bit_words", "bit_set", "bit_matrix"):
+    for crate in crates:
         for source in sorted((root / "crates" / crate / "src").rglob("*.rt")):
             kind = None
             for line in [] if "laws" in (source.stem, source.parent.name) else source.read_text(encoding="utf-8").splitlines():
@@ -254,6 +256,17 @@ def check_calls(check, root):
     for name in sorted(public_functions(root)):
         is_known = name.rpartition(":")[2] in called or f"`{name}`" in named
         check.expect(is_known, "diff/README.md", f"no script calls {name}")
+
+
+def check_all_calls(check, root, document):
+    """The list of all calls of a CALLING.md, where it has one."""
+    listed = re.search(r"^## All calls\n(.*?)(?=^## |\Z)", document.read_text(encoding="utf-8"), re.M | re.S)
+    if not listed:
+        return
+    named = set(re.findall(r"(\w+)\(", listed[1]))
+    for name in sorted(public_functions(root, [document.parent.name])):
+        is_known = name.rpartition(":")[2].removesuffix("_general") in named
+        check.expect(is_known, document.relative_to(root), f"'All calls' lacks {name}")
 
 
 def check_names(check, root, document):
@@ -282,6 +295,7 @@ def main():
             for name, found in clauses_of(source).items():
                 clauses.setdefault(name, set()).update(found)
         check_clauses(check, root, document, clauses)
+        check_all_calls(check, root, document)
     for document in [*sorted(root.glob("*.md")), *sorted(root.glob("*/*.md")), *sorted(root.glob("crates/*/*.md"))]:
         check_links(check, root, document)
     for source in sources:

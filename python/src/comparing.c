@@ -1,4 +1,4 @@
-/* Which of two sets has the other. */
+/* Which of two sets has the other, and how many members they have between them. */
 #include "set.h"
 
 /* Whether each item of an iterable is a member: 1, 0, or -1 with an exception. */
@@ -112,3 +112,24 @@ PyObject *set_isdisjoint(PyObject *self, PyObject *iterable)
     Py_DECREF(items);
     return PyErr_Occurred() ? NULL : truth_if(!has);
 }
+
+/* How many members a merge with the items of an iterable has. */
+static PyObject *count_by(PyObject *self, PyObject *items, size_t (*call)(const bit_set *, const bit_set *))
+{
+    PyObject *other = as_bit_set(items);
+    if (!other)
+        return NULL;
+    size_t count = call(set_of(self), set_of(other));
+    Py_DECREF(other);
+    return PyLong_FromSize_t(count);
+}
+
+#define COUNT_METHOD(name, call)                                              \
+    PyObject *set_##name(PyObject *self, PyObject *items)                     \
+    {                                                                         \
+        return count_by(self, items, call);                                   \
+    }
+COUNT_METHOD(union_count, bit_set_union_count)
+COUNT_METHOD(intersection_count, bit_set_intersection_count)
+COUNT_METHOD(difference_count, bit_set_difference_count)
+COUNT_METHOD(symmetric_difference_count, bit_set_symmetric_difference_count)

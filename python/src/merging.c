@@ -136,6 +136,12 @@ static PyObject *operate(PyObject *left, PyObject *right, merge *call)
         return NULL;
     if (!are_sets)
         Py_RETURN_NOTIMPLEMENTED;
+    /* What both have is the same either way, and the other set may have what no bit set can. */
+    if (call == bit_set_intersect_with && !is_bit_set(left)) {
+        PyObject *other = left;
+        left = right;
+        right = other;
+    }
     PyObject *made = is_bit_set(left) ? set_copy(left, NULL) : as_bit_set(left);
     if (made && !merge_iterable(made, right, call)) {
         Py_DECREF(made);

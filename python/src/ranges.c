@@ -79,6 +79,11 @@ PyObject *set_all_in_range(PyObject *self, PyObject *arguments)
 PyObject *made_by(PyObject *type, PyObject *argument, PyObject *(*fill)(PyObject *, PyObject *))
 {
     PyObject *made = PyObject_CallFunctionObjArgs(type, NULL);
+    /* A class of the user's may make what is no set. */
+    if (made && !is_bit_set(made)) {
+        PyErr_SetString(PyExc_TypeError, "the class makes no bit set");
+        Py_CLEAR(made);
+    }
     PyObject *done = made ? fill(made, argument) : NULL;
     if (!done) {
         Py_XDECREF(made);

@@ -118,12 +118,17 @@ int is_set(PyObject *object);
 
 /* comparing.c */
 PyObject *set_compare(PyObject *self, PyObject *other, int operation);
+PyObject *set_difference_count(PyObject *self, PyObject *items);
+PyObject *set_intersection_count(PyObject *self, PyObject *items);
 PyObject *set_isdisjoint(PyObject *self, PyObject *iterable);
 PyObject *set_issubset(PyObject *self, PyObject *items);
 PyObject *set_issuperset(PyObject *self, PyObject *items);
+PyObject *set_symmetric_difference_count(PyObject *self, PyObject *items);
+PyObject *set_union_count(PyObject *self, PyObject *items);
 
 /* walking.c */
 PyObject *set_from_bytes(PyObject *type, PyObject *bytes);
+PyObject *set_from_bytes_lsb(PyObject *type, PyObject *bytes);
 PyObject *set_iter(PyObject *self);
 PyObject *set_reduce(PyObject *self, PyObject *Py_UNUSED(none));
 PyObject *set_repr(PyObject *self);
@@ -131,6 +136,7 @@ PyObject *set_reversed(PyObject *self, PyObject *Py_UNUSED(none));
 PyObject *set_sizeof(PyObject *self, PyObject *Py_UNUSED(none));
 PyObject *set_to_array(PyObject *self, PyObject *Py_UNUSED(none));
 PyObject *set_to_bytes(PyObject *self, PyObject *Py_UNUSED(none));
+PyObject *set_to_bytes_lsb(PyObject *self, PyObject *Py_UNUSED(none));
 PyObject *walk_next(PyObject *object);
 Py_ssize_t set_length(PyObject *self);
 int set_bool(PyObject *self);

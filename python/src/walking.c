@@ -11,22 +11,20 @@ int set_bool(PyObject *self)
     return !bit_set_is_empty(set_of(self));
 }
 
+/* The members as a list. It is made before they are read, since making it may run code that changes the set. */
 static PyObject *list_of(PyObject *self)
 {
-    Py_ssize_t size = set_length(self);
-    size_t group[GROUP], from = 0;
-    PyObject *list = PyList_New(size);
-    for (Py_ssize_t done = 0; list && done < size;) {
-        size_t count = bit_set_copy_members(set_of(self), from, group, GROUP);
-        for (size_t at = 0; at < count; at++) {
+    size_t group[GROUP], from = 0, count = GROUP;
+    PyObject *list = PyList_New(0);
+    while (list && count == GROUP) {
+        count = bit_set_copy_members(set_of(self), from, group, GROUP);
+        for (size_t at = 0; list && at < count; at++) {
             PyObject *member = int_of(group[at]);
-            if (!member) {
-                Py_DECREF(list);
-                return NULL;
-            }
-            PyList_SetItem(list, done++, member);
+            if (!member || PyList_Append(list, member))
+                Py_CLEAR(list);
+            Py_XDECREF(member);
         }
-        from = group[count - 1] + 1;
+        from = count ? group[count - 1] + 1 : from;
     }
     return list;
 }
@@ -46,35 +44,46 @@ PyObject *set_repr(PyObject *self)
     return text;
 }
 
+/* So many zeros as an array of the machine's words. */
+static PyObject *zeros(Py_ssize_t count)
+{
+    PyObject *zero = PyObject_CallFunction(array_type, "s(i)", sizeof(size_t) == 8 ? "Q" : "I", 0);
+    PyObject *array = zero ? PySequence_Repeat(zero, count) : NULL;
+    Py_XDECREF(zero);
+    return array;
+}
+
 /* The members as an array of the machine's words, which NumPy reads with no copy. */
 PyObject *set_to_array(PyObject *self, PyObject *Py_UNUSED(none))
 {
     void *place;
-    Py_ssize_t length;
-    PyObject *array = NULL, *zero = PyObject_CallFunction(array_type, "s(i)", sizeof(size_t) == 8 ? "Q" : "I", 0);
-    if (zero)
-        array = PySequence_Repeat(zero, set_length(self));
-    Py_XDECREF(zero);
-    if (!array)
-        return NULL;
-    if (PyObject_AsWriteBuffer(array, &place, &length)) {
-        Py_DECREF(array);
-        return NULL;
-    }
-    bit_set_copy_members(set_of(self), 0, place, (size_t)length / sizeof(size_t));
+    Py_ssize_t length, count;
+    PyObject *array = NULL;
+    /* Making the array may run code that changes the set. */
+    do {
+        Py_XDECREF(array);
+        count = set_length(self);
+        array = zeros(count);
+    } while (array && set_length(self) != count);
+    if (array && PyObject_AsWriteBuffer(array, &place, &length))
+        Py_CLEAR(array);
+    if (array)
+        bit_set_copy_members(set_of(self), 0, place, (size_t)length / sizeof(size_t));
     return array;
 }
 
 PyObject *set_reduce(PyObject *self, PyObject *Py_UNUSED(none))
 {
     PyObject *array = set_to_array(self, NULL);
+    if (!array)
+        return NULL;
     PyObject *state = PyObject_GetAttrString(self, "__dict__");
     if (!state) {
         PyErr_Clear();
         state = Py_None;
         Py_INCREF(state);
     }
-    return array ? Py_BuildValue("O(N)N", (PyObject *)Py_TYPE(self), array, state) : NULL;
+    return Py_BuildValue("O(N)N", (PyObject *)Py_TYPE(self), array, state);
 }
 
 PyObject *set_sizeof(PyObject *self, PyObject *Py_UNUSED(none))
@@ -147,17 +156,27 @@ void walk_dealloc(PyObject *object)
     Py_DECREF(type);
 }
 
-PyObject *set_to_bytes(PyObject *self, PyObject *Py_UNUSED(none))
+static PyObject *bytes_by(PyObject *self, size_t (*call)(const bit_set *, size_t, uint8_t *, size_t))
 {
     size_t last = bit_set_last(set_of(self));
     size_t count = last == NO_MEMBER ? 0 : last / 8 + 1;
     PyObject *bytes = PyBytes_FromStringAndSize(NULL, (Py_ssize_t)count);
     if (bytes)
-        bit_set_copy_bytes(set_of(self), 0, (uint8_t *)PyBytes_AsString(bytes), count);
+        call(set_of(self), 0, (uint8_t *)PyBytes_AsString(bytes), count);
     return bytes;
 }
 
-static PyObject *put_bytes(PyObject *self, PyObject *bytes)
+PyObject *set_to_bytes(PyObject *self, PyObject *Py_UNUSED(none))
+{
+    return bytes_by(self, bit_set_copy_bytes);
+}
+
+PyObject *set_to_bytes_lsb(PyObject *self, PyObject *Py_UNUSED(none))
+{
+    return bytes_by(self, bit_set_copy_bytes_lsb);
+}
+
+static PyObject *put_bytes_by(PyObject *self, PyObject *bytes, bool (*call)(bit_set **, const uint8_t *, size_t))
 {
     const void *start;
     Py_ssize_t length;
@@ -167,7 +186,7 @@ static PyObject *put_bytes(PyObject *self, PyObject *bytes)
         Py_XDECREF(view);
         return NULL;
     }
-    bool found = bit_set_from_bytes(&made, start, (size_t)length);
+    bool found = call(&made, start, (size_t)length);
     Py_DECREF(view);
     if (!found)
         return PyErr_NoMemory();
@@ -176,7 +195,22 @@ static PyObject *put_bytes(PyObject *self, PyObject *bytes)
     return none_if(true);
 }
 
+static PyObject *put_bytes(PyObject *self, PyObject *bytes)
+{
+    return put_bytes_by(self, bytes, bit_set_from_bytes);
+}
+
+static PyObject *put_bytes_lsb(PyObject *self, PyObject *bytes)
+{
+    return put_bytes_by(self, bytes, bit_set_from_bytes_lsb);
+}
+
 PyObject *set_from_bytes(PyObject *type, PyObject *bytes)
 {
     return made_by(type, bytes, put_bytes);
+}
+
+PyObject *set_from_bytes_lsb(PyObject *type, PyObject *bytes)
+{
+    return made_by(type, bytes, put_bytes_lsb);
 }

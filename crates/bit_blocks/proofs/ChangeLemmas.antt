@@ -1,8 +1,8 @@
 -- What a write of one block does to the value at every index.
-use Rattle.std.proofs.Common.{◌≡◌, ◌≢◌, ℕ, ◌+◌, ◌*◌, ◌/◌, ◌%◌, ◌^◌, ◌<◌, ◌≤◌, ◌==◌, Bool, ◌&&◌, ◌||◌, nat_lt, nat_le, List, length, get_or, set, refl, sym, ap, ◌∙◌, arith, div-add-mod', mod-lt, div-lt_iff_lt-mul, div-mul-le_self}
-use Rattle.std.proofs.lemmas.{Bool.Decides.nat_tests, Nat.Bits.same_from_bits_below}
+use Rattle.std.proofs.Common.{◌≡◌, ◌≢◌, true, false, ℕ, ◌+◌, ◌*◌, ◌/◌, ◌%◌, ◌^◌, ◌<◌, ◌≤◌, ◌==◌, Bool, ◌&&◌, ◌||◌, nat_lt, nat_le, List, length, get_or, set, refl, sym, ap, ◌∙◌, arith, div-add-mod', mod-lt, div-lt_iff_lt-mul, div-mul-le_self}
+use Rattle.std.proofs.lemmas.{Bool.Decides.nat_tests, Nat.{Bits.same_from_bits_below, div-mul-add, mod-mul-add}, List.get_or-set_same}
 use mathlib.Core.Bool.{beq}
-use Rattle.bit_blocks.{specs.{Bits.blocks_for, Digits.is_one, Storage.{value_at, WritesValue}}, proofs.{StorageLemmas.{same_digit, value_at-is, value_at-past, value_at-set_same, value_at-set_other}, TestLemmas.above_and}}
+use Rattle.bit_blocks.{specs.{Bits.blocks_for, Digits.is_one, Lowest.{IsCleared, IsLowest}, Storage.{value_at, WritesValue}}, proofs.{StorageLemmas.{same_digit, value_at-is, value_at-past, value_at-set_same, value_at-set_other}, TestLemmas.above_and}}
 use Rattle.bit_blocks.proofs.BitsLemmas.{index_below}
 
 -- ---- within one block, places follow indexes
@@ -23,6 +23,10 @@ written_same w ms ns k m i e h p = ap (λ xs. value_at w xs i) e ∙ value_at-se
 
 pub written_other : (w : ℕ) (ms ns : List ℕ) (k m i : ℕ) → ns ≡ set ms k m → i / w ≢ k → value_at w ns i ≡ value_at w ms i
 written_other w ms ns k m i e p = ap (λ xs. value_at w xs i) e ∙ value_at-set_other w ms k m i p
+
+-- the block is that
+pub put_read : (ms ns : List ℕ) (k n : ℕ) → k < length ms → ns ≡ set ms k n → n ≡ get_or ns k 0
+put_read ms ns k n h e = sym (ap (λ xs. get_or xs k 0) e ∙ get_or-set_same ms k n 0 h)
 
 -- the value at an index, by the block that was read
 pub read_at : (w : ℕ) (ms : List ℕ) (k m i : ℕ) → m ≡ get_or ms k 0 → i / w ≡ k → value_at w ms i ≡ is_one m (i % w)
@@ -81,3 +85,12 @@ lowered w ms ns len k p m n pos ke pe nz count read e digits i =
 pub bit_before : (w m n p : ℕ) (bit r : Bool) → m < 2 ^ w → n < 2 ^ w → is_one n p ≡ bit → ((j : ℕ) → j < w → j ≢ p → is_one n j ≡ is_one m j) → r ≡ (n == m) → beq r bit ≡ is_one m p
 bit_before w m n p bit r small also digit others test =
     grind (arith, nat_tests, λ (was : is_one m p ≡ bit). same_from_bits_below w n m also small (λ j within. same_digit n m j (grind (arith, others j within, digit, was))), test, digit)
+
+-- the lowest 1 of a block is left or made 0
+pub lowest_left : (w k b i m r n : ℕ) (ms ns : List ℕ) (left : Bool) → 0 < w → b ≡ w → i < w → k < length ms → m ≡ get_or ms k 0 → ns ≡ set ms k n → IsLowest m i → IsCleared w m i r
+    → (left ≡ true → n ≡ m) → (left ≡ false → n ≡ r) → WritesValue w ms ns (k * b + i) left
+lowest_left w k b i m r n ms ns true pos wide index within read is low cleared stays goes =
+    rw wide (put_bit w ms ns (k * w + i) k i m n true pos (sym (div-mul-add k w i index)) (sym (mod-mul-add k w i index)) within read is (ap (λ x. is_one x i) (stays refl) ∙ ap (λ d. d == 1) low.one) (λ j below other. ap (λ x. is_one x j) (stays refl)))
+lowest_left w k b i m r n ms ns false pos wide index within read is low cleared stays goes =
+    rw wide (put_bit w ms ns (k * w + i) k i m n false pos (sym (div-mul-add k w i index)) (sym (mod-mul-add k w i index)) within read is (ap (λ x. is_one x i) (goes refl) ∙ ap (λ d. d == 1) cleared.cleared) (λ j below other.
+    ap (λ x. is_one x j) (goes refl) ∙ ap (λ d. d == 1) (cleared.kept j below other)))

@@ -1,6 +1,6 @@
 -- What a caller cites of sets that are made of chains.
-use Rattle.std.proofs.{Common.{◌≡◌, ℕ, ◌+◌, ◌-◌, ◌<◌, ◌≤◌, ◌++◌, ◌⊎◌, inl, inr, Bool, ◌&&◌, not, nat_le, ltb, filter, take, Option, List, [], ◌∷◌, Result, IsTrue, Bor, refl, sym, ap, ◌∙◌, zero, suc, append_assoc, arith, length, subst}}
-use Rattle.std.proofs.{iter.Yields.nat_range_steps, lemmas.{Bool.{cases_Bool, Decides.nat_tests}, Grind.take_at_read}}
+use Rattle.std.proofs.{Common.{◌≡◌, ℕ, ◌+◌, ◌-◌, ◌*◌, ◌/◌, ◌%◌, ◌<◌, ◌≤◌, ◌++◌, ◌⊎◌, inl, inr, Bool, ◌&&◌, not, nat_le, ltb, filter, take, Option, List, [], ◌∷◌, Result, IsTrue, Bor, refl, sym, ap, ◌∙◌, zero, suc, append_assoc, arith, div-add-mod', length, subst}, Math.Nat.add-mod_right}
+use Rattle.std.proofs.{iter.Yields.nat_range_steps, lemmas.{Bool.{cases_Bool, Decides.nat_tests}, Grind.take_at_read, Nat.mod-mul-add}}
 use Rattle.std.proofs.lemmas.{List.append-nil, List.Folds.list_any-append, List.Sums.{length-filter, count_by-le-length, sum_by-append}}
 use Rattle.std.{proofs.lemmas.{Iterator.{YieldsList, YieldsList-from_range, Adapters.fact_from_collect, Consumers.{YieldsList-at, YieldsList-from_filter, YieldsList-from_shown}}, Result.IfOk-weaker}, specs.Prelude.IfOk}
 use Rattle.std.specs.{BTreeMap.{BTreeMap, get_by}, Fn.{Mut, CalledAt}, Iterator.{Drains, Adapters.{filter_source, filter_callee, filter_steps}}, List.range_with_len}
@@ -124,11 +124,43 @@ count_complement n rest set is =
           (λ x. let kept = has-filter (λ y. ltb y n) s x in let inside = has-span 0 n x in grind (arith, nat_tests)),
     )
 
+-- members that are all below a number are no more than it
+few_from : (low n : ℕ) (s : List ℕ) → AscendsFrom low s → ((x : ℕ) → IsTrue (has s x) → x < n) → length s ≤ n - low
+few_from low n [] up below = omega arith
+few_from low n (x ∷ xs) up below =
+    let rest = few_from (x + 1) n xs up.1 (λ y is. below y (grind (arith, nat_tests))) in
+    let first = below x (has-first x xs) in
+    let from = up.0 in
+    omega (arith, rest, first, from)
+
+pub few_below : (s : List ℕ) (n : ℕ) → IsAscending s → ((x : ℕ) → IsTrue (has s x) → x < n) → length s ≤ n
+few_below s n up below = omega (arith, few_from 0 n s up below)
+
+-- a set in another has no more members
+pub fewer_within : (s t : List ℕ) → IsAscending s → IsAscending t → ((x : ℕ) → IsTrue (has s x) → IsTrue (has t x)) → length s ≤ length t
+fewer_within s t up_s up_t within =
+    let same : s ≡ filter (has s) t = same_members s (filter (has s) t) up_s (AscendsFrom-filter 0 _ t up_t)
+    (λ x. let kept = has-filter (has s) t x in let is = within x in grind (arith, nat_tests)) in
+    omega (arith, ap length same, length-filter-le (has s) t)
+
+-- steps of k from a multiple: there is no other before the next one, which is one
+between_multiples : (m k x : ℕ) → m % k ≡ 0 → m ≤ x → x < m + k → x % k ≡ x - m
+between_multiples m k x at from below =
+    let split : x ≡ m / k * k + (x - m) = omega (arith, div-add-mod' m k) in
+    ap (λ n. n % k) split ∙ mod-mul-add (m / k) k (x - m) (omega arith)
+
+pub multiples : (m k : ℕ) → (m % k ≡ m % k)
+    × ((x : ℕ) → m % k ≡ 0 → m ≤ x → x < m + k → x % k ≡ x - m) × ((x : ℕ) → x ≡ m + k → x % k ≡ m % k)
+multiples m k = (refl, between_multiples m k, λ x is. ap (λ n. n % k) is ∙ add-mod_right m k)
+
 -- what loops over a set use, for `grind`
 pub ruleset set_steps = (nat_tests, has-filter, filter_none, filter_all, length-filter-le, take-first, append_assoc, append-nil)
 
 -- all that callers use, for `grind`: a crate names it once, at its root
 pub ruleset calls = (set_steps, at_place, has_place, in_order, IsAscending-elements, ascends_pushed, list_any-append, take_at_read, sum_by-append)
+
+-- for a loop that goes on by steps of a number: a function that needs it names it
+pub ruleset steps = (nat_tests, multiples)
 
 -- the same for loops over a row of sets whose contract says `All` or `Any`, and whose invariant `list_all` or `list_any`:
 -- with these two beside the places a loop over one set may stay open

@@ -1,4 +1,4 @@
--- A byte of a block: eight digits from one on, turned round.
+-- A byte of a block: eight digits from one on, and these turned round.
 use Rattle.std.proofs.Common.{◌≡◌, ℕ, ◌+◌, ◌-◌, ◌*◌, ◌/◌, ◌%◌, ◌^◌, ◌<◌, ◌≤◌, ◌==◌, ◌∙◌, ap, arith, sym, w8}
 use Rattle.std.proofs.lemmas.Nat.Bits.{bit_at_cat_low}
 use Rattle.std.specs.Int.{bit_at, reverse_bits}
@@ -10,9 +10,12 @@ low_digit r j within =
     let parts : r / 256 * 2 ^ 8 + r % 256 ≡ r = omega arith in
     sym (bit_at_cat_low (r / 256) 8 (r % 256) j within) ∙ ap (λ n. bit_at n j) parts
 
-pub digit_of_byte : (w m d r j : ℕ) → IsShiftedRight w m d r → j < 8 → d + 8 ≤ w → is_one (reverse_bits w8 (r % 256)) (7 - j) ≡ is_one m (d + j)
+pub digit_of_byte : (w m d r j : ℕ) → IsShiftedRight w m d r → j < 8 → d + 8 ≤ w → is_one (r % 256) j ≡ is_one m (d + j)
 digit_of_byte w m d r j shifted within fits =
-    let back : 7 - (7 - j) ≡ j = omega (arith, within) in
     let at : j + d ≡ d + j = omega arith in
-    is_one-turned (r % 256) (7 - j) (omega arith) ∙ ap (is_one (r % 256)) back
-    ∙ ap (λ digit. digit == 1) (low_digit r j within ∙ shifted.moved j (omega (arith, within, fits)) ∙ ap (bit_at m) at)
+    ap (λ digit. digit == 1) (low_digit r j within ∙ shifted.moved j (omega (arith, within, fits)) ∙ ap (bit_at m) at)
+
+pub digit_turned : (n j : ℕ) → j < 8 → is_one (reverse_bits w8 n) (7 - j) ≡ is_one n j
+digit_turned n j within =
+    let back : 7 - (7 - j) ≡ j = omega (arith, within) in
+    is_one-turned n (7 - j) (omega arith) ∙ ap (is_one n) back

@@ -6,6 +6,7 @@ mod blocks;
 mod bytes;
 mod capacity;
 mod changing;
+mod counts;
 mod ends;
 mod handed;
 mod in_place;

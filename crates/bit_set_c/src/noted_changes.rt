@@ -2,7 +2,7 @@
 // -1 where there is no memory. The set that is changed must be none of the others.
 ghost use Rattle.std.specs.Prelude.{◌≡◌, ◌+◌, ◌≤◌, max, not, if◌then◌else◌, IfOk, OnOk, length, false};
 ghost use Rattle.bit_words.specs.Growth.{Grows};
-ghost use Rattle.bit_set.specs.Members.{IsDifference, IsIntersection, IsSymmetricDifference, IsUnion, IsUnionWithDifference};
+ghost use Rattle.bit_set.specs.Members.{IsDifference, IsIntersection, IsSymmetricDifference, IsUnion, IsUnionWithDifference, IsUnionWithIntersection};
 ghost use Rattle.bit_set.specs.{Order.same_sets, Sets.{elements, union, intersection, difference, symmetric_difference, is_subset}};
 ghost use Rattle.bit_set_c.specs.{Answers.{changed, spelled}, Handed.IsAt};
 
@@ -153,4 +153,67 @@ pub extern "C" fn bit_set_union_with_difference(
     ensures except_kept { except.new ≡ except.old }
 {
     answer_of(set.get().union_with_difference(other.get(), except.get()))
+}
+
+/// Puts in what is both in the other set and in `also`, and says whether some of it was not in.
+#[unsafe(no_mangle)]
+pub extern "C" fn bit_set_union_with_intersection(
+    set: &mut Exclusive,
+    other: &mut Shared,
+    also: &mut Shared,
+) -> i32
+    requires here { IsAt set.ref_ptr set.old.at }
+    requires there { IsAt other.ref_ptr other.old.at }
+    requires beyond { IsAt also.ref_ptr also.old.at }
+    ensures elements { OnOk (changed result) (elements set.new.bits.values ≡ union (elements set.old.bits.values)
+        (intersection (elements other.old.bits.values) (elements also.old.bits.values))) }
+    ensures members { OnOk (changed result) (IsUnionWithIntersection (elements set.old.bits.values)
+        (elements other.old.bits.values) (elements also.old.bits.values) (elements set.new.bits.values)) }
+    ensures changed { IfOk (changed result) (λ changed. changed
+        ≡ not (same_sets (elements set.old.bits.values) (elements set.new.bits.values))) }
+    ensures unchanged { IfOk (changed result) (λ changed. changed ≡ false
+        → elements set.new.bits.values ≡ elements set.old.bits.values) }
+    ensures were_in { IfOk (changed result) (λ changed. changed
+        ≡ not (is_subset (intersection (elements other.old.bits.values) (elements also.old.bits.values))
+        (elements set.old.bits.values))) }
+    ensures count { IfOk (changed result) (λ changed. length (elements set.old.bits.values)
+        + (if changed then 1 else 0) ≤ length (elements set.new.bits.values)) }
+    ensures length { OnOk (changed result) (length set.new.bits.values
+        ≡ max (length set.old.bits.values) (length other.old.bits.values)) }
+    ensures grows { Grows (length other.old.bits.values) (changed result) set.old.bits set.new.bits }
+    ensures exact { result ≡ spelled (changed result) }
+    ensures place { set.new.at ≡ set.old.at }
+    ensures other_kept { other.new ≡ other.old }
+    ensures also_kept { also.new ≡ also.old }
+{
+    answer_of(set.get().union_with_intersection(other.get(), also.get()))
+}
+
+/// Makes the members those of the other set that are not in `except`, and says whether they were others before.
+#[unsafe(no_mangle)]
+pub extern "C" fn bit_set_become_difference(
+    set: &mut Exclusive,
+    other: &mut Shared,
+    except: &mut Shared,
+) -> i32
+    requires here { IsAt set.ref_ptr set.old.at }
+    requires there { IsAt other.ref_ptr other.old.at }
+    requires beyond { IsAt except.ref_ptr except.old.at }
+    ensures elements { OnOk (changed result) (elements set.new.bits.values
+        ≡ difference (elements other.old.bits.values) (elements except.old.bits.values)) }
+    ensures members { OnOk (changed result) (IsDifference (elements other.old.bits.values)
+        (elements except.old.bits.values) (elements set.new.bits.values)) }
+    ensures changed { IfOk (changed result) (λ changed. changed
+        ≡ not (same_sets (elements set.old.bits.values) (elements set.new.bits.values))) }
+    ensures unchanged { IfOk (changed result) (λ changed. changed ≡ false
+        → elements set.new.bits.values ≡ elements set.old.bits.values) }
+    ensures length { OnOk (changed result) (length set.new.bits.values
+        ≡ max (length set.old.bits.values) (length other.old.bits.values)) }
+    ensures grows { Grows (length other.old.bits.values) (changed result) set.old.bits set.new.bits }
+    ensures exact { result ≡ spelled (changed result) }
+    ensures place { set.new.at ≡ set.old.at }
+    ensures other_kept { other.new ≡ other.old }
+    ensures except_kept { except.new ≡ except.old }
+{
+    answer_of(set.get().copy_difference(other.get(), except.get()))
 }

@@ -1,16 +1,27 @@
 -- What a merge of the blocks of a chunk makes of the list and of its summary.
-use Rattle.std.proofs.Common.{◌≡◌, refl, ℕ, ◌+◌, ◌*◌, ◌/◌, ◌%◌, ◌<◌, ◌≤◌, min, Bool, true, false, not, ◌==◌, List, map, length, get_or, set, take, All, sym, ap, ap₂, ◌∙◌, arith, ⊎_elim, mod-lt, length-take, div-lt_iff_lt-mul, get_or-set_same, get_or-set_other, mul-le-mul_right}
+use Rattle.std.proofs.Common.{◌≡◌, refl, ℕ, ◌+◌, ◌*◌, ◌/◌, ◌%◌, ◌<◌, ◌≤◌, min, Bool, true, false, not, ◌==◌, List}
+use Rattle.std.proofs.Common.{map, length, get_or, set, take, All, sym, ap, ap₂, ◌∙◌, arith, ⊎_elim, mod-lt}
+use Rattle.std.proofs.Common.{length-take, div-lt_iff_lt-mul, get_or-set_same, get_or-set_other, mul-le-mul_right}
 use Rattle.std.proofs.Math.Bool.{and-true, or-false}
 use Rattle.std.proofs.lemmas.{Bool.{cases_eq, cases_lt}, List.{get_or_past, length-map, take-map}}
-use Rattle.bit_blocks.specs.{Bits.{Bits, blocks_for}, Digits.is_one, BlockMerges.{other_at, HasMerged}, Merges.merge_of_values, Storage.{value_at, values_of, IsPacked, IsZeroFrom, is_used}, declared.block.merge.Merge.{Merge, TheVariants.{Difference, Intersection, Symmetric, Union}}}
-use Rattle.bit_blocks.proofs.{BitsLemmas.{block_past, blocks_for-below}, Masks.is_one-zero, MergeLemmas.merge_of_values-none, PackedLemmas.value_at-take, StorageLemmas.{get_or-values_of_zero_tail, length-values_of, value_at-index, value_at-is, value_at-past}}
+use Rattle.bit_blocks.specs.{Bits.{Bits, blocks_for}, Digits.is_one, BlockMerges.{other_at, HasMerged}}
+use Rattle.bit_blocks.specs.{Merges.merge_of_values, Storage.{value_at, values_of, IsPacked, IsZeroFrom, is_used}}
+use Rattle.bit_blocks.specs.declared.block.merge.Merge.{Merge}
+use Rattle.bit_blocks.specs.declared.block.merge.Merge.TheVariants.{Difference, Intersection, Symmetric, Union}
+use Rattle.bit_blocks.proofs.{BitsLemmas.{block_past, blocks_for-below}, Masks.is_one-zero}
+use Rattle.bit_blocks.proofs.{MergeLemmas.merge_of_values-none, PackedLemmas.value_at-take}
+use Rattle.bit_blocks.proofs.StorageLemmas.{get_or-values_of_zero_tail, length-values_of, value_at-index, value_at-is}
+use Rattle.bit_blocks.proofs.StorageLemmas.{value_at-past}
 use Rattle.bit_words.specs.{Chunks.MergesBetween, Summary.IsSummary}
 use Rattle.bit_words.proofs.SummaryLemmas.{summary_of_blocks}
 
 -- ---- the blocks
 
 -- past the end of the list there are none to merge
-pub merged_past : {X : Type 0} (m : Merge) (w start end wide : ℕ) (f : X → ℕ) (P : X → Type 0) (xs os ys : List X) → end ≤ wide → (end < wide → length xs ≤ end) → length os ≤ length xs → HasMerged m w f P start end (other_at (map f os)) xs ys → HasMerged m w f P start wide (other_at (map f os)) xs ys
+pub merged_past : {X : Type 0} (m : Merge) (w start end wide : ℕ) (f : X → ℕ) (P : X → Type 0) (xs os ys : List X)
+    → end ≤ wide → (end < wide → length xs ≤ end) → length os ≤ length xs
+    → HasMerged m w f P start end (other_at (map f os)) xs ys
+    → HasMerged m w f P start wide (other_at (map f os)) xs ys
 merged_past m w start end wide f P xs os ys le past fewer is = record {
   digit = λ k j from below index.
       ⊎_elim
@@ -87,7 +98,9 @@ module _ {X : Type 0} (m : Merge) (w start end len short count : ℕ) (f : X →
   pub chunk_packed : IsPacked w f P ys len
   chunk_packed = record { each = is.each; count = is.len ∙ first.count; tail = tail; fits = first.fits }
 
-  pub chunk_values : (r s : ℕ) (v u : Bits) → record { values = values_of w (map f xs) len; capacity = r } ≡ v → record { values = values_of w (map f os) short; capacity = s } ≡ u → MergesBetween m (start * w) (end * w) v.values u.values (values_of w (map f ys) len)
+  pub chunk_values : (r s : ℕ) (v u : Bits) → record { values = values_of w (map f xs) len; capacity = r } ≡ v
+      → record { values = values_of w (map f os) short; capacity = s } ≡ u
+      → MergesBetween m (start * w) (end * w) v.values u.values (values_of w (map f ys) len)
   chunk_values r s v u view other_view =
       let mine : values_of w (map f xs) len ≡ v.values = ap (λ b. b.values) view in
       let theirs : values_of w (map f os) short ≡ u.values = ap (λ b. b.values) other_view in
@@ -120,7 +133,10 @@ chunk_kept m start end xs ys other past = record {
 -- ---- the summary
 
 -- one block of it is made anew
-pub chunk_summary : {X : Type 0} (m : Merge) (w q n : ℕ) (f : X → ℕ) (P : X → Type 0) (other : ℕ → ℕ → Bool) (xs ys ss ts : List X) → 0 < w → HasMerged m w f P (q * w) ((q + 1) * w) other xs ys → IsSummary w f P xs ss → q < length ss → map f ts ≡ set (map f ss) q n → All P ts → length ts ≡ length ss → ((j : ℕ) → j < w → is_one n j ≡ is_used (map f ys) (q * w + j)) → IsSummary w f P ys ts
+pub chunk_summary : {X : Type 0} (m : Merge) (w q n : ℕ) (f : X → ℕ) (P : X → Type 0) (other : ℕ → ℕ → Bool) (xs ys ss ts : List X)
+    → 0 < w → HasMerged m w f P (q * w) ((q + 1) * w) other xs ys → IsSummary w f P xs ss → q < length ss
+    → map f ts ≡ set (map f ss) q n → All P ts → length ts ≡ length ss
+    → ((j : ℕ) → j < w → is_one n j ≡ is_used (map f ys) (q * w + j)) → IsSummary w f P ys ts
 chunk_summary m w q n f P other xs ys ss ts pos is summary within put each len digits =
     let old = summary.packed in
     summary_of_blocks w f P ys ts pos each (len ∙ old.count ∙ ap (blocks_for w) (sym is.len)) (omega (arith, old.fits, is.len)) (λ r j below index.

@@ -21,7 +21,9 @@ Reserves-exact count old new r most full same = grind (arith, most, full, same)
 -- ---- and for values
 
 pub stored_within_capacity : {X : Type 0} {start : ℕ} (w n blocks summary : ℕ) (f : X → ℕ) (P : X → Type 0) (xs ss : List X)
-    (v : Bits) → 0 < w → IsStoredList w f P xs ss n start → length xs ≤ blocks → length ss ≤ summary → record { values = values_of w (map f xs) n; capacity = capacity_of w (shared_capacity w blocks summary) } ≡ v → IsWithinCapacity v
+    (v : Bits) → 0 < w → IsStoredList w f P xs ss n start → length xs ≤ blocks → length ss ≤ summary
+    → record { values = values_of w (map f xs) n; capacity = capacity_of w (shared_capacity w blocks summary) } ≡ v
+    → IsWithinCapacity v
 stored_within_capacity w n blocks summary f P xs ss v pos stored first second e =
     is_within_capacity w n (shared_capacity w blocks summary) f P xs v pos stored.packed (stored_within w n blocks summary f P xs ss pos stored first second) e
 
@@ -55,7 +57,8 @@ grows w n count blocks new_blocks (Err _) old new pos fits is was becomes holds 
 
 module _ {X E : Type 0} (w n len m count blocks summary new_blocks : ℕ) (r : Result Unit E) (f : X → ℕ) (P : X → Type 0) (xs ss : List X) (old : Bits) where
   pub Grows-blocks : {start : ℕ}
-      (new : Bits) → 0 < w → IsStoredList w f P xs ss m start → length xs ≤ blocks → length ss ≤ summary → record { values = values_of w (map f xs) m; capacity = capacity_of w (shared_capacity w blocks summary) } ≡ old
+      (new : Bits) → 0 < w → IsStoredList w f P xs ss m start → length xs ≤ blocks → length ss ≤ summary
+      → record { values = values_of w (map f xs) m; capacity = capacity_of w (shared_capacity w blocks summary) } ≡ old
       → n < 2 ^ 64 → count ≡ blocks_for w len → len ≡ n → new.capacity ≡ capacity_of w new_blocks → OnErr r (new ≡ old) → Reserves count r
       (shared_capacity w blocks summary) new_blocks → Grows n r old new
   Grows-blocks new pos stored first second view fits is e becomes same made =
@@ -64,7 +67,8 @@ module _ {X E : Type 0} (w n len m count blocks summary new_blocks : ℕ) (r : R
 
   -- one whose blocks stay
   pub Grows-kept : {start : ℕ}
-      (ys : List X) → 0 < w → IsStoredList w f P xs ss m start → length xs ≤ blocks → length ss ≤ summary → record { values = values_of w (map f xs) m; capacity = capacity_of w (shared_capacity w blocks summary) } ≡ old
+      (ys : List X) → 0 < w → IsStoredList w f P xs ss m start → length xs ≤ blocks → length ss ≤ summary
+      → record { values = values_of w (map f xs) m; capacity = capacity_of w (shared_capacity w blocks summary) } ≡ old
       → n < 2 ^ 64 → count ≡ blocks_for w len → len ≡ n → ys ≡ xs → Reserves count r (shared_capacity w blocks summary) new_blocks → Grows n r old
       (record { values = values_of w (map f ys) m; capacity = capacity_of w new_blocks })
   Grows-kept ys pos stored first second view fits is e same made =

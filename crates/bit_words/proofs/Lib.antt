@@ -7,6 +7,7 @@ pub mod RangeQueryLemmas
 pub mod MergedOnesLemmas
 pub mod ComparedLemmas
 pub mod KeepLemmas
+pub mod PutLemmas
 pub mod ChunkLemmas
 pub mod CapacityLemmas
 pub mod SameCapacity

@@ -9,7 +9,7 @@ use Rattle.bit_blocks.specs.{Merges.{merge_of, merge_of_values}, Storage.{values
 use Rattle.bit_blocks.proofs.{CompareLemmas.{digit_from_zero, value_in_view}, LowestLemmas.ones_zero, Masks.is_one-zero, MergeLemmas.{get_or-merged, length-merged, merge_of_values-none}}
 use Rattle.bit_blocks.proofs.{SpanCountLemmas.{count-parts, ones_of_span, sum-parts}, StorageLemmas.{value_at-index, value_at-past}, UseLemmas.{used_past, zero_from_unused}}
 use Rattle.bit_blocks.proofs.VectorLemmas.{length_from_view}
-use Rattle.bit_words.specs.MergedOnes.{merged_at, merged_ones, CoversMerged, IsFirstMergedBlock}
+use Rattle.bit_words.specs.MergedOnes.{may_merge, merged_at, merged_ones, CoversChunks, CoversMerged, IsFirstMergedBlock}
 use Rattle.bit_words.proofs.RangeQueryLemmas.{trues_of_map}
 
 -- ---- sums over a range
@@ -86,6 +86,51 @@ left_taken f w m i r low within cleared =
 -- what is left then was there before
 pub still_left : (w m i r j : ℕ) → IsCleared w m i r → j < w → is_one r j ≡ true → is_one m j ≡ true
 still_left w m i r j cleared within one = grind (arith, nat_tests, cleared.cleared, cleared.kept j within)
+
+-- The sum over the digits that are 1 is that over the first n, where it is 0 at the others of these, and where there is no 1 past
+-- them.
+counted : (b : Bool) (x : ℕ) → (b ≡ false → x ≡ 0) → (if b then x else 0) ≡ x
+counted true x none = refl
+counted false x none = sym (none refl)
+
+uncounted : (b : Bool) (x : ℕ) → b ≡ false → (if b then x else 0) ≡ 0
+uncounted b x none = ap (λ d. if d then x else 0) none
+
+sums_upto : (f total : ℕ → ℕ) (m n : ℕ) → total 0 ≡ 0 → ((j : ℕ) → j < n → total (j + 1) ≡ total j + f j)
+    → ((j : ℕ) → j < n → is_one m j ≡ false → f j ≡ 0) → sum_by (λ j. if is_one m j then f j else 0) (range_with_len 0 n) ≡ total n
+sums_upto f total m zero start next none = sym start
+sums_upto f total m (suc n) start next none =
+    let g : ℕ → ℕ = λ j. if is_one m j then f j else 0 in
+    let last : g n ≡ f n = counted (is_one m n) (f n) (none n (omega arith)) in
+    omega (
+      arith,
+      last,
+      next n (omega arith),
+      sums_upto f total m n start (λ j below. next j (omega arith)) (λ j below. none j (omega arith)),
+      sum-parts g 0 n (suc n) (omega arith) (omega arith),
+      ap (λ c. sum_by g (range_with_len n c)) (let e : suc n - n ≡ 1 = omega arith in e),
+      sum_one g n,
+      ap (λ c. sum_by g (range_with_len 0 c)) (let e : suc n - 0 ≡ suc n = omega arith in e),
+      ap (λ c. sum_by g (range_with_len 0 c)) (let e : n - 0 ≡ n = omega arith in e),
+      ap total (let e : n + 1 ≡ suc n = omega arith in e),
+    )
+
+left_sums : (f total : ℕ → ℕ) (w m n : ℕ) → n ≤ w → total 0 ≡ 0 → ((j : ℕ) → j < n → total (j + 1) ≡ total j + f j)
+    → ((j : ℕ) → j < n → is_one m j ≡ false → f j ≡ 0) → ((j : ℕ) → j < w → is_one m j ≡ true → j < n) → left_of f w m ≡ total n
+unfolding left_of
+left_sums f total w m n le start next none within =
+    let g : ℕ → ℕ = λ j. if is_one m j then f j else 0 in
+    let past : sum_by g (range_with_len n (w - n)) ≡ 0 =
+    sum_none g n (w - n) (λ j from below.
+    uncounted (is_one m j) (f j) (no_true (is_one m j) (λ one. let less = within j (omega arith) one in omega (arith, less)))) in
+    omega (
+      arith,
+      past,
+      sums_upto f total m n start next none,
+      sum-parts g 0 n w (omega arith) le,
+      ap (λ c. sum_by g (range_with_len 0 c)) (let e : w - 0 ≡ w = omega arith in e),
+      ap (λ c. sum_by g (range_with_len 0 c)) (let e : n - 0 ≡ n = omega arith in e),
+    )
 
 -- ---- the ones of the merge
 
@@ -184,60 +229,70 @@ module _ (merge : Merge) (w : ℕ) (ms ns : List ℕ) where
       (cases_lt k count)
 
   -- of the blocks at which m has a 1
-  pub left_blocks : (start n m : ℕ) → n ≤ w → CoversMerged merge w ms ns start m
-      → sum_by (λ j. if is_one m j then merged_ones merge w ms ns (start + j) (start + j + 1) else 0) (range_with_len 0 n) ≡ merged_ones merge w ms ns start (start + n)
-  left_blocks start zero m within covers = sym (merged_empty start) ∙ ap (merged_ones merge w ms ns start) (let e : start ≡ start + 0 = omega arith in e)
-  left_blocks start (suc n) m within covers =
-      let f : ℕ → ℕ = λ j. merged_ones merge w ms ns (start + j) (start + j + 1) in
-      let g : ℕ → ℕ = λ j. if is_one m j then f j else 0 in
-      let last : g n ≡ f n = counted (is_one m n) (f n) (covers.none n (omega arith)) in
-      omega (
-        arith,
-        last,
-        left_blocks start n m (omega arith) covers,
-        sum-parts g 0 n (suc n) (omega arith) (omega arith),
-        ap (λ c. sum_by g (range_with_len n c)) (let e : suc n - n ≡ 1 = omega arith in e),
-        sum_one g n,
-        ap (λ c. sum_by g (range_with_len 0 c)) (let e : suc n - 0 ≡ suc n = omega arith in e),
-        ap (λ c. sum_by g (range_with_len 0 c)) (let e : n - 0 ≡ n = omega arith in e),
-        merged_parts start (start + n) (start + n + 1) (omega arith) (omega arith),
-        ap (merged_ones merge w ms ns start) (let e : start + n + 1 ≡ start + suc n = omega arith in e),
-      )
-    where
-      counted : (b : Bool) (x : ℕ) → (b ≡ false → x ≡ 0) → (if b then x else 0) ≡ x
-      counted true x none = refl
-      counted false x none = sym (none refl)
+  left_some : (start m : ℕ) → ((j : ℕ) → j < w → is_one m j ≡ false → merged_ones merge w ms ns (start + j) (start + j + 1) ≡ 0)
+      → left_of (λ j. merged_ones merge w ms ns (start + j) (start + j + 1)) w m ≡ merged_ones merge w ms ns start (start + w)
+  left_some start m none =
+      let ones = merged_ones merge w ms ns in
+      left_sums (λ j. ones (start + j) (start + j + 1)) (λ n. ones start (start + n)) w m w (omega arith)
+      (ap (ones start) (let e : start + 0 ≡ start = omega arith in e) ∙ merged_empty start)
+      (λ j below.
+      ap (ones start) (let e : start + (j + 1) ≡ start + j + 1 = omega arith in e)
+      ∙ merged_parts start (start + j) (start + j + 1) (omega arith) (omega arith))
+      none (λ j within _. within)
 
   pub left_all : (start m : ℕ) → CoversMerged merge w ms ns start m → left_of (λ j. merged_ones merge w ms ns (start + j) (start + j + 1)) w m ≡ merged_ones merge w ms ns start (start + w)
-  unfolding left_of
-  left_all start m covers = left_blocks start w m (omega arith) covers
+  left_all start m covers = left_some start m covers.none
+
+  -- of the chunks at which m has a 1
+  pub left_chunks : (first count m : ℕ) → count ≤ w → CoversChunks merge w ms ns first count m
+      → left_of (λ j. merged_ones merge w ms ns ((first + j) * w) ((first + j + 1) * w)) w m ≡ merged_ones merge w ms ns (first * w) ((first + count) * w)
+  left_chunks first count m le covers =
+      let ones = merged_ones merge w ms ns in
+      left_sums (λ j. ones ((first + j) * w) ((first + j + 1) * w)) (λ n. ones (first * w) ((first + n) * w)) w m count le
+      (ap (λ q. ones (first * w) (q * w)) (let e : first + 0 ≡ first = omega arith in e) ∙ merged_empty (first * w))
+      (λ j below.
+      ap (λ q. ones (first * w) (q * w)) (let e : first + (j + 1) ≡ first + j + 1 = omega arith in e)
+      ∙ merged_parts (first * w) ((first + j) * w) ((first + j + 1) * w) (mul-le-mul_right w (omega arith)) (mul-le-mul_right w (omega arith)))
+      covers.none covers.within
 
   -- ---- which blocks of a chunk are read
 
-  none_from : (x y p o : Bool) → (p ≡ false → x ≡ false) → (o ≡ false → y ≡ false) → (merge_of_values merge p false || (merge_of_values merge false o || merge_of_values merge p o)) ≡ false
-      → merge_of_values merge x y ≡ false
+  none_from : (x y p o : Bool) → (p ≡ false → x ≡ false) → (o ≡ false → y ≡ false) → may_merge merge p o ≡ false → merge_of_values merge x y ≡ false
   none_from x y p o first second none = grind (arith, merge_of_values-none merge)
+
+  -- of a block of which the summaries say that it merges to none
+  block_none : (q p o : ℕ) → ((j : ℕ) → j < w → is_one p j ≡ is_used ms (q * w + j)) → ((j : ℕ) → j < w → is_one o j ≡ is_used ns (q * w + j))
+      → (j : ℕ) → j < w → may_merge merge (is_one p j) (is_one o j) ≡ false → merged_ones merge w ms ns (q * w + j) (q * w + j + 1) ≡ 0
+  block_none q p o first second j index none = merged_none (q * w + j) (λ i within.
+      none_from _ _ (is_one p j) (is_one o j)
+      (λ zero. digit_from_zero _ i (zero_from_unused _ (sym (first j index) ∙ zero)))
+      (λ zero. digit_from_zero _ i (zero_from_unused _ (sym (second j index) ∙ zero)))
+      none)
+
+  -- and of a chunk of such blocks
+  pub chunk_none : (q p o : ℕ) → ((j : ℕ) → j < w → is_one p j ≡ is_used ms (q * w + j)) → ((j : ℕ) → j < w → is_one o j ≡ is_used ns (q * w + j))
+      → ((j : ℕ) → j < w → may_merge merge (is_one p j) (is_one o j) ≡ false) → merged_ones merge w ms ns (q * w) ((q + 1) * w) ≡ 0
+  chunk_none q p o first second none =
+      let ones = merged_ones merge w ms ns in
+      ap (ones (q * w)) (let e : (q + 1) * w ≡ q * w + w = omega arith in e)
+      ∙ sym (left_some (q * w) 0 (λ j index _. block_none q p o first second j index (none j index)))
+      ∙ left_none (λ j. ones (q * w + j) (q * w + j + 1)) w 0 refl
 
   pub covers_merged : (q p o u : ℕ) → length ms < 2 ^ 64 → length ns < 2 ^ 64 → ((j : ℕ) → j < w → is_one p j ≡ is_used ms (q * w + j))
       → ((j : ℕ) → j < w → is_one o j ≡ is_used ns (q * w + j))
-      → ((j : ℕ) → j < w → is_one u j ≡ (merge_of_values merge (is_one p j) false || (merge_of_values merge false (is_one o j) || merge_of_values merge (is_one p j) (is_one o j))))
-      → CoversMerged merge w ms ns (q * w) u
+      → ((j : ℕ) → j < w → is_one u j ≡ may_merge merge (is_one p j) (is_one o j)) → CoversMerged merge w ms ns (q * w) u
   covers_merged q p o u fits also first second digits = record {
-    none = λ j index none. merged_none (q * w + j) (λ i within.
-        none_from _ _ (is_one p j) (is_one o j)
-        (λ zero. digit_from_zero _ i (zero_from_unused _ (sym (first j index) ∙ zero)))
-        (λ zero. digit_from_zero _ i (zero_from_unused _ (sym (second j index) ∙ zero)))
-        (sym (digits j index) ∙ none));
+    none = λ j index none. block_none q p o first second j index (sym (digits j index) ∙ none);
     fits = λ j index one. ⊎_elim
         (λ below. below)
         (λ past.
         let no : is_one p j ≡ false = first j index ∙ used_past ms (q * w + j) (omega arith) in
         let none : is_one o j ≡ false = second j index ∙ used_past ns (q * w + j) (omega arith) in
-        absurd (false≢true (sym (digits j index ∙ ap₂ (λ a b. merge_of_values merge a false || (merge_of_values merge false b || merge_of_values merge a b)) no none ∙ nothing) ∙ one)))
+        absurd (false≢true (sym (digits j index ∙ ap₂ (may_merge merge) no none ∙ nothing) ∙ one)))
         (cases_lt (q * w + j) (2 ^ 64));
   }
     where
-      nothing : (merge_of_values merge false false || (merge_of_values merge false false || merge_of_values merge false false)) ≡ false
+      nothing : may_merge merge false false ≡ false
       nothing = let none = merge_of_values-none merge in ap (λ b. b || (b || b)) none
 
 -- ---- lists

@@ -1,9 +1,9 @@
 -- Where a search of the summary for the first true value may start.
 use Rattle.std.proofs.Common.{◌≡◌, ℕ, ◌+◌, ◌*◌, ◌/◌, ◌^◌, ◌<◌, ◌≤◌, Bool, true, false, ◌==◌, List, map, length, get_or, set, All, refl, sym, ap, ◌∙◌, arith, ⊎_elim, div-add-mod'}
 use Rattle.std.proofs.Common.{div-lt_iff_lt-mul, mul-le-mul_right}
-use Rattle.std.proofs.lemmas.{Bool.cases_lt, Nat.{div-mul-add, mod-mul-add}}
-use Rattle.bit_blocks.specs.{Digits.is_one, Lowest.{IsCleared, IsLowest}, Mismatches.IsFirstNonzeroBlock, Searches.IsFirstFrom, Storage.{value_at, IsZeroFrom, WritesValue, is_used}}
-use Rattle.bit_blocks.proofs.{ChangeLemmas.put_bit, CompareLemmas.zero_from_digits, SearchLemmas.{first_past_none, unused}, StorageLemmas.value_at-index}
+use Rattle.std.proofs.lemmas.{Bool.cases_lt, Nat.div-mul-add}
+use Rattle.bit_blocks.specs.{Digits.is_one, Mismatches.IsFirstNonzeroBlock, Searches.IsFirstFrom, Storage.{value_at, IsZeroFrom, WritesValue, is_used}}
+use Rattle.bit_blocks.proofs.{CompareLemmas.zero_from_digits, SearchLemmas.{first_past_none, unused}, StorageLemmas.value_at-index}
 use Rattle.bit_words.specs.Summary.{short_count, IsFalseBefore, IsSummary}
 use Rattle.bit_blocks.proofs.{UseLemmas.{unused_from_false, used_from_zero}, VectorLemmas.numbers_below}
 use Rattle.bit_words.proofs.SummaryZeros.{zero_from_chunk}
@@ -99,12 +99,3 @@ grown_start w n m chunk old result bit {ms} {ns} kept_start kept added tail befo
 
 pub true_within : (w n i : ℕ) (ms : List ℕ) → IsZeroFrom w ms n → value_at w ms i ≡ true → i < n
 true_within w n i ms tail one = grind (arith, tail.zero_tail i)
-
--- the lowest 1 of a block is left or made 0
-pub lowest_left : (w k b i m r n : ℕ) (ms ns : List ℕ) (left : Bool) → 0 < w → b ≡ w → i < w → k < length ms → m ≡ get_or ms k 0 → ns ≡ set ms k n → IsLowest m i → IsCleared w m i r
-    → (left ≡ true → n ≡ m) → (left ≡ false → n ≡ r) → WritesValue w ms ns (k * b + i) left
-lowest_left w k b i m r n ms ns true pos wide index within read is low cleared stays goes =
-    rw wide (put_bit w ms ns (k * w + i) k i m n true pos (sym (div-mul-add k w i index)) (sym (mod-mul-add k w i index)) within read is (ap (λ x. is_one x i) (stays refl) ∙ ap (λ d. d == 1) low.one) (λ j below other. ap (λ x. is_one x j) (stays refl)))
-lowest_left w k b i m r n ms ns false pos wide index within read is low cleared stays goes =
-    rw wide (put_bit w ms ns (k * w + i) k i m n false pos (sym (div-mul-add k w i index)) (sym (mod-mul-add k w i index)) within read is (ap (λ x. is_one x i) (goes refl) ∙ ap (λ d. d == 1) cleared.cleared) (λ j below other.
-    ap (λ x. is_one x j) (goes refl) ∙ ap (λ d. d == 1) (cleared.kept j below other)))

@@ -4,9 +4,9 @@ use Rattle.std.proofs.Common.{get_or-set_same, get_or-set_other, mul-le-mul_righ
 use Rattle.std.{proofs.lemmas.{Bool.cases_lt, List.{length-map, Elements.All-nil}, Nat.div-mul-add}, specs.Global.Vec}
 use Rattle.bit_blocks.specs.{Bits.{Bits, blocks_for}, Digits.is_one, Storage.{value_at, values_of, IsPacked, WritesInPlace, WritesValue, is_used}}
 use Rattle.bit_words.specs.Summary.{shared_capacity, short_count, stored_for, IsSummary}
-use Rattle.bit_blocks.proofs.BitsLemmas.{blocks_for-below, blocks_for-enough, whole_before}
+use Rattle.bit_blocks.proofs.BitsLemmas.{blocks_for-below, blocks_for-enough, blocks_for-le, whole_before}
 use Rattle.bit_words.{specs.Summary.{IsStoredSummary, IsStoredList}, proofs.CapacityLemmas.{shared_enough, stored_long, stored_short}}
-use Rattle.bit_blocks.proofs.{StorageLemmas.{value_at-is, value_at-past}, VectorLemmas.{blocks_for-none, length_from_view}}
+use Rattle.bit_blocks.proofs.{StorageLemmas.{value_at-index, value_at-is, value_at-past}, VectorLemmas.{blocks_for-none, length_from_view}}
 use Rattle.bit_blocks.proofs.VectorLemmas.{numbers_below, packed_nil}
 use Rattle.bit_blocks.proofs.UseLemmas.{used_past, used_from_true, unused_from_false, same_use}
 
@@ -14,6 +14,15 @@ use Rattle.bit_blocks.proofs.UseLemmas.{used_past, used_from_true, unused_from_f
 pub is_summary : {X : Type 0} (w : ℕ) (f : X → ℕ) (P : X → Type 0) (xs summary : List X) → IsPacked w f P summary (length xs)
     → ((k : ℕ) → k < length xs → value_at w (map f summary) k ≡ is_used (map f xs) k) → IsSummary w f P xs summary
 is_summary w f P xs summary packed each = record { packed = packed; digit = λ k. grind (arith, each k, packed.tail.zero_tail k, used_past (map f xs) k, length-map) }
+
+-- what a stored block of the summary says of its blocks
+pub stored_digits : {X : Type 0} (w : ℕ) (f : X → ℕ) (P : X → Type 0) (xs summary : List X) (q : ℕ) → IsStoredSummary w f P xs summary → q < length summary
+    → (j : ℕ) → j < w → is_one (get_or (map f summary) q 0) j ≡ is_used (map f xs) (q * w + j)
+stored_digits w f P xs summary q stored inside j index =
+    ⊎_elim
+    (λ (long : short_count w < length xs). sym (value_at-index w (map f summary) q j index) ∙ (stored.long long).digit (q * w + j))
+    (λ (short : length xs ≤ short_count w). let none = ap length (stored.short short) in absurd (omega (arith, none, inside)))
+    (cases_lt (short_count w) (length xs))
 
 -- all digits at once
 pub summary_of_digits : {X : Type 0} (w : ℕ) (f : X → ℕ) (P : X → Type 0) (xs summary : List X) → All P summary → length summary ≡ blocks_for w (length xs) → length xs < 2 ^ 64
@@ -94,6 +103,15 @@ stored_length w f P xs ss kept =
     ⊎_elim
     (λ (many : short_count w < length xs). (kept.long many).packed.count ∙ sym (stored_long w (length xs) many))
     (λ (few : length xs ≤ short_count w). ap length (kept.short few) ∙ sym (stored_short w (length xs) few))
+    (cases_lt (short_count w) (length xs))
+
+-- which are not more than are about all blocks
+pub stored_few : {X : Type 0} (w n : ℕ) (f : X → ℕ) (P : X → Type 0) (xs ss : List X) → 0 < w → IsStoredSummary w f P xs ss → length xs ≤ n → length ss ≤ blocks_for w n
+stored_few w n f P xs ss pos kept le =
+    let most = blocks_for-le w (length xs) n pos le in
+    ⊎_elim
+    (λ (many : short_count w < length xs). omega (arith, most, (kept.long many).packed.count))
+    (λ (few : length xs ≤ short_count w). let none = ap length (kept.short few) in omega (arith, none))
     (cases_lt (short_count w) (length xs))
 
 -- there is capacity for the blocks that there are

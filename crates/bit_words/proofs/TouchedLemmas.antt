@@ -3,11 +3,16 @@ use Rattle.std.proofs.Common.{◌≡◌, ◌≢◌, ℕ, zero, suc, ◌+◌, ◌
 use Rattle.std.specs.Int.{bit_at}
 use Rattle.std.proofs.lemmas.List.{get_or_past, length-map}
 use Rattle.std.proofs.lemmas.Bool.{cases_lt, cases_eq, true≢false, Decides.nat_tests}
-use Rattle.bit_blocks.specs.{Digits.is_one, Lowest.{IsLowest, IsCleared}, declared.block.merge.Merge.{Merge, TheVariants.{Union, Intersection, Difference, Symmetric}}, Merges.merge_of_values, BlockMerges.{HasMerged, Stay}, Storage.is_used}
+use Rattle.bit_blocks.specs.{Digits.is_one, Lowest.{IsLowest, IsCleared}}
+use Rattle.bit_blocks.specs.declared.block.merge.Merge.{Merge}
+use Rattle.bit_blocks.specs.declared.block.merge.Merge.TheVariants.{Union, Intersection, Difference, Symmetric}
+use Rattle.bit_blocks.specs.{Merges.merge_of_values, BlockMerges.{HasMerged, Stay}, Storage.is_used}
 use Rattle.bit_blocks.proofs.{CompareLemmas.zero_from_digits, Masks.is_one-zero}
 
 -- where something is left of a one that is merged with a zero, a value that is merged with false stays
-pub kept_alone : (m : Merge) (w r : ℕ) (one zeros : ℕ → Bool) → r < 2 ^ w → ((i : ℕ) → zeros i ≡ false) → ((i : ℕ) → i < w → is_one r i ≡ merge_of_values m (one i) (zeros i)) → not (r == 0) ≡ true → (a : Bool) → merge_of_values m a false ≡ a
+pub kept_alone : (m : Merge) (w r : ℕ) (one zeros : ℕ → Bool) → r < 2 ^ w → ((i : ℕ) → zeros i ≡ false)
+    → ((i : ℕ) → i < w → is_one r i ≡ merge_of_values m (one i) (zeros i)) → not (r == 0) ≡ true → (a : Bool)
+    → merge_of_values m a false ≡ a
 kept_alone Union w r one zeros small none digits some a = grind arith
 kept_alone Intersection w r one zeros small none digits some a =
     let gone : r ≡ 0 = zero_from_digits w r small (λ i index. grind (arith, digits i index, none i)) in
@@ -51,7 +56,10 @@ fewer_ones w m i r (suc k) low cleared within index =
 -- ---- a union of a whole chunk
 
 -- whether a block is not 0 once it took in others, where the summaries say of both whether they have a one
-pub united_use : (w m n : ℕ) (own other unsure : Bool) (o : ℕ → Bool) → m < 2 ^ w → n < 2 ^ w → ((j : ℕ) → j < w → is_one n j ≡ (is_one m j || o j)) → own ≡ not (m == 0) → (other ≡ false → (j : ℕ) → o j ≡ false) → (unsure ≡ false → ((j : ℕ) → j < w → o j ≡ false) → other ≡ false) → ((other && not own) && unsure) ≡ false → (own || other) ≡ not (n == 0)
+pub united_use : (w m n : ℕ) (own other unsure : Bool) (o : ℕ → Bool) → m < 2 ^ w → n < 2 ^ w
+    → ((j : ℕ) → j < w → is_one n j ≡ (is_one m j || o j)) → own ≡ not (m == 0)
+    → (other ≡ false → (j : ℕ) → o j ≡ false) → (unsure ≡ false → ((j : ℕ) → j < w → o j ≡ false) → other ≡ false)
+    → ((other && not own) && unsure) ≡ false → (own || other) ≡ not (n == 0)
 united_use w m n own other unsure o small also digits says zeros sure none =
     let own_kept : n ≡ 0 → m ≡ 0 = λ gone. zero_from_digits w m small (λ j index. grind (arith, digits j index, is_one-zero)) in
     let other_kept : n ≡ 0 → (j : ℕ) → j < w → o j ≡ false = λ gone j index. grind (arith, digits j index, is_one-zero) in
@@ -62,7 +70,9 @@ united_use w m n own other unsure o small also digits says zeros sure none =
 -- ---- a chunk whose blocks are merged at the ones of a block
 
 -- where none is left all of them stay
-pub stay_untouched : {X : Type 0} (m : Merge) (w : ℕ) (f : X → ℕ) (q left : ℕ) (other : ℕ → ℕ → Bool) (xs : List X) → left ≡ 0 → ((p j : ℕ) → p < w → j < w → is_one left p ≡ false → is_one (get_or (map f xs) (q * w + p) 0) j ≡ merge_of_values m (is_one (get_or (map f xs) (q * w + p) 0) j) (other (q * w + p) j)) → Stay m w f (q * w) ((q + 1) * w) other xs
+pub stay_untouched : {X : Type 0} (m : Merge) (w : ℕ) (f : X → ℕ) (q left : ℕ) (other : ℕ → ℕ → Bool) (xs : List X)
+    → left ≡ 0 → ((p j : ℕ) → p < w → j < w → is_one left p ≡ false → is_one (get_or (map f xs) (q * w + p) 0) j ≡ merge_of_values m (is_one (get_or (map f xs) (q * w + p) 0) j) (other (q * w + p) j))
+    → Stay m w f (q * w) ((q + 1) * w) other xs
 stay_untouched m w f q left other xs none kept = record {
   digit = λ k j from below index.
       let p : ℕ = k - q * w in
@@ -83,7 +93,10 @@ pub record IsPartlyMerged {X : Type 0} (m : Merge) (w : ℕ) (f : X → ℕ) (P 
   pub len : length ys ≡ length xs
 
 module _ {X : Type 0} (m : Merge) (w : ℕ) (f : X → ℕ) (P : X → Type 0) (q : ℕ) (other : ℕ → ℕ → Bool) (xs : List X) where
-  pub partly_none : (touched own : ℕ) → All P xs → ((p : ℕ) → p < w → is_one own p ≡ is_used (map f xs) (q * w + p)) → ((p : ℕ) → p < w → is_one touched p ≡ true → q * w + p < length xs) → ((p j : ℕ) → p < w → j < w → is_one touched p ≡ false → is_one (get_or (map f xs) (q * w + p) 0) j ≡ merge_of_values m (is_one (get_or (map f xs) (q * w + p) 0) j) (other (q * w + p) j)) → IsPartlyMerged m w f P q other xs xs touched own
+  pub partly_none : (touched own : ℕ) → All P xs → ((p : ℕ) → p < w → is_one own p ≡ is_used (map f xs) (q * w + p))
+      → ((p : ℕ) → p < w → is_one touched p ≡ true → q * w + p < length xs)
+      → ((p j : ℕ) → p < w → j < w → is_one touched p ≡ false → is_one (get_or (map f xs) (q * w + p) 0) j ≡ merge_of_values m (is_one (get_or (map f xs) (q * w + p) 0) j) (other (q * w + p) j))
+      → IsPartlyMerged m w f P q other xs xs touched own
   partly_none touched own each says within kept = record {
     says = says;
     merged = kept;
@@ -95,7 +108,10 @@ module _ {X : Type 0} (m : Merge) (w : ℕ) (f : X → ℕ) (P : X → Type 0) (
     len = refl;
   }
 
-  pub partly_more : (i left rest s t : ℕ) (ys zs : List X) → i < w → IsLowest left i → IsCleared w left i rest → HasMerged m w f P (q * w + i) (q * w + i + 1) other ys zs → is_one t i ≡ is_used (map f zs) (q * w + i) → ((p : ℕ) → p < w → p ≢ i → is_one t p ≡ is_one s p) → IsPartlyMerged m w f P q other xs ys left s → IsPartlyMerged m w f P q other xs zs rest t
+  pub partly_more : (i left rest s t : ℕ) (ys zs : List X) → i < w → IsLowest left i → IsCleared w left i rest
+      → HasMerged m w f P (q * w + i) (q * w + i + 1) other ys zs → is_one t i ≡ is_used (map f zs) (q * w + i)
+      → ((p : ℕ) → p < w → p ≢ i → is_one t p ≡ is_one s p) → IsPartlyMerged m w f P q other xs ys left s
+      → IsPartlyMerged m w f P q other xs zs rest t
   partly_more i left rest s t ys zs index low cleared one here there so_far =
       let same : (k : ℕ) → k ≢ q * w + i → get_or (map f zs) k 0 ≡ get_or (map f ys) k 0 = λ k apart. ⊎_elim (λ early. one.before k early) (λ late. one.after k (omega (arith, late, apart))) (cases_lt k (q * w + i)) in
       let left_there : (p : ℕ) → p < w → p ≢ i → is_one rest p ≡ is_one left p = λ p within apart. ap (λ d. d == 1) (cleared.kept p within apart) in
@@ -142,7 +158,10 @@ module _ {X : Type 0} (m : Merge) (w : ℕ) (f : X → ℕ) (P : X → Type 0) (
   }
 
   -- some that stay, some chunks that were merged, and blocks past these that stay as well
-  pub merged_through : (start from end : ℕ) (ys : List X) → from * w ≤ start → Stay m w f 0 start other xs → HasMerged m w f P (from * w) (end * w) other xs ys → ((k j : ℕ) → end * w ≤ k → k < length xs → j < w → is_one (get_or (map f xs) k 0) j ≡ merge_of_values m (is_one (get_or (map f xs) k 0) j) (other k j)) → HasMerged m w f P 0 (length xs) other xs ys
+  pub merged_through : (start from end : ℕ) (ys : List X) → from * w ≤ start → Stay m w f 0 start other xs
+      → HasMerged m w f P (from * w) (end * w) other xs ys
+      → ((k j : ℕ) → end * w ≤ k → k < length xs → j < w → is_one (get_or (map f xs) k 0) j ≡ merge_of_values m (is_one (get_or (map f xs) k 0) j) (other k j))
+      → HasMerged m w f P 0 (length xs) other xs ys
   merged_through start from end ys early stay is past = record {
     digit = λ k j _ below index.
         ⊎_elim

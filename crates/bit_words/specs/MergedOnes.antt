@@ -1,10 +1,14 @@
 -- How many values of the merge of two lists of blocks are true. No public clause cites this.
-use Rattle.std.specs.{Prelude.{◌≡◌, ◌≢◌, ℕ, ◌+◌, ◌-◌, ◌*◌, ◌^◌, ◌<◌, Bool, true, false, List}, List.{count_by, range_with_len}}
+use Rattle.std.specs.{Prelude.{◌≡◌, ◌≢◌, ℕ, ◌+◌, ◌-◌, ◌*◌, ◌^◌, ◌<◌, ◌||◌, Bool, true, false, List}, List.{count_by, range_with_len}}
 use Rattle.bit_blocks.specs.{Digits.is_one, Merges.merge_of_values, Storage.value_at, declared.block.merge.Merge.Merge}
 
 -- whether value i of two lists of blocks merges to true
 abbrev pub merged_at : Merge → ℕ → List ℕ → List ℕ → ℕ → Bool
 merged_at merge w ms ns i = merge_of_values merge (value_at w ms i) (value_at w ns i)
+
+-- whether two blocks may merge to one that is not 0, where each of a and b says whether one of them is not 0
+abbrev pub may_merge : Merge → Bool → Bool → Bool
+may_merge merge a b = merge_of_values merge a false || (merge_of_values merge false b || merge_of_values merge a b)
 
 -- how many values do so of the blocks from `first` on and before block `end`
 abbrev pub merged_ones : Merge → ℕ → List ℕ → List ℕ → ℕ → ℕ → ℕ
@@ -15,6 +19,11 @@ merged_ones merge w ms ns first end =
 pub record CoversMerged (merge : Merge) (w : ℕ) (ms ns : List ℕ) (start m : ℕ) : Type 0 where
   pub none : (j : ℕ) → j < w → is_one m j ≡ false → merged_ones merge w ms ns (start + j) (start + j + 1) ≡ 0
   pub fits : (j : ℕ) → j < w → is_one m j ≡ true → start + j < 2 ^ 64
+
+-- Of the `count` chunks from chunk `first` on, w blocks each, those at which m has a 0 merge to 0. It has a 1 at no other.
+pub record CoversChunks (merge : Merge) (w : ℕ) (ms ns : List ℕ) (first count m : ℕ) : Type 0 where
+  pub none : (j : ℕ) → j < count → is_one m j ≡ false → merged_ones merge w ms ns ((first + j) * w) ((first + j + 1) * w) ≡ 0
+  pub within : (j : ℕ) → j < w → is_one m j ≡ true → j < count
 
 -- Block k is the first of which the merge is not 0.
 pub record IsFirstMergedBlock (merge : Merge) (w : ℕ) (ms ns : List ℕ) (k : ℕ) : Type 0 where

@@ -27,6 +27,7 @@ mod ranges;
 mod searching;
 mod shifting;
 mod taking;
+mod whole_blocks;
 
 pub use crate::summary::counts::count_merged_blocks;
 pub use bit_blocks::block::highest::take_highest_one;

@@ -6,7 +6,7 @@ ghost use Rattle.bit_blocks.specs.{Bits.blocks_for, Digits.is_one, Storage.{valu
 ghost use Rattle.bit_words.specs.Summary.{short_count, stored_for, IsSummary, IsStoredSummary, SaysUsed};
 
 use bit_blocks::block::BitBlock;
-use bit_blocks::block::masks::{clear_below, cut_from, with_one_if};
+use bit_blocks::block::masks::{clear_below, with_one_if, with_zeros_from};
 use bit_blocks::block::operators::{block_or, same, shift_left};
 use bit_blocks::packed::access::{
     block_at, block_count, block_index, put_block, replace_bit, write_bit,
@@ -268,7 +268,10 @@ fn with_used_bits<B: BitBlock>(
     ensures above { (j : ℕ) → index + count ≤ j → j < B.width
         → is_one (B.number result) j ≡ is_one (B.number block) j }
 {
-    let kept = block_or(cut_from(block, index), clear_below(block, index + count));
+    let kept = block_or(
+        with_zeros_from(block, index),
+        clear_below(block, index + count),
+    );
     block_or(kept, shift_left(bits_from(blocks, start, count), index))
 }
 

@@ -178,6 +178,16 @@ fn the_false_values_of_a_block(rt: HostRuntime) {
     expect_eq(&rt, &bits.zeros_in_block(1, 12), &0b1110);
 }
 
+#[test]
+fn blocks_are_put_over_others(rt: HostRuntime) {
+    let mut bits = list_of::<u8>(&rt, rt.alloc(), 24, &[]);
+    if bits.len() == 24 {
+        // Of 24 values over blocks of 8 bits all are false.
+        bits.put_blocks(1, &[0b100, 0b1]);
+        expect_eq(&rt, &bits.storage(), &[0, 0b100, 0b1].as_slice());
+    }
+}
+
 fn some_values_kept(rt: &impl Abort, bits: &mut BitVec<u8>) {
     if bits.len() > 0 {
         // Of ten values over blocks of 8 bits, those at 1, 2 and 8 are true.

@@ -23,6 +23,13 @@ pub fn any_from<B: BitBlock>(set: &BitSet<B>, n: usize) -> bool
     set.iter().any(|x| n <= x)
 }
 
+/// Puts the numbers of a row in.
+pub fn put_row<B: BitBlock>(set: &mut BitSet<B>, row: &[usize]) -> Result<(), SetError>
+    ensures { OnOk result (IsUnion (elements set.old.values) row.now (elements set.new.values)) }
+{
+    set.extend(row.iter().copied())
+}
+
 /// Puts the members of another set in, which may have another block type.
 pub fn put_members<A: BitBlock, B: BitBlock>(
     set: &mut BitSet<A>,

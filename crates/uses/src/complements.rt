@@ -20,6 +20,18 @@ pub fn complement_below<B: BitBlock>(
     Ok(rest)
 }
 
+/// The same by the walk over what is missing.
+pub fn missing_below<B: BitBlock>(
+    alloc: Global,
+    set: &BitSet<B>,
+    n: usize,
+) -> Result<BitSet<B>, SetError>
+    ensures { IfOk result (λ rest. (x : ℕ) → has (elements rest.values) x
+        ≡ (nat_lt x n && not (has (elements set.now.values) x))) }
+{
+    BitSet::from_iter(alloc, set.missing(0..n))
+}
+
 /// The first that is missing in a range.
 pub fn first_missing_in<B: BitBlock>(set: &BitSet<B>, low: usize, high: usize) -> Option<usize>
     ensures some { IfSome result (λ x. (low ≤ x) × (x < high) × (has (elements set.now.values) x ≡ false)

@@ -6,7 +6,7 @@ use std::alloc::Global;
 use std::process::Abort;
 use uses::chains::{
     all_below, any_from, common, copy_over, first_from, greatest_odd, halves, last, least,
-    place_of, put_members, ten_least,
+    place_of, put_members, put_row, ten_least,
 };
 
 // A bound, whether 3 and 70 are both below it, and the least of them that is not.
@@ -29,10 +29,7 @@ fn members_are_searched(rt: HostRuntime) {
 #[test]
 fn members_are_put_in(rt: HostRuntime) {
     let mut set = set_of::<u8>(&rt, rt.alloc(), &[2]);
-    ok(
-        &rt,
-        put_members(&mut set, &set_of::<u16>(&rt, rt.alloc(), &[3, 9, 70])),
-    );
+    ok(&rt, put_row(&mut set, &[70, 3, 9, 3]));
     ok(
         &rt,
         put_members(&mut set, &set_of::<u64>(&rt, rt.alloc(), &[0, 2])),

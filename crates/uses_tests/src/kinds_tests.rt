@@ -6,7 +6,7 @@ use std::alloc::Global;
 use std::process::Abort;
 use uses::allocating::{give_back, take_free};
 use uses::closing::close_over;
-use uses::complements::{complement_below, first_missing_in, flip_below};
+use uses::complements::{complement_below, first_missing_in, flip_below, missing_below};
 use uses::filling::{threes, with_hole};
 use uses::filtering::{keep_common, keep_even, low_part, part};
 use uses::from_the_back::{descending, greatest_k, last_without};
@@ -32,6 +32,10 @@ fn complemented(rt: &impl Abort, alloc: Global, set: &BitSet<u16>) -> BitSet<u16
     ok(rt, complement_below(alloc, set, 5))
 }
 
+fn missing(rt: &impl Abort, alloc: Global, set: &BitSet<u16>) -> BitSet<u16> {
+    ok(rt, missing_below(alloc, set, 5))
+}
+
 fn flipped(rt: &impl Abort, set: &mut BitSet<u16>) {
     ok(rt, flip_below(set, 4));
 }
@@ -40,6 +44,7 @@ fn flipped(rt: &impl Abort, set: &mut BitSet<u16>) {
 fn what_is_not_in_is_found(rt: HostRuntime) {
     let mut set = set_of(&rt, rt.alloc(), &[1, 3]);
     has_members(&rt, &complemented(&rt, rt.alloc(), &set), &[0, 2, 4]);
+    has_members(&rt, &missing(&rt, rt.alloc(), &set), &[0, 2, 4]);
     expect_eq(
         &rt,
         &[first_missing_in(&set, 1, 4), first_missing_in(&set, 1, 2)],

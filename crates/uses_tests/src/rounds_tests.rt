@@ -1,6 +1,7 @@
 //! The callers of both rounds, each at values that were worked out by hand.
-use crate::expect::{expect_eq, ok};
+use crate::expect::{expect, expect_eq, ok, ok_as_said};
 use crate::sets::{has_members, set_of, three_sets};
+use bit_matrix::BitMatrix;
 use bit_set::BitSet;
 use std::alloc::Global;
 use std::process::Abort;
@@ -11,11 +12,14 @@ use uses::round_one::filtering::{heavy, keep_multiples};
 use uses::round_one::from_the_back::{drop_greatest, last_below};
 use uses::round_one::merging::{any_of, seen_twice};
 use uses::round_one::selecting::{median, rank};
-use uses::round_two::allocating::claim_run;
+use uses::round_two::allocating::{claim_run, least_colour};
 use uses::round_two::complements::skipped_versions;
-use uses::round_two::filtering::keep_due;
-use uses::round_two::from_the_back::latest_clean;
+use uses::round_two::filling::{remove_multiples, seats_for_sale};
+use uses::round_two::filtering::{high_readings, keep_due};
+use uses::round_two::from_the_back::{keep_least, latest_clean};
 use uses::round_two::merging::common_tags;
+use uses::round_two::reading::{bytes_of, move_members};
+use uses::round_two::relations::{image, is_symmetric};
 use uses::round_two::selecting as later;
 use uses::round_two::selecting::place_in_queue;
 
@@ -138,4 +142,71 @@ fn the_second_round_finds_members(rt: HostRuntime) {
     expect_eq(&rt, &claimed(&rt, &mut set), &[None, Some(2)]);
     keep_due(&mut set, &[9, 3, 9, 7, 2], 3);
     has_members(&rt, &set, &[1, 4]);
+}
+
+fn for_sale(rt: &impl Abort, alloc: Global, sold: &BitSet<u8>) -> BitSet<u8> {
+    ok(rt, seats_for_sale(alloc, 2, 9, 4, 6, sold))
+}
+
+#[test]
+fn the_second_round_fills_sets(rt: HostRuntime) {
+    let mut set = set_of(&rt, rt.alloc(), &[0, 1, 3, 6, 9]);
+    has_members(&rt, &for_sale(&rt, rt.alloc(), &set), &[2, 7, 8]);
+    remove_multiples(&mut set, 3, 7);
+    has_members(&rt, &set, &[1, 9]);
+}
+
+fn moved(rt: &impl Abort, from: &mut BitSet<u8>, to: &mut BitSet<u8>) -> usize {
+    ok(rt, move_members(from, to))
+}
+
+fn bytes(rt: &impl Abort, alloc: Global, text: &[u8]) -> BitSet<u16> {
+    ok(rt, bytes_of(alloc, text))
+}
+
+#[test]
+fn the_second_round_reads_members(rt: HostRuntime) {
+    let mut from = set_of(&rt, rt.alloc(), &[1, 3]);
+    let mut to = set_of(&rt, rt.alloc(), &[3, 4]);
+    expect_eq(&rt, &moved(&rt, &mut from, &mut to), &1);
+    has_members(&rt, &from, &[]);
+    has_members(&rt, &to, &[1, 3, 4]);
+    has_members(&rt, &bytes(&rt, rt.alloc(), &[98, 97, 98]), &[97, 98]);
+}
+
+fn colour(rt: &impl Abort, alloc: Global, neighbours: &BitSet<u8>) -> usize {
+    ok(rt, least_colour(alloc, neighbours, &[0, 5, 1]))
+}
+
+#[test]
+fn the_second_round_goes_over_members(rt: HostRuntime) {
+    let mut set = set_of(&rt, rt.alloc(), &[0, 2, 7]);
+    expect_eq(&rt, &colour(&rt, rt.alloc(), &set), &2);
+    keep_least(&mut set, 2);
+    has_members(&rt, &set, &[0, 2]);
+}
+
+fn high(rt: &impl Abort, alloc: Global) -> (BitSet<u8>, usize) {
+    ok(rt, high_readings(alloc, &[7, 1, 9], 7))
+}
+
+#[test]
+fn the_second_round_counts_readings(rt: HostRuntime) {
+    let (indexes, count) = high(&rt, rt.alloc());
+    has_members(&rt, &indexes, &[0, 2]);
+    expect_eq(&rt, &count, &2);
+}
+
+fn led_to(rt: &impl Abort, alloc: Global, matrix: &BitMatrix<u8>, from: &[usize]) -> BitSet<u8> {
+    ok(rt, image(alloc, matrix, &set_of(rt, alloc, from)))
+}
+
+#[test]
+fn the_second_round_reads_relations(rt: HostRuntime) {
+    let mut matrix: BitMatrix<u8> = ok_as_said(&rt, BitMatrix::new_general(rt.alloc(), 2, 2));
+    matrix.insert(0, 1);
+    has_members(&rt, &led_to(&rt, rt.alloc(), &matrix, &[0, 5]), &[1]);
+    expect(&rt, !is_symmetric(&matrix));
+    matrix.insert(1, 0);
+    expect(&rt, is_symmetric(&matrix));
 }

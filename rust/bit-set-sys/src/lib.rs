@@ -79,6 +79,7 @@ calls! {
         with_capacity(out: *mut *mut Set, length: usize) -> bool;
         clone(out: *mut *mut Set, set: *const Set) -> bool;
         from_bytes(out: *mut *mut Set, bytes: *const u8, count: usize) -> bool;
+        from_bytes_lsb(out: *mut *mut Set, bytes: *const u8, count: usize) -> bool;
         from_members(out: *mut *mut Set, members: *const usize, count: usize) -> bool;
         split_off(out: *mut *mut Set, set: *mut Set, at: usize) -> bool;
         copy_range(out: *mut *mut Set, set: *const Set, start: usize, end: usize) -> bool;
@@ -108,6 +109,7 @@ calls! {
         copy_members(set: *const Set, from: usize, members: *mut usize, room: usize) -> usize;
         copy_members_back(set: *const Set, end: usize, members: *mut usize, room: usize) -> usize;
         copy_bytes(set: *const Set, from: usize, bytes: *mut u8, room: usize) -> usize;
+        copy_bytes_lsb(set: *const Set, from: usize, bytes: *mut u8, room: usize) -> usize;
         count(set: *const Set) -> usize;
         is_empty(set: *const Set) -> bool;
         length(set: *const Set) -> usize;
@@ -117,6 +119,10 @@ calls! {
         is_disjoint(set: *const Set, other: *const Set) -> bool;
         equals(set: *const Set, other: *const Set) -> bool;
         compare(set: *const Set, other: *const Set) -> i32;
+        union_count(set: *const Set, other: *const Set) -> usize;
+        intersection_count(set: *const Set, other: *const Set) -> usize;
+        difference_count(set: *const Set, other: *const Set) -> usize;
+        symmetric_difference_count(set: *const Set, other: *const Set) -> usize;
         hash(set: *const Set) -> u64;
         union_with(set: *mut Set, other: *const Set) -> bool;
         intersect_with(set: *mut Set, other: *const Set) -> bool;
@@ -127,6 +133,8 @@ calls! {
         difference_changes(set: *mut Set, other: *const Set) -> i32;
         symmetric_difference_changes(set: *mut Set, other: *const Set) -> i32;
         union_with_difference(set: *mut Set, other: *const Set, except: *const Set) -> i32;
+        union_with_intersection(set: *mut Set, other: *const Set, also: *const Set) -> i32;
+        become_difference(set: *mut Set, other: *const Set, except: *const Set) -> i32;
         append(set: *mut Set, other: *mut Set) -> bool;
         copy(set: *mut Set, other: *const Set) -> bool;
         truncate(set: *mut Set, length: usize);

@@ -1,6 +1,14 @@
 //! The calls that the crate `bit-set` has not.
 use crate::{require, BitBlock, BitSet};
+use bit_set_sys as raw;
 use std::ops::Range;
+
+impl BitSet<u32> {
+    /// The set of the bits that are 1, those of each byte counted from the lowest.
+    pub fn from_bytes_lsb(bytes: &[u8]) -> Self {
+        Self::from_bytes_lsb_general(bytes)
+    }
+}
 
 // SAFETY: in each of them the sets are lent for the call, and where it writes none is another of the call's.
 impl<B: BitBlock> BitSet<B> {
@@ -166,11 +174,56 @@ impl<B: BitBlock> BitSet<B> {
         Self::changed(unsafe { B::union_with_difference(self.write(), other.read(), except.read()) })
     }
 
+    /// Puts in what is both in `other` and in `also`, and returns whether that changed the set.
+    pub fn union_with_intersection(&mut self, other: &Self, also: &Self) -> bool {
+        Self::changed(unsafe { B::union_with_intersection(self.write(), other.read(), also.read()) })
+    }
+
+    /// Makes the elements those of `other` that are not in `except`, and returns whether that changed the set.
+    pub fn copy_difference(&mut self, other: &Self, except: &Self) -> bool {
+        Self::changed(unsafe { B::become_difference(self.write(), other.read(), except.read()) })
+    }
+
+    /// How many elements [`union`](Self::union) has.
+    pub fn union_count(&self, other: &Self) -> usize {
+        unsafe { B::union_count(self.read(), other.read()) }
+    }
+
+    /// How many elements [`intersection`](Self::intersection) has.
+    pub fn intersection_count(&self, other: &Self) -> usize {
+        unsafe { B::intersection_count(self.read(), other.read()) }
+    }
+
+    /// How many elements [`difference`](Self::difference) has.
+    pub fn difference_count(&self, other: &Self) -> usize {
+        unsafe { B::difference_count(self.read(), other.read()) }
+    }
+
+    /// How many elements [`symmetric_difference`](Self::symmetric_difference) has.
+    pub fn symmetric_difference_count(&self, other: &Self) -> usize {
+        unsafe { B::symmetric_difference_count(self.read(), other.read()) }
+    }
+
+    /// The set of the bits that are 1, those of each byte counted from the lowest.
+    pub fn from_bytes_lsb_general(bytes: &[u8]) -> Self {
+        Self::made(|out| unsafe { B::from_bytes_lsb(out, bytes.as_ptr(), bytes.len()) })
+    }
+
     /// The bits up to the length as bytes, those of each byte from the highest: what `from_bytes` reads.
     pub fn to_bytes(&self) -> Vec<u8> {
+        self.bytes(B::copy_bytes)
+    }
+
+    /// The bits up to the length as bytes, those of each byte from the lowest: what `from_bytes_lsb` reads.
+    pub fn to_bytes_lsb(&self) -> Vec<u8> {
+        self.bytes(B::copy_bytes_lsb)
+    }
+
+    // All bytes that a call copies.
+    fn bytes(&self, call: unsafe fn(*const raw::Set, usize, *mut u8, usize) -> usize) -> Vec<u8> {
         let count = self.bit_length() / 8 + usize::from(self.bit_length() % 8 != 0);
         let mut bytes = vec![0; count];
-        unsafe { B::copy_bytes(self.read(), 0, bytes.as_mut_ptr(), count) };
+        unsafe { call(self.read(), 0, bytes.as_mut_ptr(), count) };
         bytes
     }
 

@@ -60,6 +60,9 @@ fn calls_on_two_sets() {
         assert_eq!(x.is_superset(&y), a.is_superset(&b));
         assert_eq!(x.is_disjoint(&y), a.is_disjoint(&b));
         assert_eq!((x == y, x.cmp(&y)), (a == b, a.cmp(&b)));
+        assert_eq!((x.union_count(&y), x.intersection_count(&y)), (a.union(&b).count(), a.intersection(&b).count()));
+        assert_eq!(x.difference_count(&y), a.difference(&b).count());
+        assert_eq!(x.symmetric_difference_count(&y), a.symmetric_difference(&b).count());
         let mut z = x.clone();
         z.union_with(&y);
         same(&z, &a.union(&b).copied().collect());
@@ -139,6 +142,9 @@ fn calls_on_ends_and_searches() {
     }
     let copy = BitSet::<u64>::from_bytes_general(&set.to_bytes());
     assert!(copy.iter().eq(model.iter().copied()));
+    let copy = BitSet::<u64>::from_bytes_lsb_general(&set.to_bytes_lsb());
+    assert!(copy.iter().eq(model.iter().copied()));
+    assert!(BitSet::from_bytes_lsb(&[0b0101_0010, 1]).iter().eq([1, 4, 6, 8]));
 }
 
 #[test]
@@ -243,6 +249,8 @@ fn calls_that_tell_of_changes() {
         check(&|set| set.difference_changes(&y), &a - &b);
         check(&|set| set.symmetric_difference_changes(&y), &a ^ &b);
         check(&|set| set.union_with_difference(&y, &z), &a | &(&b - &c));
+        check(&|set| set.union_with_intersection(&y, &z), &a | &(&b & &c));
+        check(&|set| set.copy_difference(&y, &z), &b - &c);
     }
 }
 

@@ -47,10 +47,8 @@ impl FixedBitSet {
     /// So many bits, those of the blocks from the lowest, and clear past these.
     pub fn with_capacity_and_blocks<I: IntoIterator<Item = u32>>(bits: usize, blocks: I) -> Self {
         let count = bits / BITS + usize::from(bits % BITS != 0);
-        // `from_bytes` counts the bits of a byte from the highest.
-        let bytes: Vec<u8> =
-            blocks.into_iter().take(count).flat_map(|block| block.to_le_bytes().map(u8::reverse_bits)).collect();
-        let mut set = BitSet::from_bytes(&bytes);
+        let bytes: Vec<u8> = blocks.into_iter().take(count).flat_map(u32::to_le_bytes).collect();
+        let mut set = BitSet::from_bytes_lsb(&bytes);
         set.truncate(bits);
         FixedBitSet { set, length: bits }
     }

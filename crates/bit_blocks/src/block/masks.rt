@@ -93,10 +93,10 @@ pub(crate) fn with_ones_between<B: BitBlock>(block: B, start: usize, end: usize)
     block_or(block, ones_between(start, end))
 }
 
-/// The bits from `index` on become 0.
+/// The bits from `index` on become 0, where the block has that index. [`clear_from`] takes any.
 #[inline]
 #[tactic(auto, using(crate::proofs::Masks::masks))]
-pub fn cut_from<B: BitBlock>(block: B, index: usize) -> B
+pub fn with_zeros_from<B: BitBlock>(block: B, index: usize) -> B
     requires of_block { B.is_block block }
     requires within { index < B.width }
     ensures of_block { B.is_block result }
@@ -106,10 +106,10 @@ pub fn cut_from<B: BitBlock>(block: B, index: usize) -> B
     block_and(block, ones_below(index))
 }
 
-/// The bits below `index` become 0.
+/// The bits below `index` become 0, where the block has that index. [`clear_below`] takes any.
 #[inline]
 #[tactic(auto, using(crate::proofs::Masks::masks))]
-pub fn cut_below<B: BitBlock>(block: B, index: usize) -> B
+pub fn with_zeros_below<B: BitBlock>(block: B, index: usize) -> B
     requires of_block { B.is_block block }
     requires within { index < B.width }
     ensures of_block { B.is_block result }
@@ -134,7 +134,7 @@ pub fn clear_below<B: BitBlock>(block: B, index: usize) -> B
         ≡ (nat_le index j && (bit_at (B.number block) j == 1)) }
 {
     if index < B::bits() {
-        cut_below(block, index)
+        with_zeros_below(block, index)
     } else {
         B::zero()
     }
@@ -155,7 +155,7 @@ pub fn clear_from<B: BitBlock>(block: B, index: usize) -> B
         ≡ (nat_lt j index && (bit_at (B.number block) j == 1)) }
 {
     if index < B::bits() {
-        cut_from(block, index)
+        with_zeros_from(block, index)
     } else {
         block
     }

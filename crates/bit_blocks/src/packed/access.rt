@@ -4,7 +4,7 @@ ghost use Rattle.std.specs.Prelude.{◌≡◌, ◌≢◌, ℕ, ◌<◌, ◌≤�
 ghost use Rattle.bit_blocks.specs.{Bits.blocks_for, Digits.is_one, Storage.{value_at, FillsFirst, WritesInPlace, WritesValue}};
 
 use crate::block::BitBlock;
-use crate::block::masks::{cut_from, with_bit, with_ones_between, with_ones_from};
+use crate::block::masks::{with_bit, with_ones_between, with_ones_from, with_zeros_from};
 use crate::block::operators::{has_one_at, same};
 use crate::packed::groups::BULK_WRITE;
 
@@ -116,6 +116,7 @@ pub fn write_bit<B: BitBlock>(blocks: &mut Vec<B>, i: usize, block: B, bit: bool
     ensures digit { is_one (B.number result) (i % B.width) ≡ bit }
     ensures other_digits { (j : ℕ) → j < B.width → j ≢ i % B.width
         → is_one (B.number result) j ≡ is_one (B.number block) j }
+    ensures of_number { B.number result ≡ get_or (map B.number blocks.new.items) (i / B.width) 0 }
     ensures value { WritesValue B.width (map B.number blocks.old.items) (map B.number blocks.new.items) i bit }
     ensures in_place { WritesInPlace B.is_block blocks.old blocks.new }
 {
@@ -124,13 +125,29 @@ pub fn write_bit<B: BitBlock>(blocks: &mut Vec<B>, i: usize, block: B, bit: bool
     written
 }
 
+/// Makes bit `i` be `bit`, and returns what it was, with what its block is then. Constant time.
+// It was the other where the block changes: so no bit of the old block is tested.
+#[inline]
+pub fn exchange_bit<B: BitBlock>(blocks: &mut Vec<B>, i: usize, bit: bool) -> (bool, B)
+    requires in_bounds { i / B.width < vec_len blocks.old }
+    requires each { All B.is_block blocks.old.items }
+    ensures was { result.0 ≡ value_at B.width (map B.number blocks.old.items) i }
+    ensures of_block { B.is_block result.1 }
+    ensures of_number { B.number result.1 ≡ get_or (map B.number blocks.new.items) (i / B.width) 0 }
+    ensures value { WritesValue B.width (map B.number blocks.old.items) (map B.number blocks.new.items) i bit }
+    ensures in_place { WritesInPlace B.is_block blocks.old blocks.new }
+{
+    let block = block_at(blocks, block_index::<B>(i));
+    let written = write_bit(blocks, i, block, bit);
+    (same(written, block) == bit, written)
+}
+
 /// Makes bit `i` be `bit`, and returns what it was. Constant time.
 ///
 /// ```
 /// assert!(!replace_bit(&mut blocks, 10, true));
 /// assert!(replace_bit(&mut blocks, 10, true));
 /// ```
-// It was the other where the block changes: so no bit of the old block is tested.
 #[inline]
 pub fn replace_bit<B: BitBlock>(blocks: &mut Vec<B>, i: usize, bit: bool) -> bool
     requires in_bounds { i / B.width < vec_len blocks.old }
@@ -139,9 +156,7 @@ pub fn replace_bit<B: BitBlock>(blocks: &mut Vec<B>, i: usize, bit: bool) -> boo
     ensures value { WritesValue B.width (map B.number blocks.old.items) (map B.number blocks.new.items) i bit }
     ensures in_place { WritesInPlace B.is_block blocks.old blocks.new }
 {
-    let block = block_at(blocks, block_index::<B>(i));
-    let written = write_bit(blocks, i, block, bit);
-    same(written, block) == bit
+    exchange_bit(blocks, i, bit).0
 }
 
 // The values from `len` on, up to `end`, become true in the last block; none where it is full.
@@ -169,7 +184,7 @@ pub(crate) fn set_tail<B: BitBlock>(blocks: &mut Vec<B>, len: usize, end: usize)
 }
 
 /// The values from `len` on become false, where there is no block past them.
-pub fn clear_from<B: BitBlock>(blocks: &mut Vec<B>, len: usize)
+pub fn clear_tail<B: BitBlock>(blocks: &mut Vec<B>, len: usize)
     requires count { vec_len blocks.old ≡ blocks_for B.width len }
     requires each { All B.is_block blocks.old.items }
     ensures values { (i : ℕ)
@@ -182,7 +197,7 @@ pub fn clear_from<B: BitBlock>(blocks: &mut Vec<B>, len: usize)
         return;
     }
     let k = block_index::<B>(len);
-    let block = cut_from(block_at(blocks, k), index);
+    let block = with_zeros_from(block_at(blocks, k), index);
     put_block(blocks, k, block);
 }
 

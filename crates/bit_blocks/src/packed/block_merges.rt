@@ -29,9 +29,9 @@ pub fn merge_block<B: BitBlock, O: Operation, S: Others<B>>(
     merged
 }
 
-// The blocks from `start` to before `end` become their merges with the others of their indexes.
+/// The blocks from `start` to before `end` become their merges with the others of their indexes.
 #[inline]
-fn merge_between<B: BitBlock, O: Operation, S: Others<B>>(
+pub fn merge_between<B: BitBlock, O: Operation, S: Others<B>>(
     blocks: &mut [B],
     others: S,
     start: usize,
@@ -68,7 +68,7 @@ pub fn merge_rest<B: BitBlock, O: Operation>(blocks: &mut [B], start: usize, ste
 
 /// Each of the blocks from `start` on becomes its merge with the other of its index, or with zeros where there is
 /// none.
-pub fn merge_each<B: BitBlock, O: Operation, S: Others<B>>(
+pub fn merge_from<B: BitBlock, O: Operation, S: Others<B>>(
     blocks: &mut [B],
     others: S,
     start: usize,

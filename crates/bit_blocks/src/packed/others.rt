@@ -1,7 +1,7 @@
 // What the blocks of a list are merged with or compared with: the blocks of another list, what two lists make of each
 // other, or zeros.
 ghost use Rattle.std.specs.Prelude.{◌≡◌, ℕ, ◌<◌, ◌≤◌, ◌&&◌, All, Bool, false, length, map, min, nat_lt, ⊤};
-ghost use Rattle.bit_blocks.specs.{Digits.is_one, BlockMerges.{apart_at, both_at, merge_at, other_at, CanMerge}};
+ghost use Rattle.bit_blocks.specs.{Digits.is_one, BlockMerges.{apart_at, merge_at, other_at, CanMerge}};
 
 use crate::block::BitBlock;
 use crate::block::operation::{Difference, Intersection, Operation};
@@ -76,21 +76,21 @@ impl<'a, B: BitBlock> Others<B> for Except<'a, B> {
     }
 }
 
-/// The blocks that two lists have in common, bit by bit.
+/// The blocks that two sides have in common, bit by bit.
 #[derive(Clone, Copy)]
-pub struct Both<'a, B> {
-    /// The one list.
-    pub first: &'a [B],
+pub struct Both<F, S> {
+    /// The one side.
+    pub first: F,
     /// The other.
-    pub second: &'a [B],
+    pub second: S,
 }
 
-impl<'a, B: BitBlock> Others<B> for Both<'a, B> {
-    ghost count = { λ both. min (length both.first.now) (length both.second.now) };
+impl<B: BitBlock, F: Others<B>, S: Others<B>> Others<B> for Both<F, S> {
+    ghost count = { λ both. min (F.count both.first) (S.count both.second) };
 
-    ghost digit = { λ both. both_at (map B.number both.first.now) (map B.number both.second.now) };
+    ghost digit = { λ both k j. F.digit both.first k j && S.digit both.second k j };
 
-    ghost are_blocks = { λ both. All B.is_block both.first.now × All B.is_block both.second.now };
+    ghost are_blocks = { λ both. F.are_blocks both.first × S.are_blocks both.second };
 
     #[inline(always)]
     fn len(self) -> usize {
@@ -99,7 +99,7 @@ impl<'a, B: BitBlock> Others<B> for Both<'a, B> {
 
     #[inline(always)]
     fn block(self, k: usize) -> B {
-        Intersection::of_blocks(block_at(self.first, k), block_at(self.second, k))
+        Intersection::of_blocks(self.first.block(k), self.second.block(k))
     }
 }
 

@@ -5,7 +5,7 @@ ghost use Rattle.bit_blocks.specs.{Bits.blocks_for, Storage.{value_at, IsPacked,
 use crate::block::BitBlock;
 use crate::block::operators::{all_ones, ones_below};
 use crate::packed::access::{
-    bit_index, block_count, block_index, clear_from, fill_blocks, put_block, set_tail,
+    bit_index, block_count, block_index, clear_tail, fill_blocks, put_block, set_tail,
 };
 use crate::packed::copies::push_copies;
 use std::alloc::{AllocError, Global};
@@ -95,7 +95,7 @@ pub fn truncate_bits<B: BitBlock>(blocks: &mut Vec<B>, old: usize, len: usize)
     ensures capacity { vec_capacity blocks.new ≡ vec_capacity blocks.old }
 {
     truncate_blocks(blocks, block_count::<B>(len));
-    clear_from(blocks, len);
+    clear_tail(blocks, len);
 }
 
 // Makes each of `len` values true.

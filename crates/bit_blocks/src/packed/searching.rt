@@ -1,12 +1,12 @@
-// What is looked for in a list of blocks, and in one of them.
-ghost use Rattle.std.specs.Prelude.{◌≡◌, ℕ, ◌+◌, ◌*◌, ◌/◌, ◌^◌, ◌<◌, ◌≤◌, All, MatchOption, false, length, map, not, true};
-ghost use Rattle.bit_blocks.specs.{Searches.{FindsBefore, FindsFrom, IsFirstFrom, IsLastBefore}, Storage.{value_at, IsPacked, is_used}};
+// What is looked for in a list of blocks, and in one of them, and what is taken out of it.
+ghost use Rattle.std.specs.Prelude.{◌≡◌, ℕ, ◌+◌, ◌*◌, ◌/◌, ◌^◌, ◌<◌, ◌≤◌, All, MatchOption, false, get_or, length, map, not, true, vec_len};
+ghost use Rattle.bit_blocks.specs.{Searches.{FindsBefore, FindsFrom, IsFirstFrom, IsLastBefore}, Storage.{value_at, IsPacked, WritesInPlace, WritesValue, is_used}};
 
 use crate::block::BitBlock;
-use crate::block::lowest::lowest_one;
-use crate::block::masks::{cut_below, cut_from};
+use crate::block::lowest::{lowest_one, take_lowest_one};
+use crate::block::masks::{with_zeros_below, with_zeros_from};
 use crate::block::operators::{block_not, same};
-use crate::packed::access::{bit_index, block_at, block_index};
+use crate::packed::access::{bit_index, block_at, block_index, put_block};
 use crate::packed::nonzero::block_or_zero;
 use crate::packed::zeros::{used_blocks, zeros_before};
 
@@ -51,7 +51,7 @@ pub fn first_in_block<B: BitBlock>(blocks: &[B], from: usize) -> Option<usize>
         (IsFirstFrom (value_at B.width (map B.number blocks.now)) from) }
 {
     let k = block_index::<B>(from);
-    let rest = cut_below(block_or_zero(blocks, k), bit_index::<B>(from));
+    let rest = with_zeros_below(block_or_zero(blocks, k), bit_index::<B>(from));
     if same(rest, B::zero()) {
         return None;
     }
@@ -71,6 +71,27 @@ pub fn first_of_block<B: BitBlock>(blocks: &[B], k: usize) -> usize
     k * B::bits() + index
 }
 
+/// Takes the first 1 out of a block that is not 0. Returns its index, with what the block is then. Constant time.
+#[inline]
+pub fn take_first_of_block<B: BitBlock>(blocks: &mut Vec<B>, k: usize) -> (usize, B)
+    requires in_bounds { k < vec_len blocks.old }
+    requires each { All B.is_block blocks.old.items }
+    requires used { is_used (map B.number blocks.old.items) k ≡ true }
+    requires fits { (i : ℕ) → value_at B.width (map B.number blocks.old.items) i ≡ true → i < 2 ^ 64 }
+    ensures first { IsFirstFrom (value_at B.width (map B.number blocks.old.items)) (k * B.width) result.0 }
+    ensures in_its_block { result.0 / B.width ≡ k }
+    ensures of_block { B.is_block result.1 }
+    ensures of_number { B.number result.1 ≡ get_or (map B.number blocks.new.items) k 0 }
+    ensures value { WritesValue B.width (map B.number blocks.old.items) (map B.number blocks.new.items) result.0
+        false }
+    ensures in_place { WritesInPlace B.is_block blocks.old blocks.new }
+{
+    let mut block = block_at(blocks, k);
+    let index = take_lowest_one(&mut block);
+    put_block(blocks, k, block);
+    (k * B::bits() + index, block)
+}
+
 /// The last 1 below `end` in the block that `end` is in.
 #[inline]
 pub fn last_in_block<B: BitBlock>(blocks: &[B], end: usize) -> Option<usize>
@@ -81,7 +102,7 @@ pub fn last_in_block<B: BitBlock>(blocks: &[B], end: usize) -> Option<usize>
         (IsLastBefore (value_at B.width (map B.number blocks.now)) end) }
 {
     let k = block_index::<B>(end);
-    let rest = cut_from(block_or_zero(blocks, k), bit_index::<B>(end));
+    let rest = with_zeros_from(block_or_zero(blocks, k), bit_index::<B>(end));
     if same(rest, B::zero()) {
         return None;
     }
@@ -139,7 +160,7 @@ fn zero_in_block<B: BitBlock>(blocks: &[B], from: usize) -> Option<usize>
         (IsFirstFrom (λ j. not (value_at B.width (map B.number blocks.now) j)) from) }
 {
     let k = block_index::<B>(from);
-    let zeros = cut_below(block_not(block_at(blocks, k)), bit_index::<B>(from));
+    let zeros = with_zeros_below(block_not(block_at(blocks, k)), bit_index::<B>(from));
     if same(zeros, B::zero()) {
         return None;
     }

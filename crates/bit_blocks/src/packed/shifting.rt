@@ -4,7 +4,7 @@ ghost use Rattle.bit_blocks.specs.{Digits.is_one, Shifts.{IsMovedDown, IsMovedUp
 
 use crate::block::BitBlock;
 use crate::block::operators::{block_or, shift_left, shift_right};
-use crate::packed::access::{bit_index, block_at, block_index, clear_from, put_in};
+use crate::packed::access::{bit_index, block_at, block_index, clear_tail, put_in};
 use crate::packed::nonzero::block_or_zero;
 
 // The bits from bit `low` of block `k` on, as many as a block has; past the blocks they are 0.
@@ -95,7 +95,7 @@ pub fn shift_bits_up<B: BitBlock>(blocks: &mut Vec<B>, len: usize, distance: usi
     ensures capacity { vec_capacity blocks.new ≡ vec_capacity blocks.old }
 {
     move_up(blocks.as_mut_slice(), distance);
-    clear_from(blocks, len);
+    clear_tail(blocks, len);
 }
 
 /// Moves each bit of a list of `len` down by `distance`. Those below it are lost, and zeros come in at the end. Each

@@ -29,7 +29,7 @@ fn merge_mask<B: BitBlock, O: Operation>(blocks: &mut [B], k: usize, mask: B)
 // Each of the blocks from `first` on and below `end` becomes its merge with ones. The compiler makes a fill of it where
 // the merge is a union or a difference, and vector code where not.
 #[inline]
-fn merge_whole<B: BitBlock, O: Operation>(blocks: &mut [B], first: usize, end: usize)
+fn merge_with_ones<B: BitBlock, O: Operation>(blocks: &mut [B], first: usize, end: usize)
     requires forward { first ≤ end }
     requires within { end ≤ length blocks.old }
     requires each { All B.is_block blocks.old }
@@ -65,7 +65,7 @@ fn merge_in<B: BitBlock, O: Operation>(blocks: &mut [B], start: usize, end: usiz
         return;
     }
     merge_mask::<B, O>(blocks, first, ones_from(low));
-    merge_whole::<B, O>(blocks, first + 1, last);
+    merge_with_ones::<B, O>(blocks, first + 1, last);
     if high != 0 {
         merge_mask::<B, O>(blocks, last, ones_below(high));
     }

@@ -3,7 +3,7 @@ ghost use Rattle.std.specs.Prelude.{◌≡◌, ℕ, ◌<◌, ◌≤◌, ◌++◌
 ghost use Rattle.bit_blocks.specs.{Bits.blocks_for, Storage.value_at};
 
 use crate::block::BitBlock;
-use crate::block::masks::cut_below;
+use crate::block::masks::with_zeros_below;
 use crate::packed::access::{bit_index, block_at, block_index, put_block};
 use crate::packed::copies::{filled_with, push_copies};
 use std::alloc::{AllocError, Global};
@@ -45,7 +45,7 @@ pub fn copy_bits_from<B: BitBlock>(
     if index == 0 {
         return Ok(copy);
     }
-    let block = cut_below(block_at(blocks, k), index);
+    let block = with_zeros_below(block_at(blocks, k), index);
     put_block(&mut copy, k, block);
     Ok(copy)
 }

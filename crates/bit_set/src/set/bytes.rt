@@ -101,6 +101,7 @@ impl BitSet<u32> {
     {
         BitSet::from_bytes_general(alloc, bytes)
     }
+
     /// [`BitSet::from_bytes_lsb_general`] over blocks of 32 bits.
     pub fn from_bytes_lsb(alloc: Global, bytes: &[u8]) -> Result<Self, SetError>
         ensures values { IfOk result (λ set. blocks_of 8 set.values ≡ bytes.now) }

@@ -1,7 +1,7 @@
 // Calls that change a set in place.
 ghost use Rattle.std.specs.Prelude.{◌≡◌, ℕ, ◌+◌, ◌-◌, ◌<◌, ◌≤◌, ◌↔◌, if◌then◌else◌, max, min, not, IfOk, IfErr, OnOk, IsOk, IsErrOf, All, List, [], ◌++◌, length, replicate, false, true, Some};
 ghost use Rattle.std.specs.{Iterator.Drains};
-ghost use Rattle.std.specs.Iterator.{HoldsAlong, IsFinite, YieldsThen};
+ghost use Rattle.std.specs.Iterator.{HoldsAlong, IsFinite, YieldsThen, Runs.WholeRun};
 ghost use Rattle.bit_blocks.specs.Bits.{blocks_for, capacity_of};
 ghost use Rattle.bit_words.specs.Growth.{Grows};
 ghost use Rattle.bit_set.specs.{Sets.{elements, has, put, those_below, without}, Members.{HasNone, IsCounted, IsSameSet, KeepsBelow, Updates}, Effects.TakesIn, Faults.IsInsertFault};
@@ -70,6 +70,8 @@ impl<B: BitBlock> BitSet<B> {
         requires ends { IsFinite (I.remaining iter) }
         ensures ok { OnOk result ((items : List ℕ) × Drains I.next_gives iter items
             × TakesIn items self.old.values self.new.values) }
+        ensures runs { OnOk result (WholeRun I.next_gives iter
+            (λ run. TakesIn run.items self.old.values self.new.values)) }
         ensures err { IfErr result (λ fault. (items : List ℕ) × (item : ℕ) × (rest : I)
             × YieldsThen I.next_gives iter items (Some item) rest
             × TakesIn items self.old.values self.new.values × (length self.new.values ≤ item)

@@ -1,5 +1,5 @@
 // Calls that make a set.
-ghost use Rattle.std.specs.{Prelude.{◌≡◌, ◌≢◌, ℕ, ◌≤◌, ◌↔◌, IfOk, IfErr, IsOk, List, [], length, Some}, Iterator.{Drains, IsFinite, YieldsThen}};
+ghost use Rattle.std.specs.{Prelude.{◌≡◌, ◌≢◌, ℕ, ◌≤◌, ◌↔◌, IfOk, IfErr, IsOk, List, [], length, Some}, Iterator.{Drains, IsFinite, YieldsThen, Runs.WholeRun}};
 ghost use Rattle.bit_blocks.specs.Bits.{blocks_for, capacity_of};
 ghost use Rattle.bit_words.specs.Bounds.{greatest};
 ghost use Rattle.bit_set.specs.{Sets.{bound_of, elements, put_all}, Members.{HasNone, HasTrueOf, IsSameSet}, Capacity.IsPastBlocks};
@@ -58,6 +58,9 @@ impl<B: BitBlock> BitSet<B> {
         ensures ok { IfOk result (λ set. (items : List ℕ) × Drains I.next_gives iter items
             × (elements set.values ≡ put_all [] items) × (length set.values ≡ bound_of items)
             × IsSameSet (elements set.values) items) }
+        ensures runs { IfOk result (λ set. WholeRun I.next_gives iter (λ run.
+            (elements set.values ≡ put_all [] run.items) × (length set.values ≡ bound_of run.items)
+            × IsSameSet (elements set.values) run.items)) }
         ensures err { IfErr result (λ fault. (items : List ℕ) × (item : ℕ) × (rest : I)
             × YieldsThen I.next_gives iter items (Some item) rest × (bound_of items ≤ item) × (item ≤ greatest)
             × (fault ≢ SetError.Length) × ((fault ≡ SetError.Element) ↔ (item ≡ greatest))

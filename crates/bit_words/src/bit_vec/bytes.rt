@@ -80,6 +80,7 @@ impl<B: BitBlock> BitVec<B> {
     {
         bytes_of(alloc, &self.blocks, self.len)
     }
+
     /// The bits of each byte in turn, from the lowest up: value `n` is bit `n % 8` from the lowest of byte `n / 8`, as in
     /// Java's `BitSet.valueOf`, in Arrow and in NumPy's little order. A block takes its bytes in one step each. The
     /// capacity is that of the blocks. Fails as [`BitVec::from_bytes_general`] does.

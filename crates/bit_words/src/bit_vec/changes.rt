@@ -10,8 +10,9 @@ use bit_blocks::block::merge::Merge;
 
 impl<B: BitBlock> BitVec<B> {
     /// Each value becomes its merge with that of `other`, as [`merge_blocks`](Self::merge_blocks) has it, and whether a
-    /// value changed is returned. The other must not be longer. One pass, and no memory. Blocks are written from
-    /// the first group on of which one changes: that group is read twice.
+    /// value changed is returned. The other must not be longer. Takes no memory. Blocks are written from the first group
+    /// on of which one changes: that group is read twice. A long list goes by chunks, the blocks that one block of the
+    /// summary is about, and passes over those of which no block may change by the summaries of both.
     ///
     /// ```
     /// // Some value of `other` is true that is not in `bits`.
@@ -35,8 +36,9 @@ impl<B: BitBlock> BitVec<B> {
     }
 
     /// What is true in `other` and not in `except` becomes true, and whether a value changed is returned. The other must
-    /// not be longer; `except` is false past its end, and may be. One pass over the three lists, and no memory. Blocks
-    /// are written from the first group on of which one changes: that group is read twice.
+    /// not be longer; `except` is false past its end, and may be. Takes no memory. Blocks are written from the first group
+    /// on of which one changes: that group is read twice. A long list goes by chunks, as in
+    /// [`merge_changes`](Self::merge_changes), unless `except` has fewer blocks than `other`.
     ///
     /// ```
     /// // live |= live_after & !assigned
@@ -61,8 +63,9 @@ impl<B: BitBlock> BitVec<B> {
     }
 
     /// What is true both in `other` and in `also` becomes true, and whether a value changed is returned. `other` must not be
-    /// longer than the list; `also` may be, and is false past its end. One pass, and no memory. Blocks are written from the
-    /// first group on of which one changes: that group is read twice.
+    /// longer than the list; `also` may be, and is false past its end. Takes no memory. Blocks are written from the first
+    /// group on of which one changes: that group is read twice. A long list goes by chunks, as in
+    /// [`merge_changes`](Self::merge_changes).
     ///
     /// ```
     /// // found |= wanted & at_hand

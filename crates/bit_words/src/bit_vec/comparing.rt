@@ -4,7 +4,7 @@ ghost use Rattle.bit_blocks.specs.{Bits.{IsFirstTrue, blocks_for, blocks_of}, Me
 
 use crate::bit_vec::BitVec;
 use crate::summary::comparing::{mismatch_by_summaries, same_by_summaries};
-use crate::summary::counts::ones_of_merge;
+use crate::summary::counts::by_summaries::ones_of_merge;
 use crate::summary::inclusion::{difference_by_summaries, intersection_by_summaries};
 use bit_blocks::block::BitBlock;
 use bit_blocks::block::merge::Merge;

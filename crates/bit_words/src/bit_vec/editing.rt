@@ -12,7 +12,7 @@ use crate::summary::{
     update_summary_bit,
 };
 use bit_blocks::block::BitBlock;
-use bit_blocks::packed::access::{block_at, block_count, block_index, replace_bit};
+use bit_blocks::packed::access::{block_at, block_count, block_index, exchange_bit, replace_bit};
 use bit_blocks::packed::resizing::{append_bits, truncate_bits};
 use std::alloc::AllocError;
 
@@ -43,8 +43,7 @@ impl<B: BitBlock> BitVec<B> {
         let chunk = block_index::<B>(k);
         // Read before the block is written, so that a bit of it is set in a register and not in memory.
         let current = block_at(&self.summary, chunk);
-        let was = replace_bit(&mut self.blocks, i, bit);
-        let block = block_at(&self.blocks, k);
+        let (was, block) = exchange_bit(&mut self.blocks, i, bit);
         update_summary_bit(&mut self.summary, current, k, block, bit);
         follow_one(&mut self.search_start, chunk, bit);
         was

@@ -6,7 +6,7 @@ ghost use Rattle.bit_words.specs.Kept.{KeepsInBlock};
 use crate::bit_vec::BitVec;
 use crate::summary::{is_short, update_summary_at};
 use bit_blocks::block::BitBlock;
-use bit_blocks::block::masks::cut_from;
+use bit_blocks::block::masks::with_zeros_from;
 use bit_blocks::block::operators::{block_and, block_not};
 use bit_blocks::packed::access::{block_at, put_block};
 use bit_blocks::packed::nonzero::block_or_zero;
@@ -32,7 +32,7 @@ impl<B: BitBlock> BitVec<B> {
         if below >= B::bits() {
             return zeros;
         }
-        cut_from(zeros, below)
+        with_zeros_from(zeros, below)
     }
 
     /// Makes the values of block `k` false at which `kept` has a 0. Constant time: one write of one block, and of one of

@@ -6,7 +6,7 @@ use crate::bit_vec::BitVec;
 use crate::summary::remaking::remake_summary;
 use crate::summary::summary_of;
 use bit_blocks::block::BitBlock;
-use bit_blocks::packed::access::{block_count, clear_from};
+use bit_blocks::packed::access::{block_count, clear_tail};
 use bit_blocks::packed::shifting::{shift_bits_down, shift_bits_up};
 use bit_blocks::packed::tail_copies::copy_bits_from;
 use std::alloc::{AllocError, Global};
@@ -68,7 +68,7 @@ impl<B: BitBlock> BitVec<B> {
     {
         let count = block_count::<B>(range.end);
         let mut blocks = copy_bits_from(alloc, &self.blocks[..count], range.start)?;
-        clear_from(&mut blocks, range.end);
+        clear_tail(&mut blocks, range.end);
         let summary = summary_of(alloc, &blocks)?;
         Ok(BitVec {
             blocks,

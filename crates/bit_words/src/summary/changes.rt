@@ -17,7 +17,7 @@ use bit_blocks::block::merge::Merge;
 use bit_blocks::block::operation::{Difference, Intersection, Operation, Symmetric, Union};
 use bit_blocks::packed::access::{block_at, block_count, block_index, put_in};
 use bit_blocks::packed::becoming::become_except;
-use bit_blocks::packed::block_merges::{merge_each, unite_except};
+use bit_blocks::packed::block_merges::{merge_from, unite_except};
 use bit_blocks::packed::changes::{changing_place, first_change, first_change_past_except};
 use bit_blocks::packed::differences::first_difference_except;
 use bit_blocks::packed::others::Except;
@@ -126,7 +126,7 @@ fn change_by<B: BitBlock, O: Operation>(
     match first_change::<B, O, &[B]>(blocks, others) {
         None => false,
         Some(start) => {
-            merge_each::<B, O, &[B]>(blocks, others, start, &mut Steps::new());
+            merge_from::<B, O, &[B]>(blocks, others, start, &mut Steps::new());
             true
         }
     }
@@ -206,7 +206,7 @@ pub(crate) fn unite_common<B: BitBlock>(
         let Some(start) = first_change::<B, Union, Common<B>>(blocks, common) else {
             return false;
         };
-        merge_each::<B, Union, Common<B>>(blocks, common, start, &mut Steps::new());
+        merge_from::<B, Union, Common<B>>(blocks, common, start, &mut Steps::new());
         return true;
     }
     change_long::<B, Union, Common<B>>(blocks, summary, common)

@@ -1,21 +1,23 @@
-// How many ones the merge of two lists of blocks has. The merge is not made, and where a summary is stored it says which
-// blocks are read.
-ghost use Rattle.std.specs.Prelude.{◌≡◌, ℕ, ◌+◌, ◌*◌, ◌^◌, ◌<◌, ◌≤◌, ◌||◌, All, false, true, length, map, max, min};
-ghost use Rattle.bit_blocks.specs.{Digits.is_one, Merges.merge_of_values, declared.block.merge.Merge.Merge};
-ghost use Rattle.bit_words.specs.{MergedOnes.{merged_ones, CoversMerged}, Summary.IsStoredSummary};
+// How many ones a part of the merge of two lists of blocks has. The merge is not made, and where a summary is stored it says
+// which blocks are read.
+ghost use Rattle.std.specs.Prelude.{◌≡◌, ℕ, ◌+◌, ◌*◌, ◌^◌, ◌<◌, ◌≤◌, All, true, length, map, max, min};
+ghost use Rattle.bit_blocks.specs.{Bits.blocks_for, Digits.is_one};
+ghost use Rattle.bit_words.specs.{MergedOnes.{may_merge, merged_ones, CoversMerged}, Summary.IsStoredSummary};
 
+use crate::summary::is_nonzero;
 use crate::summary::queries::summary_at;
-use crate::summary::{is_nonzero, is_short};
 use bit_blocks::block::BitBlock;
 use bit_blocks::block::lowest::take_lowest_one;
-use bit_blocks::block::merge::Merge;
-use bit_blocks::block::operation::{Difference, Intersection, Operation, Symmetric, Union};
+use bit_blocks::block::operation::Operation;
 use bit_blocks::block::operators::{block_or, same};
-use bit_blocks::packed::access::{block_at, block_count, block_index};
+use bit_blocks::packed::access::{block_at, block_index};
 use bit_blocks::packed::nonzero::block_or_zero;
 
-// Where so many of the blocks of a chunk have to be read, or more, all of them are, in one loop without a branch.
-const MANY: usize = 4;
+pub(crate) mod by_summaries;
+
+// Where one in so many of the blocks of a chunk has to be read, or more, all of them are, in one loop without a branch. So it is
+// with the chunks of a group.
+pub(crate) const MANY: usize = 4;
 
 // The ones of block `k` of the merge. A block past the end of a list is 0.
 #[inline(always)]
@@ -28,30 +30,32 @@ pub(crate) fn ones_at<B: BitBlock, O: Operation>(blocks: &[B], others: &[B], k: 
     O::of_blocks(block_or_zero(blocks, k), block_or_zero(others, k)).count_ones()
 }
 
-// The ones of the merge from block `first` on and before block `end`, where both lists have all of these.
+// The ones of the merge of the `count` blocks from `start` on, which both lists have.
 #[inline(always)]
 fn ones_of_both<B: BitBlock, O: Operation>(
     blocks: &[B],
     others: &[B],
-    first: usize,
-    end: usize,
+    start: usize,
+    count: usize,
 ) -> usize
-    requires forward { first ≤ end }
-    requires within { end ≤ length blocks.now }
-    requires within_others { end ≤ length others.now }
+    requires within { start + count ≤ length blocks.now }
+    requires within_others { start + count ≤ length others.now }
     requires each { All B.is_block blocks.now }
     requires others { All B.is_block others.now }
-    requires fits { merged_ones O.merge B.width (map B.number blocks.now) (map B.number others.now) first end < 2 ^ 64 }
-    ensures { result ≡ merged_ones O.merge B.width (map B.number blocks.now) (map B.number others.now) first end }
+    requires fits { merged_ones O.merge B.width (map B.number blocks.now) (map B.number others.now) start
+        (start + count) < 2 ^ 64 }
+    ensures { result ≡ merged_ones O.merge B.width (map B.number blocks.now) (map B.number others.now) start
+        (start + count) }
 {
     let mut ones = 0;
-    for k in first..end {
+    for j in 0..count {
+        let k = start + j;
         ones += O::of_blocks(block_at(blocks, k), block_at(others, k)).count_ones();
     }
     ones
 }
 
-// The same where a list may end before.
+// The ones of the merge from block `first` on and before block `end`, where a list may end before.
 #[inline]
 fn ones_of_either<B: BitBlock, O: Operation>(
     blocks: &[B],
@@ -105,9 +109,7 @@ pub(crate) fn may_have_ones<B: BitBlock, O: Operation>(own: B, other: B) -> B
     requires of_other { B.is_block other }
     ensures of_block { B.is_block result }
     ensures digits { (j : ℕ) → j < B.width → is_one (B.number result) j
-        ≡ (merge_of_values O.merge (is_one (B.number own) j) false
-        || (merge_of_values O.merge false (is_one (B.number other) j)
-        || merge_of_values O.merge (is_one (B.number own) j) (is_one (B.number other) j))) }
+        ≡ may_merge O.merge (is_one (B.number own) j) (is_one (B.number other) j) }
 {
     let zero = B::zero();
     let alone = block_or(O::of_blocks(zero, other), O::of_blocks(own, other));
@@ -141,35 +143,64 @@ pub(crate) fn ones_of_chunk<B: BitBlock, O: Operation>(
     }
     let width = B::bits();
     if is_whole && used.count_ones() >= width / MANY {
-        ones_of_both::<B, O>(blocks, others, start, start + width)
+        ones_of_both::<B, O>(blocks, others, start, width)
     } else {
         ones_of_used::<B, O>(blocks, others, start, used)
     }
 }
 
-// The ones of the merge of lists of which one stores a summary at least. Passes over chunks of zeros by the summaries.
-#[inline(never)]
-fn ones_of_long<B: BitBlock, O: Operation>(
+// The ones of the merge of chunk `q`: of the blocks that a block of a summary is about.
+#[inline(always)]
+pub(crate) fn ones_at_chunk<B: BitBlock, O: Operation>(
     blocks: &[B],
     summary: &[B],
     others: &[B],
     other_summary: &[B],
+    q: usize,
 ) -> usize
     requires each { All B.is_block blocks.now }
     requires others { All B.is_block others.now }
     requires summary { IsStoredSummary B.width B.number B.is_block blocks.now summary.now }
     requires other_summary { IsStoredSummary B.width B.number B.is_block others.now other_summary.now }
+    requires lengths { max (length blocks.now) (length others.now) < 2 ^ 64 }
+    requires in_blocks { q < blocks_for B.width (max (length blocks.now) (length others.now)) }
     requires fits { (n : ℕ)
         → merged_ones O.merge B.width (map B.number blocks.now) (map B.number others.now) 0 n < 2 ^ 64 }
-    ensures { (n : ℕ) → length blocks.now ≤ n → length others.now ≤ n
-        → result ≡ merged_ones O.merge B.width (map B.number blocks.now) (map B.number others.now) 0 n }
+    ensures { result ≡ merged_ones O.merge B.width (map B.number blocks.now) (map B.number others.now)
+        (q * B.width) ((q + 1) * B.width) }
 {
     let whole = block_index::<B>(blocks.len().min(others.len()));
+    let own = summary_at(blocks, summary, q);
+    let used = may_have_ones::<B, O>(own, summary_at(others, other_summary, q));
+    let start = q * B::bits();
+    ones_of_chunk::<B, O>(blocks, others, start, used, q < whole)
+}
+
+// The ones of the merge of the chunks from `first` on and before `end`.
+#[inline(never)]
+pub(crate) fn ones_of_chunks<B: BitBlock, O: Operation>(
+    blocks: &[B],
+    summary: &[B],
+    others: &[B],
+    other_summary: &[B],
+    first: usize,
+    end: usize,
+) -> usize
+    requires each { All B.is_block blocks.now }
+    requires others { All B.is_block others.now }
+    requires summary { IsStoredSummary B.width B.number B.is_block blocks.now summary.now }
+    requires other_summary { IsStoredSummary B.width B.number B.is_block others.now other_summary.now }
+    requires forward { first ≤ end }
+    requires lengths { max (length blocks.now) (length others.now) < 2 ^ 64 }
+    requires in_blocks { end ≤ blocks_for B.width (max (length blocks.now) (length others.now)) }
+    requires fits { (n : ℕ)
+        → merged_ones O.merge B.width (map B.number blocks.now) (map B.number others.now) 0 n < 2 ^ 64 }
+    ensures { result ≡ merged_ones O.merge B.width (map B.number blocks.now) (map B.number others.now)
+        (first * B.width) (end * B.width) }
+{
     let mut ones = 0;
-    for q in 0..block_count::<B>(blocks.len().max(others.len())) {
-        let own = summary_at(blocks, summary, q);
-        let used = may_have_ones::<B, O>(own, summary_at(others, other_summary, q));
-        ones += ones_of_chunk::<B, O>(blocks, others, q * B::bits(), used, q < whole);
+    for q in first..end {
+        ones += ones_at_chunk::<B, O>(blocks, summary, others, other_summary, q);
     }
     ones
 }
@@ -209,54 +240,4 @@ pub fn count_merged_blocks<B: BitBlock, O: Operation>(blocks: &[B], others: &[B]
 {
     let both = blocks.len().min(others.len());
     ones_of_both::<B, O>(blocks, others, 0, both) + ones_of_rest::<B, O>(blocks, others, both)
-}
-
-// The ones of the merge of lists of any length.
-#[inline(always)]
-fn ones_by<B: BitBlock, O: Operation>(
-    blocks: &[B],
-    summary: &[B],
-    others: &[B],
-    other_summary: &[B],
-) -> usize
-    requires each { All B.is_block blocks.now }
-    requires others { All B.is_block others.now }
-    requires summary { IsStoredSummary B.width B.number B.is_block blocks.now summary.now }
-    requires other_summary { IsStoredSummary B.width B.number B.is_block others.now other_summary.now }
-    requires fits { (n : ℕ)
-        → merged_ones O.merge B.width (map B.number blocks.now) (map B.number others.now) 0 n < 2 ^ 64 }
-    ensures { (n : ℕ) → length blocks.now ≤ n → length others.now ≤ n
-        → result ≡ merged_ones O.merge B.width (map B.number blocks.now) (map B.number others.now) 0 n }
-{
-    if is_short::<B>(blocks.len().max(others.len())) {
-        count_merged_blocks::<B, O>(blocks, others)
-    } else {
-        ones_of_long::<B, O>(blocks, summary, others, other_summary)
-    }
-}
-
-// The ones of the merge that is named. Here it becomes a type.
-#[inline(always)]
-pub(crate) fn ones_of_merge<B: BitBlock>(
-    blocks: &[B],
-    summary: &[B],
-    others: &[B],
-    other_summary: &[B],
-    merge: Merge,
-) -> usize
-    requires each { All B.is_block blocks.now }
-    requires others { All B.is_block others.now }
-    requires summary { IsStoredSummary B.width B.number B.is_block blocks.now summary.now }
-    requires other_summary { IsStoredSummary B.width B.number B.is_block others.now other_summary.now }
-    requires fits { (n : ℕ)
-        → merged_ones merge B.width (map B.number blocks.now) (map B.number others.now) 0 n < 2 ^ 64 }
-    ensures { (n : ℕ) → length blocks.now ≤ n → length others.now ≤ n
-        → result ≡ merged_ones merge B.width (map B.number blocks.now) (map B.number others.now) 0 n }
-{
-    match merge {
-        Merge::Union => ones_by::<B, Union>(blocks, summary, others, other_summary),
-        Merge::Intersection => ones_by::<B, Intersection>(blocks, summary, others, other_summary),
-        Merge::Difference => ones_by::<B, Difference>(blocks, summary, others, other_summary),
-        Merge::Symmetric => ones_by::<B, Symmetric>(blocks, summary, others, other_summary),
-    }
 }

@@ -3,12 +3,11 @@ ghost use Rattle.std.specs.Prelude.{◌≡◌, ℕ, ◌*◌, ◌^◌, ◌<◌, �
 ghost use Rattle.bit_blocks.specs.{BlockMerges.{IsFirstMerged, MergesToFalse}, Comparisons.TakesSteps, Digits.is_one, Merges.merge_of_values, declared.block.merge.Merge.Merge};
 ghost use Rattle.bit_words.specs.{MergedOnes.{merged_ones, IsFirstMergedBlock}, Summary.IsStoredSummary};
 
-use crate::summary::counts::{may_have_ones, ones_at, ones_of_chunk};
+use crate::summary::counts::{ones_at, ones_at_chunk};
 use crate::summary::is_short;
-use crate::summary::queries::summary_at;
 use bit_blocks::block::BitBlock;
 use bit_blocks::block::operation::{Difference, Intersection, Operation};
-use bit_blocks::packed::access::{block_count, block_index};
+use bit_blocks::packed::access::block_count;
 use bit_blocks::packed::inclusion::{difference_is_zero, intersection_is_zero};
 use bit_blocks::steps::Steps;
 
@@ -53,13 +52,10 @@ fn first_merged_block<B: BitBlock, O: Operation>(
         ((n : ℕ) → merged_ones O.merge B.width (map B.number blocks.now) (map B.number others.now) 0 n ≡ 0)
         (IsFirstMergedBlock O.merge B.width (map B.number blocks.now) (map B.number others.now)) }
 {
-    let whole = block_index::<B>(blocks.len().min(others.len()));
     let most = blocks.len().max(others.len());
     for q in 0..block_count::<B>(most) {
-        let own = summary_at(blocks, summary, q);
-        let used = may_have_ones::<B, O>(own, summary_at(others, other_summary, q));
         let start = q * B::bits();
-        if ones_of_chunk::<B, O>(blocks, others, start, used, q < whole) != 0 {
+        if ones_at_chunk::<B, O>(blocks, summary, others, other_summary, q) != 0 {
             return first_merged_from::<B, O>(blocks, others, start, most);
         }
     }

@@ -1,6 +1,6 @@
 // Merges of the blocks of two lists that have summaries. A merge goes by the summaries: of a chunk, the blocks that a block of
 // the summary is about, it reads what one of them says may change.
-ghost use Rattle.std.specs.Prelude.{◌≡◌, ℕ, ◌+◌, ◌*◌, ◌^◌, ◌<◌, ◌≤◌, All, Bool, IsTrue, false, get_or, length, map, true};
+ghost use Rattle.std.specs.Prelude.{◌≡◌, ℕ, ◌+◌, ◌*◌, ◌<◌, ◌≤◌, All, Bool, IsTrue, false, get_or, length, map, true};
 ghost use Rattle.bit_blocks.specs.{BlockMerges.{other_at, CanMerge, HasMerged, Stay}, Digits.is_one, Merges.merge_of_values, Storage.is_used, declared.block.merge.Merge.Merge};
 ghost use Rattle.bit_words.specs.Summary.{IsSummary, IsStoredSummary, SaysUsed};
 
@@ -13,7 +13,7 @@ use bit_blocks::block::merge::Merge;
 use bit_blocks::block::operation::{Difference, Intersection, Operation, Symmetric, Union};
 use bit_blocks::block::operators::{block_not, block_or, same, shift_left};
 use bit_blocks::packed::access::{block_at, block_count, block_index, put_in};
-use bit_blocks::packed::block_merges::{merge_block, merge_each};
+use bit_blocks::packed::block_merges::{merge_between, merge_block, merge_from};
 use bit_blocks::packed::groups::LONG_GROUP;
 use bit_blocks::packed::others::Others;
 use bit_blocks::steps::Steps;
@@ -48,7 +48,7 @@ fn merge_group<B: BitBlock, O: Operation, S: Others<B>>(
 
 // Groups of blocks from `start` on become their merges, with what `merge_group` returns of each in its place.
 #[inline]
-fn merge_groups<B: BitBlock, O: Operation, S: Others<B>>(
+fn merge_long_groups<B: BitBlock, O: Operation, S: Others<B>>(
     blocks: &mut [B],
     others: S,
     start: usize,
@@ -85,27 +85,9 @@ fn merge_whole<B: BitBlock, O: Operation, S: Others<B>>(blocks: &mut [B], others
     let width = B::bits();
     let start = q * width;
     if width % LONG_GROUP == 0 {
-        merge_groups::<B, O, S>(blocks, others, start, width / LONG_GROUP)
+        merge_long_groups::<B, O, S>(blocks, others, start, width / LONG_GROUP)
     } else {
         merge_group::<B, O, S>(blocks, others, start, width)
-    }
-}
-
-// The blocks from `start` to before `end` become their merges with the others of their indexes.
-#[inline]
-fn merge_run<B: BitBlock, O: Operation, S: Others<B>>(
-    blocks: &mut [B],
-    others: S,
-    start: usize,
-    end: usize,
-)
-    requires can { CanMerge B.is_block blocks.old (S.count others) (S.are_blocks others) }
-    requires forward { start ≤ end }
-    requires in_others { end ≤ S.count others }
-    ensures { HasMerged O.merge B.width B.number B.is_block start end (S.digit others) blocks.old blocks.new }
-{
-    for k in start..end {
-        let _merged = merge_block::<B, O, S>(blocks, others, k, &mut Steps::new());
     }
 }
 
@@ -132,7 +114,7 @@ fn unite_whole<B: BitBlock, O: Operation, S: Summarized<B>>(
         → is_one (B.number result) p ≡ is_used (map B.number blocks.new) (q * B.width + p) }
 {
     let start = q * B::bits();
-    merge_run::<B, O, S>(blocks, others, start, start + B::bits());
+    merge_between::<B, O, S>(blocks, others, start, start + B::bits(), &mut Steps::new());
     let other = others.used_at(q);
     let taken = Difference::of_blocks(other, own);
     if is_nonzero(Intersection::of_blocks(taken, others.unsure_at(q))) {
@@ -319,8 +301,8 @@ fn unite_long<B: BitBlock, O: Operation>(
         (other_at (map B.number others.now)) blocks.old blocks.new }
     ensures summary { IsSummary B.width B.number B.is_block blocks.new summary.new }
 {
-    merge_each::<B, O, &[B]>(blocks, others, start, &mut Steps::new());
-    merge_each::<B, O, &[B]>(summary, other_summary, 0, &mut Steps::new());
+    merge_from::<B, O, &[B]>(blocks, others, start, &mut Steps::new());
+    merge_from::<B, O, &[B]>(summary, other_summary, 0, &mut Steps::new());
 }
 
 // The merge of a long list, whose blocks before `start` stay. It is a call of its own, so that a short list saves no registers
@@ -376,7 +358,7 @@ fn merge_by<B: BitBlock, O: Operation>(
 {
     steps.tick_by(blocks.len());
     if is_short::<B>(blocks.len()) {
-        merge_each::<B, O, &[B]>(blocks, others, 0, &mut Steps::new());
+        merge_from::<B, O, &[B]>(blocks, others, 0, &mut Steps::new());
     } else {
         merge_stored::<B, O>(blocks, summary, others, other_summary, 0);
     }

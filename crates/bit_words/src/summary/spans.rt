@@ -1,7 +1,7 @@
-// Merges with a span, by which the summary follows.
-ghost use Rattle.std.specs.Prelude.{◌≡◌, ◌*◌, ◌<◌, ◌≤◌, All, map, true, false, vec_len, vec_capacity, Bool};
+// Merges with a span, and blocks that are put over others: the summary follows.
+ghost use Rattle.std.specs.Prelude.{◌≡◌, ◌+◌, ◌*◌, ◌^◌, ◌<◌, ◌≤◌, All, length, map, true, false, vec_len, vec_capacity, Bool};
 ghost use Rattle.bit_blocks.specs.{BlockMerges.IsMergedSpan, Merges.merge_of_values, Storage.WritesInPlace, declared.block.merge.Merge.Merge};
-ghost use Rattle.bit_words.specs.Summary.{IsStoredSummary};
+ghost use Rattle.bit_words.specs.{Kept.IsPut, Summary.IsStoredSummary};
 
 use crate::summary::{is_short, summarize_span, update_summary_at};
 use bit_blocks::block::BitBlock;
@@ -66,4 +66,41 @@ pub(crate) fn negate_span<B: BitBlock>(
     let first = block_index::<B>(start);
     let last = block_index::<B>(end - 1);
     summarize_span(summary, blocks, first, last + 1);
+}
+
+// The blocks from `first` on become these, as they are lent as a slice: it becomes a `memcpy`.
+#[inline]
+fn put_slice<B: BitBlock>(blocks: &mut [B], first: usize, from: &[B])
+    requires within { first + length from.now ≤ length blocks.old }
+    requires each { All B.is_block blocks.old }
+    requires each_from { All B.is_block from.now }
+    ensures put { IsPut first (map B.number from.now) (map B.number blocks.old) (map B.number blocks.new) }
+    ensures each { All B.is_block blocks.new }
+    ensures len { length blocks.new ≡ length blocks.old }
+{
+    blocks[first..first + from.len()].copy_from_slice(from);
+}
+
+// The blocks from `first` on become these, and their bits in the summary are made anew.
+pub(crate) fn put_span<B: BitBlock>(
+    blocks: &mut Vec<B>,
+    summary: &mut Vec<B>,
+    first: usize,
+    from: &[B],
+)
+    requires within { first + length from.now ≤ vec_len blocks.old }
+    requires each { All B.is_block blocks.old.items }
+    requires each_from { All B.is_block from.now }
+    requires fits { vec_len blocks.old < 2 ^ 64 }
+    requires summary { IsStoredSummary B.width B.number B.is_block blocks.old.items summary.old.items }
+    ensures put { IsPut first (map B.number from.now) (map B.number blocks.old.items) (map B.number blocks.new.items) }
+    ensures in_place { WritesInPlace B.is_block blocks.old blocks.new }
+    ensures summary { IsStoredSummary B.width B.number B.is_block blocks.new.items summary.new.items }
+    ensures capacity { vec_capacity summary.new ≡ vec_capacity summary.old }
+{
+    put_slice(blocks.as_mut_slice(), first, from);
+    if is_short::<B>(blocks.len()) {
+        return;
+    }
+    summarize_span(summary, blocks, first, first + from.len());
 }

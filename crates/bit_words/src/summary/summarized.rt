@@ -1,13 +1,13 @@
 // What a list that has a summary is merged with, where summaries say which blocks of that may have a 1.
-ghost use Rattle.std.specs.Prelude.{◌≡◌, ℕ, ◌+◌, ◌*◌, ◌^◌, ◌<◌, ◌≤◌, ◌&&◌, All, Bool, false, length, map, min, true};
-ghost use Rattle.bit_blocks.specs.{BlockMerges.{both_at, except_at, other_at}, Digits.is_one, Storage.is_used};
+ghost use Rattle.std.specs.Prelude.{◌≡◌, ℕ, ◌+◌, ◌*◌, ◌^◌, ◌<◌, ◌≤◌, ◌&&◌, All, Bool, false, length, map, true};
+ghost use Rattle.bit_blocks.specs.{BlockMerges.{except_at, other_at}, Digits.is_one, Storage.is_used};
 ghost use Rattle.bit_words.specs.Summary.{IsStoredSummary};
 
 use crate::summary::queries::summary_at;
 use bit_blocks::block::BitBlock;
 use bit_blocks::block::operation::{Difference, Intersection, Operation};
 use bit_blocks::packed::access::block_at;
-use bit_blocks::packed::others::Others;
+use bit_blocks::packed::others::{Both, Others};
 
 /// The other side of a merge, with what is known of its blocks without a look at them.
 pub(crate) trait Summarized<B: BitBlock>: Others<B> {
@@ -79,42 +79,12 @@ impl<'a, B: BitBlock> Summarized<B> for Listed<'a, B> {
 }
 
 /// The blocks that two lists have in common, and the summaries that are stored of these.
-#[derive(Clone, Copy)]
-pub(crate) struct Common<'a, B> {
-    pub(crate) first: Listed<'a, B>,
-    pub(crate) second: Listed<'a, B>,
-}
+pub(crate) type Common<'a, B> = Both<Listed<'a, B>, Listed<'a, B>>;
 
-impl<'a, B: BitBlock> Others<B> for Common<'a, B> {
-    ghost count = { λ common. min (length common.first.blocks.now) (length common.second.blocks.now) };
+impl<B: BitBlock, F: Summarized<B>, S: Summarized<B>> Summarized<B> for Both<F, S> {
+    ghost are_summarized = { λ both. F.are_summarized both.first × S.are_summarized both.second };
 
-    ghost digit = { λ common. both_at (map B.number common.first.blocks.now) (map B.number common.second.blocks.now) };
-
-    ghost are_blocks = { λ common. All B.is_block common.first.blocks.now × All B.is_block common.second.blocks.now };
-
-    #[inline(always)]
-    fn len(self) -> usize {
-        self.first.blocks.len().min(self.second.blocks.len())
-    }
-
-    #[inline(always)]
-    fn block(self, k: usize) -> B {
-        Intersection::of_blocks(
-            block_at(self.first.blocks, k),
-            block_at(self.second.blocks, k),
-        )
-    }
-}
-
-impl<'a, B: BitBlock> Summarized<B> for Common<'a, B> {
-    ghost are_summarized = { λ common.
-        (All B.is_block common.first.blocks.now
-        × IsStoredSummary B.width B.number B.is_block common.first.blocks.now common.first.summary.now)
-        × (All B.is_block common.second.blocks.now
-        × IsStoredSummary B.width B.number B.is_block common.second.blocks.now common.second.summary.now) };
-
-    ghost may_use = { λ common k. is_used (map B.number common.first.blocks.now) k
-        && is_used (map B.number common.second.blocks.now) k };
+    ghost may_use = { λ both k. F.may_use both.first k && S.may_use both.second k };
 
     #[inline(always)]
     fn used_at(self, q: usize) -> B {

@@ -1,13 +1,13 @@
 // The first 1 of a list of bits, found or taken out by the first block of its summary that is not 0.
-ghost use Rattle.std.specs.Prelude.{◌≡◌, ℕ, ◌*◌, ◌/◌, ◌^◌, ◌<◌, All, map, true, false, vec_len, vec_capacity};
-ghost use Rattle.bit_blocks.specs.{Mismatches.IsFirstNonzeroBlock, Searches.IsFirstFrom, Storage.{value_at, WritesInPlace, WritesValue, is_used}};
+ghost use Rattle.std.specs.Prelude.{◌≡◌, ℕ, ◌^◌, ◌<◌, All, map, true, false, vec_capacity};
+ghost use Rattle.bit_blocks.specs.{Mismatches.IsFirstNonzeroBlock, Searches.IsFirstFrom, Storage.{value_at, WritesInPlace, WritesValue}};
 ghost use Rattle.bit_words.specs.Summary.{IsSummary};
 
 use crate::summary::is_nonzero;
 use bit_blocks::block::BitBlock;
 use bit_blocks::block::lowest::take_lowest_one;
 use bit_blocks::packed::access::{block_at, put_block};
-use bit_blocks::packed::searching::first_of_block;
+use bit_blocks::packed::searching::{first_of_block, take_first_of_block};
 
 // The first 1.
 #[inline]
@@ -19,24 +19,6 @@ pub(crate) fn first_of_chunk<B: BitBlock>(blocks: &[B], summary: &[B], chunk: us
     ensures { IsFirstFrom (value_at B.width (map B.number blocks.now)) 0 result }
 {
     first_of_block(blocks, first_of_block(summary, chunk))
-}
-
-// Takes the first 1 of a block that is not 0 out.
-#[inline]
-fn take_first_of_block<B: BitBlock>(blocks: &mut Vec<B>, k: usize) -> usize
-    requires in_bounds { k < vec_len blocks.old }
-    requires each { All B.is_block blocks.old.items }
-    requires used { is_used (map B.number blocks.old.items) k ≡ true }
-    requires fits { (i : ℕ) → value_at B.width (map B.number blocks.old.items) i ≡ true → i < 2 ^ 64 }
-    ensures first { IsFirstFrom (value_at B.width (map B.number blocks.old.items)) (k * B.width) result }
-    ensures of_block { result / B.width ≡ k }
-    ensures value { WritesValue B.width (map B.number blocks.old.items) (map B.number blocks.new.items) result false }
-    ensures in_place { WritesInPlace B.is_block blocks.old blocks.new }
-{
-    let mut block = block_at(blocks, k);
-    let index = take_lowest_one(&mut block);
-    put_block(blocks, k, block);
-    k * B::bits() + index
 }
 
 // Takes the first 1 out. No branch depends on whether its block becomes 0: in a sparse set that is random.
@@ -59,12 +41,8 @@ pub(crate) fn take_first_of_chunk<B: BitBlock>(
     let used = block_at(summary, chunk);
     let mut rest = used;
     let k = chunk * B::bits() + take_lowest_one(&mut rest);
-    let i = take_first_of_block(blocks, k);
-    let left = if is_nonzero(block_at(blocks, k)) {
-        used
-    } else {
-        rest
-    };
+    let (i, block) = take_first_of_block(blocks, k);
+    let left = if is_nonzero(block) { used } else { rest };
     put_block(summary, chunk, left);
     i
 }

@@ -1,9 +1,11 @@
 //! Numbers that are handed out.
-ghost use Rattle.std.specs.Prelude.{◌≡◌, ℕ, ◌+◌, ◌≤◌, ◌&&◌, ◌||◌, nat_lt, nat_le, IsOk, IfOk, OnErr, IfSome, IfNone};
+ghost use Rattle.std.specs.Prelude.{◌≡◌, ℕ, ◌+◌, ◌<◌, ◌≤◌, ◌==◌, ◌&&◌, ◌||◌, false, length, nat_lt, nat_le, slice_index, true, IsOk, IfOk, OnErr, IfSome, IfNone};
+ghost use Rattle.std.specs.List.{list_any};
 ghost use Rattle.bit_set.specs.Sets.{elements, has};
 ghost use Rattle.bit_set.specs.Gaps.{IsFirstGap, HasAmong};
 
 use bit_set::{BitBlock, BitSet, SetError};
+use std::alloc::Global;
 
 /// Claims the first `count` free pages in a row that end by `limit`, and gives the first of them; None where there are no
 /// such pages. Where it claims none, the pages stay as they were.
@@ -29,4 +31,26 @@ pub fn claim_run<B: BitBlock>(
         }
         _ => Ok(None),
     }
+}
+
+/// The least colour that no neighbour has.
+pub fn least_colour<B: BitBlock>(
+    alloc: Global,
+    neighbours: &BitSet<B>,
+    colours: &[usize],
+) -> Result<usize, SetError>
+    ensures free { IfOk result (λ colour. list_any
+        (λ node. nat_lt node (length colours.now) && slice_index colours.now node == colour)
+        (elements neighbours.now.values) ≡ false) }
+    ensures least { IfOk result (λ colour. (lower : ℕ) → lower < colour → list_any
+        (λ node. nat_lt node (length colours.now) && slice_index colours.now node == lower)
+        (elements neighbours.now.values) ≡ true) }
+{
+    let mut used = BitSet::<B>::new_general(alloc);
+    for node in neighbours {
+        if node < colours.len() {
+            used.insert(colours[node])?;
+        }
+    }
+    Ok(used.next_missing(0))
 }

@@ -1,5 +1,5 @@
 //! Members from the greatest on.
-ghost use Rattle.std.specs.Prelude.{◌≡◌, ℕ, ◌<◌, false, IsTrue, IfSome, IfNone};
+ghost use Rattle.std.specs.Prelude.{◌≡◌, ℕ, ◌<◌, false, length, min, IsTrue, IfSome, IfNone};
 ghost use Rattle.bit_set.specs.Sets.{elements, has};
 ghost use Rattle.bit_set.specs.Members.{IsSubset};
 
@@ -19,4 +19,16 @@ pub fn latest_clean<B: BitBlock>(backups: &BitSet<B>, tainted: &BitSet<B>) -> Op
         }
     }
     None
+}
+
+/// Takes the greatest member out, again and again, until no more than `most` are left.
+pub fn keep_least<B: BitBlock>(set: &mut BitSet<B>, most: usize)
+    ensures count { length (elements set.new.values) ≡ min most (length (elements set.old.values)) }
+    ensures kept { IsSubset (elements set.new.values) (elements set.old.values) }
+    ensures least { (x y : ℕ) → IsTrue (has (elements set.new.values) x)
+        → IsTrue (has (elements set.old.values) y) → has (elements set.new.values) y ≡ false → x < y }
+{
+    while set.count() > most {
+        set.pop_last();
+    }
 }

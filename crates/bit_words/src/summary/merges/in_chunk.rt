@@ -13,7 +13,7 @@ use bit_blocks::packed::access::put_in;
 
 // The blocks from `start` on and before `end` become their merges with the others of their indexes, or with zeros where
 // there are none.
-fn merge_between<B: BitBlock, O: Operation>(
+fn merge_any_between<B: BitBlock, O: Operation>(
     blocks: &mut [B],
     others: &[B],
     start: usize,
@@ -48,7 +48,7 @@ fn merge_full_or_part<B: BitBlock, O: Operation>(blocks: &mut [B], others: &[B],
         return merge_whole::<B, O, &[B]>(blocks, others, q);
     }
     let count = (blocks.len() - start).min(width);
-    merge_between::<B, O>(blocks, others, start, start + count);
+    merge_any_between::<B, O>(blocks, others, start, start + count);
     used_from(blocks, start)
 }
 

@@ -1,5 +1,5 @@
 // Which blocks of a chunk a merge may change, by what the summaries say of both sides, and the merge of these alone.
-ghost use Rattle.std.specs.Prelude.{◌≡◌, ℕ, ◌+◌, ◌*◌, ◌^◌, ◌<◌, ◌↔◌, ◌||◌, All, Bool, false, get_or, length, map, true};
+ghost use Rattle.std.specs.Prelude.{◌≡◌, ℕ, ◌+◌, ◌*◌, ◌^◌, ◌<◌, ◌↔◌, ◌||◌, Bool, false, get_or, length, map, true};
 ghost use Rattle.bit_blocks.specs.{BlockMerges.{CanMerge, HasMerged, Stay}, Digits.is_one, Merges.merge_of_values, Storage.is_used};
 
 use crate::summary::is_nonzero;

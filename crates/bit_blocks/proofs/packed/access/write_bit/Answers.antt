@@ -1,5 +1,5 @@
 use Rattle.std.proofs.{Common.arith, lemmas.List.length-map}
-use Rattle.bit_blocks.proofs.ChangeLemmas.{put_bit}
+use Rattle.bit_blocks.proofs.ChangeLemmas.{put_bit, put_read}
 use Rattle.bit_blocks.proofs.packed.access.write_bit.Goals as goal
 
 pub returns-clause-value : goal.returns-clause-value
@@ -21,3 +21,6 @@ returns-clause-other_digits g c = rw c.bit_index.ensures.value at c.with_bit-wri
 
 pub returns-clause-in_place : goal.returns-clause-in_place
 returns-clause-in_place g c = c.put_block.ensures.in_place
+
+pub returns-clause-of_number : goal.returns-clause-of_number
+returns-clause-of_number g c = rw c.block_index.ensures at (put_read _ _ c.block_index.result _ (rw (length-map, c.block_index.ensures) (omega arith)) c.put_block.ensures.numbers)

@@ -8,4 +8,4 @@ truncate_blocks-requires-clause-fewer g c =
 
 pub returns-clause-kept : goal.returns-clause-kept
 returns-clause-kept g c =
-    cut_kept _ _ _ _ _ _ g.met.B.BitBlock.width_law.positive c.block_count.ensures c.truncate_blocks.ensures.numbers c.clear_from.ensures.values
+    cut_kept _ _ _ _ _ _ g.met.B.BitBlock.width_law.positive c.block_count.ensures c.truncate_blocks.ensures.numbers c.clear_tail.ensures.values

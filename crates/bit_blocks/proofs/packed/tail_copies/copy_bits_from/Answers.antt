@@ -9,7 +9,7 @@ returns-then-index-eq0-clause-values g c =
 pub returns-clause-values : goal.returns-clause-values
 returns-clause-values g c =
     tail_cut _ _ _ _ _ c.args.at _ _ _ g.met.B.BitBlock.width_law.positive c.in_ok-copy.ensures.numbers c.block_index-k.ensures c.bit_index-index.ensures.value
-    (rw length-map (omega (arith, c.in_ok-copy.ensures.len))) c.block_at.ensures.of_number c.put_block.ensures.numbers c.cut_below-block.ensures.digits
+    (rw length-map (omega (arith, c.in_ok-copy.ensures.len))) c.block_at.ensures.of_number c.put_block.ensures.numbers c.with_zeros_below-block.ensures.digits
 
 pub block_at-requires-clause-in_bounds : goal.block_at-requires-clause-in_bounds
 block_at-requires-clause-in_bounds g c = omega (arith, c.requires.within, c.block_index-k.ensures, c.bit_index-index.ensures.value)

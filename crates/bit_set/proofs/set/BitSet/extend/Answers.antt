@@ -1,6 +1,6 @@
 use Rattle.std.proofs.{Common.{[], ◌∷◌, ◌++◌, ◌<◌, length, refl, ap, sym, ◌∙◌, arith}, lemmas.{Bool.true≢false, List.Elements.All-pop}, iter.Next.Yields-more}
 use Rattle.std.{specs.declared.option.Option.TheVariants.Some}
-use Rattle.bit_set.proofs.ItemLemmas.{TakesIn-more}
+use Rattle.bit_set.proofs.{ChainLemmas.run_to_end, ItemLemmas.TakesIn-more}
 use Rattle.bit_set.proofs.set.BitSet.extend.Goals as goal
 
 pub loop-item-preserved : goal.loop-item-preserved
@@ -36,6 +36,8 @@ returns g c =
     let invariant = c.loop-item.invariant in
     record {
       ok = (items, (c.next.new.self, (c.loop-item.item-iterator, calls, c.in-None.ensures.steps)), invariant.taken);
+      runs = run_to_end g.I.Iterator.next_gives _ _ items
+          (c.next.new.self, (c.loop-item.item-iterator, calls, c.in-None.ensures.steps)) invariant.taken;
       err = tt;
       succeeds = λ _. refl;
       capacity = invariant.capacity;

@@ -1,5 +1,5 @@
 use Rattle.std.proofs.{Common.subst, lemmas.Result.err_from_is_err_and}
-use Rattle.bit_set.{specs.Capacity.IsPastBlocks, proofs.ItemLemmas.{TakesIn-empty, TakesIn-past, IsInsertFault-fault}}
+use Rattle.bit_set.{specs.Capacity.IsPastBlocks, proofs.{ChainLemmas.run_to_end, ItemLemmas.{TakesIn-empty, TakesIn-past, IsInsertFault-fault}}}
 use Rattle.bit_set.proofs.set.BitSet.from_iter.Goals as goal
 
 pub returns-clause-ok : goal.returns-clause-ok
@@ -7,6 +7,12 @@ returns-clause-ok g c =
     let done = c.in_ok-extend.ensures.ok in
     let took = TakesIn-empty done.0 c.new_general-set.result.values c.extend.new.self.values c.new_general-set.ensures.values done.2 in
     (done.0, done.1, took.0, took.1, took.2)
+
+pub returns-clause-runs : goal.returns-clause-runs
+returns-clause-runs g c =
+    let done = c.in_ok-extend.ensures.ok in
+    let took = TakesIn-empty done.0 c.new_general-set.result.values c.extend.new.self.values c.new_general-set.ensures.values done.2 in
+    run_to_end g.I.Iterator.next_gives _ _ done.0 done.1 (took.0, took.1, took.2)
 
 pub returns-in_err-extend-clause-err : goal.returns-in_err-extend-clause-err
 returns-in_err-extend-clause-err g c =

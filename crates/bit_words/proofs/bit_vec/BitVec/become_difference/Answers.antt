@@ -1,5 +1,7 @@
 use Rattle.std.proofs.{Common.{◌≡◌, ◌≤◌, ◌∙◌, sym, ap, ap₂, ◌++◌, false, map, drop, replicate, length, take, arith}, lemmas.List.take_at}
-use Rattle.bit_blocks.{specs.{declared.block.merge.Merge.TheVariants.{Difference, Union}, Merges.merge_of, BlockMerges.{except_at, HaveBecome}, Storage.IsPacked}, proofs.{BitsLemmas.blocks_for-le, BlockMergeLemmas.kept_lists, VectorLemmas.length_from_view}}
+use Rattle.bit_blocks.specs.{declared.block.merge.Merge.TheVariants.{Difference, Union}, Merges.merge_of}
+use Rattle.bit_blocks.specs.{BlockMerges.{except_at, HaveBecome}, Storage.IsPacked}
+use Rattle.bit_blocks.proofs.{BitsLemmas.blocks_for-le, BlockMergeLemmas.kept_lists, VectorLemmas.length_from_view}
 use Rattle.bit_blocks.proofs.VectorLemmas.{no_longer_from_views, numbers_below}
 use Rattle.bit_words.proofs.bit_vec.BitVec.become_difference.{Given.Over, Goals.After-become_difference}
 use Rattle.bit_words.proofs.FusedLemmas.{list_of_difference, packed_difference, values_of_difference}
@@ -14,7 +16,8 @@ fewer g c =
     omega (arith, le, c.self.invariant.packed.count, c.other.invariant.packed.count)
 
 -- what the blocks became
-merged : (g : Over) (c : After-become_difference g) → HaveBecome g.B.BitBlock.width g.B.BitBlock.number g.B.BitBlock.is_block 0 (length c.self.inside.blocks.items) (except_at (map g.B.BitBlock.number c.other.inside.blocks.items) (map g.B.BitBlock.number c.except.inside.blocks.items)) c.self.inside.blocks.items c.become_difference.new.blocks
+merged : (g : Over) (c : After-become_difference g)
+    → HaveBecome g.B.BitBlock.width g.B.BitBlock.number g.B.BitBlock.is_block 0 (length c.self.inside.blocks.items) (except_at (map g.B.BitBlock.number c.other.inside.blocks.items) (map g.B.BitBlock.number c.except.inside.blocks.items)) c.self.inside.blocks.items c.become_difference.new.blocks
 merged g c = rw (c.as_mut_slice.ensures.value, c.deref.ensures.value, c.deref-2.ensures.value) at c.become_difference.ensures.has
 
 packed : (g : Over) (c : After-become_difference g) → IsPacked g.B.BitBlock.width g.B.BitBlock.number g.B.BitBlock.is_block c.become_difference.new.blocks c.self.inside.len

@@ -1,5 +1,7 @@
 use Rattle.std.proofs.{Common.{◌≡◌, ℕ, ◌∙◌, ap, ap₂, ◌++◌, map, drop, length, take, arith}, lemmas.List.take_at}
-use Rattle.bit_blocks.{specs.{Merges.{merge_of, merge_of_values}, Storage.value_at}, proofs.{BitsLemmas.blocks_for-le, MergeLemmas.{merged_lists, merged_zero_tail}, BlockMergeLemmas.merges_of_values, VectorLemmas.length_from_view}}
+use Rattle.bit_blocks.specs.{Merges.{merge_of, merge_of_values}, Storage.value_at}
+use Rattle.bit_blocks.proofs.{BitsLemmas.blocks_for-le, MergeLemmas.{merged_lists, merged_zero_tail}}
+use Rattle.bit_blocks.proofs.{BlockMergeLemmas.merges_of_values, VectorLemmas.length_from_view}
 use Rattle.bit_blocks.proofs.VectorLemmas.{no_longer_from_views}
 use Rattle.bit_words.proofs.bit_vec.BitVec.merge_blocks.{Given.Over, Goals.After-merge_named}
 use Rattle.bit_words.proofs.StartLemmas.{false_before_none}
@@ -21,7 +23,8 @@ pub merge_named-requires-clause-other_summary : goal.merge_named-requires-clause
 merge_named-requires-clause-other_summary g c = rw (c.deref.ensures.value, c.deref-2.ensures.value) c.other.invariant.summary
 
 -- what each value became
-each : (g : Over) (c : After-merge_named g) → (i : ℕ) → value_at g.B.BitBlock.width (map g.B.BitBlock.number c.merge_named.new.blocks) i ≡ merge_of_values c.args.merge (value_at g.B.BitBlock.width (map g.B.BitBlock.number c.self.inside.blocks.items) i) (value_at g.B.BitBlock.width (map g.B.BitBlock.number c.other.inside.blocks.items) i)
+each : (g : Over) (c : After-merge_named g) → (i : ℕ)
+    → value_at g.B.BitBlock.width (map g.B.BitBlock.number c.merge_named.new.blocks) i ≡ merge_of_values c.args.merge (value_at g.B.BitBlock.width (map g.B.BitBlock.number c.self.inside.blocks.items) i) (value_at g.B.BitBlock.width (map g.B.BitBlock.number c.other.inside.blocks.items) i)
 each g c =
     let pos = g.met.B.BitBlock.width_law.positive in
     let le = blocks_for-le g.B.BitBlock.width c.other.inside.len c.self.inside.len pos (no_longer_from_views _ _ _ _ _ _ _ _ _ c.self.view_is c.other.view_is c.requires) in

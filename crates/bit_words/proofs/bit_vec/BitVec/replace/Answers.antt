@@ -72,32 +72,26 @@ block_at-current-requires g c =
       each = (c.self.invariant.summary.long long).packed.each;
     })
 
-pub replace_bit-was-requires : goal.replace_bit-was-requires
-replace_bit-was-requires g c = record {
-  in_bounds = let inside = in_blocks g (goal.at.replace_bit-was-requires g c).After-self in omega (arith, inside);
+pub exchange_bit-was-requires : goal.exchange_bit-was-requires
+exchange_bit-was-requires g c = record {
+  in_bounds = let inside = in_blocks g (goal.at.exchange_bit-was-requires g c).After-self in omega (arith, inside);
   each = c.self.invariant.packed.each;
 }
-
-pub block_at-block-requires : goal.block_at-block-requires
-block_at-block-requires g c = rw c.deref-2.ensures.value (record {
-  in_bounds = let inside = in_blocks g (goal.at.block_at-block-requires g c).After-self in omega (arith, inside);
-  each = c.replace_bit-was.ensures.in_place.each;
-})
 
 pub update_summary_bit-requires : goal.update_summary_bit-requires
 update_summary_bit-requires g c =
     let at = goal.at.update_summary_bit-requires g c in
     let inside = in_chunks g at.Else-is_short (in_blocks g at.After-self) in
-    let number = rw c.deref-2.ensures.value at c.block_at-block.ensures.of_number in
+    let number = rw (← c.block_index-k.ensures) at c.exchange_bit-was.ensures.of_number in
     record {
       in_summary = rw c.block_index-k.ensures (omega (arith, inside));
       each = (c.self.invariant.summary.long (many g at.Else-is_short)).packed.each;
       of_current = c.block_at-current.ensures.of_block;
       read = rw (← c.block_index-chunk.ensures) (rw c.deref.ensures.value at c.block_at-current.ensures.of_number);
-      of_block = c.block_at-block.ensures.of_block;
+      of_block = c.exchange_bit-was.ensures.of_block;
       nonzero = λ one.
           ap (λ m. not (m == 0)) number
-          ∙ used_at g.B.BitBlock.width _ c.args.i c.block_index-k.result g.met.B.BitBlock.width_law.positive c.block_index-k.ensures (c.replace_bit-was.ensures.value.same ∙ one);
+          ∙ used_at g.B.BitBlock.width _ c.args.i c.block_index-k.result g.met.B.BitBlock.width_law.positive c.block_index-k.ensures (c.exchange_bit-was.ensures.value.same ∙ one);
     }
 
 pub invariant_of-self-2 : goal.invariant_of-self-2
@@ -105,14 +99,14 @@ invariant_of-self-2 g c =
     let w = g.B.BitBlock.width in
     let at = goal.at.invariant_of-self-2 g c in
     let inside = in_blocks g at.After-self in
-    let number = rw c.deref-2.ensures.value at c.block_at-block.ensures.of_number in
+    let number = rw (← c.block_index-k.ensures) at c.exchange_bit-was.ensures.of_number in
     let long = many g at.Else-is_short in
-    let was = c.replace_bit-was.ensures in
+    let was = c.exchange_bit-was.ensures in
     record {
-      packed = replaced_packed w c.self.inside.len c.args.i g.B.BitBlock.number g.B.BitBlock.is_block c.self.inside.blocks c.replace_bit-was.new.blocks _
+      packed = replaced_packed w c.self.inside.len c.args.i g.B.BitBlock.number g.B.BitBlock.is_block c.self.inside.blocks c.exchange_bit-was.new.blocks _
           (in_list g at.After-self) c.self.invariant.packed was.value was.in_place;
       summary = keeps_all _ _ _ _ _ (omega arith) (
-          changed_summary w c.args.i c.block_index-k.result _ _ g.B.BitBlock.number g.B.BitBlock.is_block c.self.inside.blocks c.replace_bit-was.new.blocks c.self.inside.summary c.update_summary_bit.new.summary g.met.B.BitBlock.width_law.positive (λ x is. (g.met.B.BitBlock.number_law x is).0)
+          changed_summary w c.args.i c.block_index-k.result _ _ g.B.BitBlock.number g.B.BitBlock.is_block c.self.inside.blocks c.exchange_bit-was.new.blocks c.self.inside.summary c.update_summary_bit.new.summary g.met.B.BitBlock.width_law.positive (λ x is. (g.met.B.BitBlock.number_law x is).0)
           c.self.invariant.packed.each c.block_index-k.ensures (omega (arith, inside)) was.value was.in_place (c.self.invariant.summary.long long)
           (ap (λ m. not (m == 0)) number) c.update_summary_bit.ensures.value c.update_summary_bit.ensures.in_place);
       start = λ _.
@@ -124,7 +118,7 @@ pub returns : goal.returns
 returns g c =
     let w = g.B.BitBlock.width in
     let within = in_list g (goal.at.returns g c).After-self in
-    let was = c.replace_bit-was.ensures in
+    let was = c.exchange_bit-was.ensures in
     record {
       was = rw (← c.self.view_is) (slice_get-values_of _ _ _ _ within ∙ ap Some (sym was.was));
       values = values_of-set _ _ _ _ _ _ within was.value.same was.value.others ∙ ap (λ v. set v.values c.args.i c.args.bit) c.self.view_is;

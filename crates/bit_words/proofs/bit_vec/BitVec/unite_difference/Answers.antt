@@ -1,5 +1,9 @@
 use Rattle.std.proofs.{Common.{◌≡◌, ◌≤◌, ◌∙◌, sym, ap, ap₂, ◌++◌, map, drop, length, take, arith}, lemmas.List.take_at}
-use Rattle.bit_blocks.{specs.{declared.block.merge.Merge.TheVariants.{Difference, Union}, Merges.merge_of, BlockMerges.{except_at, HasMerged}, Storage.IsPacked}, proofs.{BitsLemmas.blocks_for-le, BlockMergeLemmas.{kept_lists, lists_merged_except, packed_merged, values_merged_except}, VectorLemmas.length_from_view}}
+use Rattle.bit_blocks.specs.{declared.block.merge.Merge.TheVariants.{Difference, Union}, Merges.merge_of}
+use Rattle.bit_blocks.specs.{BlockMerges.{except_at, HasMerged}, Storage.IsPacked}
+use Rattle.bit_blocks.proofs.BitsLemmas.{blocks_for-le}
+use Rattle.bit_blocks.proofs.BlockMergeLemmas.{kept_lists, lists_merged_except, packed_merged, values_merged_except}
+use Rattle.bit_blocks.proofs.VectorLemmas.{length_from_view}
 use Rattle.bit_blocks.proofs.VectorLemmas.{no_longer_from_views, numbers_below}
 use Rattle.bit_words.proofs.bit_vec.BitVec.unite_difference.{Given.Over, Goals.After-unite_difference}
 use Rattle.bit_words.proofs.StartLemmas.{false_before_none}
@@ -13,7 +17,8 @@ fewer g c =
     omega (arith, le, c.self.invariant.packed.count, c.other.invariant.packed.count)
 
 -- what the blocks became
-merged : (g : Over) (c : After-unite_difference g) → HasMerged Union g.B.BitBlock.width g.B.BitBlock.number g.B.BitBlock.is_block 0 (length c.self.inside.blocks.items) (except_at (map g.B.BitBlock.number c.other.inside.blocks.items) (map g.B.BitBlock.number c.except.inside.blocks.items)) c.self.inside.blocks.items c.unite_difference.new.blocks
+merged : (g : Over) (c : After-unite_difference g)
+    → HasMerged Union g.B.BitBlock.width g.B.BitBlock.number g.B.BitBlock.is_block 0 (length c.self.inside.blocks.items) (except_at (map g.B.BitBlock.number c.other.inside.blocks.items) (map g.B.BitBlock.number c.except.inside.blocks.items)) c.self.inside.blocks.items c.unite_difference.new.blocks
 merged g c = rw (c.as_mut_slice.ensures.value, c.deref.ensures.value, c.deref-2.ensures.value) at c.unite_difference.ensures.has
 
 packed : (g : Over) (c : After-unite_difference g) → IsPacked g.B.BitBlock.width g.B.BitBlock.number g.B.BitBlock.is_block c.unite_difference.new.blocks c.self.inside.len

@@ -1,5 +1,7 @@
 use Rattle.std.proofs.{Common.{◌≡◌, ◌≤◌, ◌∙◌, sym, ap, ap₂, ◌++◌, map, drop, length, take, arith}, lemmas.List.take_at}
-use Rattle.bit_blocks.{specs.{declared.block.merge.Merge.TheVariants.{Intersection, Union}, Merges.merge_of, BlockMerges.{both_at, HasMerged}, Storage.IsPacked}, proofs.{BitsLemmas.blocks_for-le, BlockMergeLemmas.kept_lists, VectorLemmas.length_from_view}}
+use Rattle.bit_blocks.specs.{declared.block.merge.Merge.TheVariants.{Intersection, Union}, Merges.merge_of}
+use Rattle.bit_blocks.specs.{BlockMerges.{both_at, HasMerged}, Storage.IsPacked}
+use Rattle.bit_blocks.proofs.{BitsLemmas.blocks_for-le, BlockMergeLemmas.kept_lists, VectorLemmas.length_from_view}
 use Rattle.bit_blocks.proofs.VectorLemmas.{no_longer_from_views, numbers_below}
 use Rattle.bit_words.proofs.bit_vec.BitVec.unite_intersection.{Given.Over, Goals.After-unite_common}
 use Rattle.bit_words.proofs.FusedLemmas.{lists_with_common, packed_with_common, values_with_common}
@@ -14,7 +16,8 @@ fewer g c =
     omega (arith, le, c.self.invariant.packed.count, c.other.invariant.packed.count)
 
 -- what the blocks became
-merged : (g : Over) (c : After-unite_common g) → HasMerged Union g.B.BitBlock.width g.B.BitBlock.number g.B.BitBlock.is_block 0 (length c.self.inside.blocks.items) (both_at (map g.B.BitBlock.number c.other.inside.blocks.items) (map g.B.BitBlock.number c.also.inside.blocks.items)) c.self.inside.blocks.items c.unite_common.new.blocks
+merged : (g : Over) (c : After-unite_common g)
+    → HasMerged Union g.B.BitBlock.width g.B.BitBlock.number g.B.BitBlock.is_block 0 (length c.self.inside.blocks.items) (both_at (map g.B.BitBlock.number c.other.inside.blocks.items) (map g.B.BitBlock.number c.also.inside.blocks.items)) c.self.inside.blocks.items c.unite_common.new.blocks
 merged g c = rw (c.as_mut_slice.ensures.value, c.deref.ensures.value, c.deref-3.ensures.value) at c.unite_common.ensures.has
 
 packed : (g : Over) (c : After-unite_common g) → IsPacked g.B.BitBlock.width g.B.BitBlock.number g.B.BitBlock.is_block c.unite_common.new.blocks c.self.inside.len

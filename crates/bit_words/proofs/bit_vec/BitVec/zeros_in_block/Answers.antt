@@ -14,4 +14,4 @@ returns-clause-digits g c =
     let w = g.B.BitBlock.width in
     let product = ap (λ n. c.args.k * n) c.bits.ensures in
     let to : c.args.end - c.args.k * c.bits.result + c.args.k * w ≡ c.args.end = omega (arith, product, c.requires) in
-    zeros_below w c.args.k c.args.end _ _ _ _ _ _ c.storage.ensures.numbers c.block_or_zero.ensures.of_number c.block_not-zeros.ensures.of_digits to c.cut_from.ensures.digits
+    zeros_below w c.args.k c.args.end _ _ _ _ _ _ c.storage.ensures.numbers c.block_or_zero.ensures.of_number c.block_not-zeros.ensures.of_digits to c.with_zeros_from.ensures.digits

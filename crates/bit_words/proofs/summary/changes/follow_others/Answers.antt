@@ -1,5 +1,9 @@
-use Rattle.std.proofs.{Common.{◌≡◌, ◌≢◌, ℕ, ◌||◌, ◌+◌, ◌*◌, ◌<◌, ◌≤◌, ◌∙◌, true, sym, ap, ap₂, ⊎_elim, get_or, map, length, arith, get_or-set_other, mul-le-mul_right}, lemmas.{Bool.{cases_lt, true≢false}, List.length-map}}
-use Rattle.bit_blocks.{specs.{Bits.blocks_for, Digits.is_one, Storage.{is_used, value_at}}, proofs.{BitsLemmas.{blocks_for-enough, blocks_for-le, whole_before}, StorageLemmas.value_at-index, UseLemmas.used_past}}
+use Rattle.std.proofs.Common.{◌≡◌, ◌≢◌, ℕ, ◌||◌, ◌+◌, ◌*◌, ◌<◌, ◌≤◌, ◌∙◌, true, sym, ap, ap₂, ⊎_elim, get_or, map}
+use Rattle.std.proofs.Common.{length, arith, get_or-set_other, mul-le-mul_right}
+use Rattle.std.proofs.lemmas.{Bool.{cases_lt, true≢false}, List.length-map}
+use Rattle.bit_blocks.specs.{Bits.blocks_for, Digits.is_one, Storage.{is_used, value_at}}
+use Rattle.bit_blocks.proofs.BitsLemmas.{blocks_for-enough, blocks_for-le, whole_before}
+use Rattle.bit_blocks.proofs.{StorageLemmas.value_at-index, UseLemmas.used_past}
 use Rattle.bit_words.proofs.SummaryLemmas.{summary_of_blocks, summary_put}
 use Rattle.bit_words.proofs.summary.changes.follow_others.{Given.Over, Goals.{After-block_count-q-end, After-summary_at-excepted}}
 use Rattle.bit_words.proofs.summary.changes.follow_others.Goals as goal
@@ -31,7 +35,8 @@ followed-requires-clause-in_bounds g c =
     omega (arith, whole_before g.B.BitBlock.width (length c.args.blocks.now) c.loop-q.q g.met.B.BitBlock.width_law.positive (omega (arith, reach, c.requires.count)))
 
 -- the digits of both summaries that a block of them has here
-own : (g : Over) (c : After-summary_at-excepted g) → (j : ℕ) → j < g.B.BitBlock.width → is_one (g.B.BitBlock.number c.block_at-own.result) j ≡ value_at g.B.BitBlock.width (map g.B.BitBlock.number c.args.summary.now) (c.loop-q.q * g.B.BitBlock.width + j)
+own : (g : Over) (c : After-summary_at-excepted g) → (j : ℕ) → j < g.B.BitBlock.width
+    → is_one (g.B.BitBlock.number c.block_at-own.result) j ≡ value_at g.B.BitBlock.width (map g.B.BitBlock.number c.args.summary.now) (c.loop-q.q * g.B.BitBlock.width + j)
 own g c j index = ap (λ n. is_one n j) (c.block_at-own.ensures.of_number ∙ c.loop-q.invariant.past c.loop-q.q (omega arith)) ∙ sym (value_at-index g.B.BitBlock.width (map g.B.BitBlock.number c.args.summary.now) c.loop-q.q j index)
 
 pub followed-requires-clause-kept : goal.followed-requires-clause-kept

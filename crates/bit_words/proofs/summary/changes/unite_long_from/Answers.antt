@@ -5,7 +5,8 @@ use Rattle.bit_words.proofs.summary.changes.unite_long_from.{Given.Over, Goals.A
 use Rattle.bit_words.proofs.summary.changes.unite_long_from.Goals as goal
 
 -- all blocks, with those that stayed
-merged : (g : Over) (c : After-unite_except g) → HasMerged Union g.B.BitBlock.width g.B.BitBlock.number g.B.BitBlock.is_block 0 (length c.args.blocks.now) (except_at (map g.B.BitBlock.number c.args.others.now) (map g.B.BitBlock.number c.args.except.now)) c.args.blocks.now c.unite_except.new.blocks
+merged : (g : Over) (c : After-unite_except g)
+    → HasMerged Union g.B.BitBlock.width g.B.BitBlock.number g.B.BitBlock.is_block 0 (length c.args.blocks.now) (except_at (map g.B.BitBlock.number c.args.others.now) (map g.B.BitBlock.number c.args.except.now)) c.args.blocks.now c.unite_except.new.blocks
 merged g c = merged_past_stay _ _ _ _ c.args.start (length c.args.blocks.now) _ _ _ (omega (arith, c.requires.from, c.requires.can.fewer)) c.requires.stay c.unite_except.ensures
 
 pub returns-clause-has : goal.returns-clause-has

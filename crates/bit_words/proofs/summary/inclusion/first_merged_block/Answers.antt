@@ -1,34 +1,16 @@
-use Rattle.std.proofs.Common.{◌≡◌, ◌+◌, ◌*◌, ◌<◌, ◌≤◌, ◌∙◌, ap, length, map, max, arith, mul-le-mul_right}
-use Rattle.std.proofs.{Math.Nat.le-div_iff_mul-le, lemmas.{Bool.Decides.nat_tests, List.length-map}}
+use Rattle.std.proofs.Common.{◌+◌, ◌*◌, ◌≤◌, ap, length, map, max, arith, mul-le-mul_right}
+use Rattle.std.proofs.lemmas.List.{length-map}
 use Rattle.bit_blocks.{specs.Bits.blocks_for, proofs.BitsLemmas.blocks_for-enough}
-use Rattle.bit_words.{specs.MergedOnes.merged_ones, proofs.{ComparedLemmas.for_none, MergedOnesLemmas.{covers_merged, merged_le, merged_parts, merged_zero}}}
+use Rattle.bit_words.proofs.{ComparedLemmas.for_none, MergedOnesLemmas.{merged_parts, merged_zero}}
 use Rattle.bit_words.proofs.summary.inclusion.first_merged_block.Goals as goal
 
-pub ones_of_chunk-requires-clause-covers : goal.ones_of_chunk-requires-clause-covers
-ones_of_chunk-requires-clause-covers g c =
-    let used = c.may_have_ones-used.ensures.digits in
-    rw c.bits.ensures
-    (covers_merged g.O.Operation.merge g.B.BitBlock.width _ _ c.loop-q.q _ _ _
-    (rw length-map (omega (arith, c.max-most.ensures, c.max-most.type_inv))) (rw length-map (omega (arith, c.max-most.ensures, c.max-most.type_inv)))
-    c.summary_at-own.ensures.digits c.summary_at.ensures.digits used)
+pub ones_at_chunk-requires-clause-in_blocks : goal.ones_at_chunk-requires-clause-in_blocks
+ones_at_chunk-requires-clause-in_blocks g c =
+    let most = ap (blocks_for g.B.BitBlock.width) c.max-most.ensures in
+    omega (arith, most, c.block_count-q-end.ensures)
 
-pub ones_of_chunk-requires-clause-whole : goal.ones_of_chunk-requires-clause-whole
-ones_of_chunk-requires-clause-whole g c = λ is.
-    let w = g.B.BitBlock.width in
-    let below : c.loop-q.q < c.block_index-whole.result = grind (arith, nat_tests, is) in
-    let inside : (c.loop-q.q + 1) * w ≤ c.min.result = (le-div_iff_mul-le g.met.B.BitBlock.width_law.positive).0 (omega (arith, below, c.block_index-whole.ensures)) in
-    rw c.bits.ensures (omega (arith, inside, c.min.ensures), omega (arith, inside, c.min.ensures))
-
-pub ones_of_chunk-requires-clause-fits : goal.ones_of_chunk-requires-clause-fits
-ones_of_chunk-requires-clause-fits g c =
-    let w = g.B.BitBlock.width in
-    let start = c.loop-q.q * c.bits.result in
-    let most = merged_le g.O.Operation.merge w (map g.B.BitBlock.number c.args.blocks.now) (map g.B.BitBlock.number c.args.others.now) 0 start (start + w) (start + w) (omega arith)
-    (omega arith) (omega arith) in
-    omega (arith, most, c.requires.fits (start + w))
-
-pub returns-then-ones_of_chunk-ne0 : goal.returns-then-ones_of_chunk-ne0
-returns-then-ones_of_chunk-ne0 g c =
+pub returns-then-ones_at_chunk-ne0 : goal.returns-then-ones_at_chunk-ne0
+returns-then-ones_at_chunk-ne0 g c =
     let ms = map g.B.BitBlock.number c.args.blocks.now in
     let ns = map g.B.BitBlock.number c.args.others.now in
     for_none c.first_merged_from.result _ _ _
@@ -41,11 +23,8 @@ pub loop-q-preserved : goal.loop-q-preserved
 loop-q-preserved g c =
     let w = g.B.BitBlock.width in
     let q = c.loop-q.q in
-    let ones = merged_ones g.O.Operation.merge w (map g.B.BitBlock.number c.args.blocks.now) (map g.B.BitBlock.number c.args.others.now) in
-    let next : q * w + w ≡ (q + 1) * w = omega arith in
-    let chunk = c.ones_of_chunk.ensures ∙ ap (λ b. ones (q * b) (q * b + w)) c.bits.ensures ∙ ap (ones (q * w)) next in
     let parts = merged_parts g.O.Operation.merge w (map g.B.BitBlock.number c.args.blocks.now) (map g.B.BitBlock.number c.args.others.now) 0 (q * w) ((q + 1) * w) (omega arith) (omega arith) in
-    omega (arith, parts, chunk, c.loop-q.invariant, c.if-ones_of_chunk-ne0.false)
+    omega (arith, parts, c.ones_at_chunk.ensures, c.loop-q.invariant, c.if-ones_at_chunk-ne0.false)
 
 pub returns : goal.returns
 returns g c = λ n.

@@ -4,11 +4,11 @@ use Rattle.bit_words.proofs.summary.merges.merge_whole.Goals as goal
 pub overflow_mul-start : goal.overflow_mul-start
 overflow_mul-start g c = let begin = ap (λ x. c.args.q * x) c.bits-width.ensures in omega (arith, begin, c.requires.in_others)
 
-pub merge_groups-requires-clause-in_others : goal.merge_groups-requires-clause-in_others
-merge_groups-requires-clause-in_others g c = let begin = ap (λ x. c.args.q * x) c.bits-width.ensures in omega (arith, begin, c.requires.in_others)
+pub merge_long_groups-requires-clause-in_others : goal.merge_long_groups-requires-clause-in_others
+merge_long_groups-requires-clause-in_others g c = let begin = ap (λ x. c.args.q * x) c.bits-width.ensures in omega (arith, begin, c.requires.in_others)
 
-pub merge_groups-requires-clause-within : goal.merge_groups-requires-clause-within
-merge_groups-requires-clause-within g c = omega (arith, c.bits-width.ensures)
+pub merge_long_groups-requires-clause-within : goal.merge_long_groups-requires-clause-within
+merge_long_groups-requires-clause-within g c = omega (arith, c.bits-width.ensures)
 
 pub merge_group-requires-clause-in_others : goal.merge_group-requires-clause-in_others
 merge_group-requires-clause-in_others g c = let begin = ap (λ x. c.args.q * x) c.bits-width.ensures in omega (arith, begin, c.requires.in_others)
@@ -21,7 +21,7 @@ returns-then-width-eq0-clause-has g c =
     let bits = c.bits-width.result in
     let at : c.args.q * bits ≡ c.args.q * g.B.BitBlock.width = ap (λ b. c.args.q * b) c.bits-width.ensures in
     let end : c.args.q * bits + bits / 32 * 32 ≡ (c.args.q + 1) * g.B.BitBlock.width = omega (arith, at, c.bits-width.ensures, c.if-width-eq0.true) in
-    rw (end, at) at c.merge_groups.ensures.has
+    rw (end, at) at c.merge_long_groups.ensures.has
 
 pub returns-else-width-eq0-clause-has : goal.returns-else-width-eq0-clause-has
 returns-else-width-eq0-clause-has g c =

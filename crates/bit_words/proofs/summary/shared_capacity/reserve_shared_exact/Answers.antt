@@ -7,7 +7,9 @@ shared_cut : (w blocks summary count cut : ℕ) → 0 < w → summary < stored_f
 shared_cut w blocks summary count cut pos short low high = let less = shared_past_summary w count summary pos short in omega arith
 
 -- what is made is just what was asked for
-made_exact : {E : Type 0} (w blocks summary count cut new_blocks new_summary : ℕ) (r : Result Unit E) → 0 < w → summary < stored_for w count → cut ≤ count → ReservesShared w count true r cut summary new_blocks new_summary → OnOk r (shared_capacity w new_blocks new_summary ≡ max (shared_capacity w blocks summary) count)
+made_exact : {E : Type 0} (w blocks summary count cut new_blocks new_summary : ℕ) (r : Result Unit E) → 0 < w
+    → summary < stored_for w count → cut ≤ count → ReservesShared w count true r cut summary new_blocks new_summary
+    → OnOk r (shared_capacity w new_blocks new_summary ≡ max (shared_capacity w blocks summary) count)
 made_exact w blocks summary count cut new_blocks new_summary r pos short fits made =
     grind (arith, shared_short_summary w blocks summary count pos short, shared_whole w count new_blocks new_summary pos, made.exact refl, made.exact_summary refl)
 

@@ -1,6 +1,6 @@
 use Rattle.std.proofs.{Common.{ℕ, ◌+◌, ◌*◌, ◌<◌, ◌≢◌, ◌==◌, false, List, get_or, not, map, length, sym, ap, ◌∙◌, arith}, lemmas.{Bool.true≢false, List.{get_or_past, length-map}}}
-use Rattle.bit_blocks.{specs.{Searches.IsFirstFrom, Storage.{WritesValue, is_used}}, proofs.{BitsLemmas.block_begins, SearchLemmas.first_of_whole, UseLemmas.used_past}}
-use Rattle.bit_words.proofs.{StartLemmas.{first_of_first, first_used, lowest_left}, SummaryLemmas.changed_summary}
+use Rattle.bit_blocks.{specs.{Searches.IsFirstFrom, Storage.{WritesValue, is_used}}, proofs.{BitsLemmas.block_begins, ChangeLemmas.lowest_left, SearchLemmas.first_of_whole, UseLemmas.used_past}}
+use Rattle.bit_words.proofs.{StartLemmas.{first_of_first, first_used}, SummaryLemmas.changed_summary}
 use Rattle.bit_words.proofs.summary.taking.take_first_of_chunk.{Given.Over, Goals.{After-take_lowest_one, After-put_block, then-is_nonzero, else-is_nonzero}}
 use Rattle.bit_words.proofs.summary.taking.take_first_of_chunk.Goals as goal
 
@@ -52,14 +52,6 @@ take_first_of_block-i-requires-clause-fits g c = c.requires.fits
 pub take_first_of_block-i-requires-clause-used : goal.take_first_of_block-i-requires-clause-used
 take_first_of_block-i-requires-clause-used g c = (block g (goal.at.take_first_of_block-i-requires-clause-used g c).After-take_lowest_one).passes
 
-pub block_at-requires-clause-in_bounds : goal.block_at-requires-clause-in_bounds
-block_at-requires-clause-in_bounds g c =
-    let here = inside g (goal.at.block_at-requires-clause-in_bounds g c).After-take_lowest_one in
-    rw c.deref-2.ensures.value (omega (arith, here, c.take_first_of_block-i.ensures.in_place.len))
-
-pub block_at-requires-clause-each : goal.block_at-requires-clause-each
-block_at-requires-clause-each g c = rw c.deref-2.ensures.value c.take_first_of_block-i.ensures.in_place.each
-
 pub put_block-requires-clause-in_bounds : goal.put_block-requires-clause-in_bounds
 put_block-requires-clause-in_bounds g c = omega (arith, there g.B.BitBlock.number c.args.summary.now.items c.args.chunk c.requires.first.here, c.args.summary.now.ok.0)
 
@@ -100,7 +92,7 @@ pub returns-clause-summary : goal.returns-clause-summary
 returns-clause-summary g c =
     let at = goal.at.returns-clause-summary g c in
     let taken = c.take_first_of_block-i.ensures in
-    let number = rw c.deref-2.ensures.value at c.block_at.ensures.of_number in
-    changed_summary g.B.BitBlock.width c.take_first_of_block-i.result _ false c.is_nonzero.result g.B.BitBlock.number g.B.BitBlock.is_block c.args.blocks.now c.take_first_of_block-i.new.blocks c.args.summary.now c.put_block.new.blocks g.met.B.BitBlock.width_law.positive (λ x is. (g.met.B.BitBlock.number_law x is).0)
-    c.requires.each (sym taken.of_block) (inside g at.After-take_lowest_one) taken.value taken.in_place c.requires.summary (c.is_nonzero.ensures ∙ ap (λ m. not (m == 0)) number)
+    let number = taken.of_number in
+    changed_summary g.B.BitBlock.width c.take_first_of_block-i.result.0 _ false c.is_nonzero.result g.B.BitBlock.number g.B.BitBlock.is_block c.args.blocks.now c.take_first_of_block-i.new.blocks c.args.summary.now c.put_block.new.blocks g.met.B.BitBlock.width_law.positive (λ x is. (g.met.B.BitBlock.number_law x is).0)
+    c.requires.each (sym taken.in_its_block) (inside g at.After-take_lowest_one) taken.value taken.in_place c.requires.summary (c.is_nonzero.ensures ∙ ap (λ m. not (m == 0)) number)
     (left g at.After-put_block) c.put_block.ensures.in_place

@@ -1,0 +1,54 @@
+// How many members two sets have between them. Both may be one set.
+ghost use Rattle.std.specs.Prelude.{◌≡◌, length};
+ghost use Rattle.bit_set.specs.Sets.{difference, elements, intersection, symmetric_difference, union};
+ghost use Rattle.bit_set_c.specs.{Handed.IsAt};
+
+use crate::handed::Shared;
+
+/// How many numbers are in either set.
+#[unsafe(no_mangle)]
+pub extern "C" fn bit_set_union_count(set: &mut Shared, other: &mut Shared) -> usize
+    requires here { IsAt set.ref_ptr set.old.at }
+    requires there { IsAt other.ref_ptr other.old.at }
+    ensures value { result ≡ length (union (elements set.old.bits.values) (elements other.old.bits.values)) }
+    ensures kept { set.new ≡ set.old }
+    ensures other_kept { other.new ≡ other.old }
+{
+    set.get().union_count(other.get())
+}
+
+/// How many numbers are in both sets.
+#[unsafe(no_mangle)]
+pub extern "C" fn bit_set_intersection_count(set: &mut Shared, other: &mut Shared) -> usize
+    requires here { IsAt set.ref_ptr set.old.at }
+    requires there { IsAt other.ref_ptr other.old.at }
+    ensures value { result ≡ length (intersection (elements set.old.bits.values) (elements other.old.bits.values)) }
+    ensures kept { set.new ≡ set.old }
+    ensures other_kept { other.new ≡ other.old }
+{
+    set.get().intersection_count(other.get())
+}
+
+/// How many members are none of the other set.
+#[unsafe(no_mangle)]
+pub extern "C" fn bit_set_difference_count(set: &mut Shared, other: &mut Shared) -> usize
+    requires here { IsAt set.ref_ptr set.old.at }
+    requires there { IsAt other.ref_ptr other.old.at }
+    ensures value { result ≡ length (difference (elements set.old.bits.values) (elements other.old.bits.values)) }
+    ensures kept { set.new ≡ set.old }
+    ensures other_kept { other.new ≡ other.old }
+{
+    set.get().difference_count(other.get())
+}
+
+/// How many numbers are in just one of both sets.
+#[unsafe(no_mangle)]
+pub extern "C" fn bit_set_symmetric_difference_count(set: &mut Shared, other: &mut Shared) -> usize
+    requires here { IsAt set.ref_ptr set.old.at }
+    requires there { IsAt other.ref_ptr other.old.at }
+    ensures value { result ≡ length (symmetric_difference (elements set.old.bits.values) (elements other.old.bits.values)) }
+    ensures kept { set.new ≡ set.old }
+    ensures other_kept { other.new ≡ other.old }
+{
+    set.get().symmetric_difference_count(other.get())
+}

@@ -1,0 +1,10 @@
+use Rattle.std.proofs.Common.{◌≡◌, ◌*◌, map}
+use Rattle.bit_words.specs.MergedOnes.{merged_ones}
+use Rattle.bit_words.proofs.summary.counts.ones_of_chunks.Given as goal
+
+-- the chunks that were passed are counted
+abbrev pub invariant-loop-q : goal.invariant-loop-q
+invariant-loop-q g l =
+    let number = g.B.BitBlock.number in
+    let w = g.B.BitBlock.width in
+    l.ones ≡ merged_ones g.O.Operation.merge w (map number l.blocks) (map number l.others) (l.first * w) (l.q * w)

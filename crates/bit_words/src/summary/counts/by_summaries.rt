@@ -1,0 +1,195 @@
+// The ones of the merge of two lists that have summaries, a group of chunks at a time: few of them have any in a sparse list.
+ghost use Rattle.std.specs.Prelude.{◌≡◌, ℕ, ◌+◌, ◌*◌, ◌^◌, ◌<◌, ◌≤◌, All, get_or, false, length, map, max};
+ghost use Rattle.bit_blocks.specs.{Bits.blocks_for, Digits.is_one, declared.block.merge.Merge.Merge};
+ghost use Rattle.bit_words.specs.{MergedOnes.{may_merge, merged_ones, CoversChunks}, Summary.IsStoredSummary};
+
+use crate::summary::counts::{
+    MANY, count_merged_blocks, may_have_ones, ones_at_chunk, ones_of_chunks,
+};
+use crate::summary::{is_nonzero, is_short};
+use bit_blocks::block::BitBlock;
+use bit_blocks::block::lowest::take_lowest_one;
+use bit_blocks::block::masks::with_one_if;
+use bit_blocks::block::merge::Merge;
+use bit_blocks::block::operation::{Difference, Intersection, Operation, Symmetric, Union};
+use bit_blocks::packed::access::{block_at, block_count};
+use bit_blocks::packed::groups::LONG_GROUP;
+
+// Which of the `count` chunks from `first` on have to be looked at, the first of them at the lowest bit. The compiler makes
+// vector code of this where it knows the count.
+#[inline]
+fn used_chunks<B: BitBlock, O: Operation>(
+    summary: &[B],
+    other_summary: &[B],
+    first: usize,
+    count: usize,
+) -> B
+    requires in_summary { first + count ≤ length summary.now }
+    requires in_other { first + count ≤ length other_summary.now }
+    requires within { count ≤ B.width }
+    requires each { All B.is_block summary.now }
+    requires each_other { All B.is_block other_summary.now }
+    ensures of_block { B.is_block result }
+    ensures past { (j : ℕ) → count ≤ j → j < B.width → is_one (B.number result) j ≡ false }
+    ensures none { (j p : ℕ) → j < count → is_one (B.number result) j ≡ false → p < B.width
+        → may_merge O.merge (is_one (get_or (map B.number summary.now) (first + j) 0) p)
+        (is_one (get_or (map B.number other_summary.now) (first + j) 0) p) ≡ false }
+{
+    let mut digits = B::zero();
+    for j in 0..count {
+        let q = first + j;
+        let used = may_have_ones::<B, O>(block_at(summary, q), block_at(other_summary, q));
+        digits = with_one_if(digits, j, is_nonzero(used));
+    }
+    digits
+}
+
+// The ones of the merge of the `count` chunks from `first` on. Looks at those at which `used` has a 1.
+#[inline]
+fn ones_of_used_chunks<B: BitBlock, O: Operation>(
+    blocks: &[B],
+    summary: &[B],
+    others: &[B],
+    other_summary: &[B],
+    first: usize,
+    count: usize,
+    used: B,
+) -> usize
+    requires each { All B.is_block blocks.now }
+    requires others { All B.is_block others.now }
+    requires summary { IsStoredSummary B.width B.number B.is_block blocks.now summary.now }
+    requires other_summary { IsStoredSummary B.width B.number B.is_block others.now other_summary.now }
+    requires of_block { B.is_block used }
+    requires within { count ≤ B.width }
+    requires lengths { max (length blocks.now) (length others.now) < 2 ^ 64 }
+    requires ends { first + count < 2 ^ 64 }
+    requires in_blocks { first + count ≤ blocks_for B.width (max (length blocks.now) (length others.now)) }
+    requires covers { CoversChunks O.merge B.width (map B.number blocks.now) (map B.number others.now) first count
+        (B.number used) }
+    requires fits { (n : ℕ)
+        → merged_ones O.merge B.width (map B.number blocks.now) (map B.number others.now) 0 n < 2 ^ 64 }
+    ensures { result ≡ merged_ones O.merge B.width (map B.number blocks.now) (map B.number others.now)
+        (first * B.width) ((first + count) * B.width) }
+{
+    let mut ones = 0;
+    let mut rest = used;
+    while rest != B::zero() {
+        let index = take_lowest_one(&mut rest);
+        let q = first + index;
+        ones += ones_at_chunk::<B, O>(blocks, summary, others, other_summary, q);
+    }
+    ones
+}
+
+// The ones of the merge of the `count` chunks from `first` on, about which there is a block in both summaries.
+#[inline]
+fn ones_of_group<B: BitBlock, O: Operation>(
+    blocks: &[B],
+    summary: &[B],
+    others: &[B],
+    other_summary: &[B],
+    first: usize,
+    count: usize,
+) -> usize
+    requires each { All B.is_block blocks.now }
+    requires others { All B.is_block others.now }
+    requires summary { IsStoredSummary B.width B.number B.is_block blocks.now summary.now }
+    requires other_summary { IsStoredSummary B.width B.number B.is_block others.now other_summary.now }
+    requires in_summary { first + count ≤ length summary.now }
+    requires in_other { first + count ≤ length other_summary.now }
+    requires lengths { max (length blocks.now) (length others.now) < 2 ^ 64 }
+    requires ends { first + count < 2 ^ 64 }
+    requires within { count ≤ B.width }
+    requires some { 0 < count }
+    requires fits { (n : ℕ)
+        → merged_ones O.merge B.width (map B.number blocks.now) (map B.number others.now) 0 n < 2 ^ 64 }
+    ensures { result ≡ merged_ones O.merge B.width (map B.number blocks.now) (map B.number others.now)
+        (first * B.width) ((first + count) * B.width) }
+{
+    let used = used_chunks::<B, O>(summary, other_summary, first, count);
+    if used.count_ones() >= count / MANY {
+        ones_of_chunks::<B, O>(blocks, summary, others, other_summary, first, first + count)
+    } else {
+        ones_of_used_chunks::<B, O>(blocks, summary, others, other_summary, first, count, used)
+    }
+}
+
+// The ones of the merge of lists of which one stores a summary at least.
+#[inline(never)]
+pub(crate) fn ones_of_long<B: BitBlock, O: Operation>(
+    blocks: &[B],
+    summary: &[B],
+    others: &[B],
+    other_summary: &[B],
+) -> usize
+    requires each { All B.is_block blocks.now }
+    requires others { All B.is_block others.now }
+    requires summary { IsStoredSummary B.width B.number B.is_block blocks.now summary.now }
+    requires other_summary { IsStoredSummary B.width B.number B.is_block others.now other_summary.now }
+    requires fits { (n : ℕ)
+        → merged_ones O.merge B.width (map B.number blocks.now) (map B.number others.now) 0 n < 2 ^ 64 }
+    ensures { (n : ℕ) → length blocks.now ≤ n → length others.now ≤ n
+        → result ≡ merged_ones O.merge B.width (map B.number blocks.now) (map B.number others.now) 0 n }
+{
+    let most = blocks.len().max(others.len());
+    let both = summary.len().min(other_summary.len());
+    let count = B::bits().min(LONG_GROUP);
+    let mut ones = 0;
+    let mut first = 0;
+    while both - first >= count {
+        ones += ones_of_group::<B, O>(blocks, summary, others, other_summary, first, count);
+        first += count;
+    }
+    let end = block_count::<B>(most);
+    ones + ones_of_chunks::<B, O>(blocks, summary, others, other_summary, first, end)
+}
+
+// The ones of the merge of lists of any length.
+#[inline(always)]
+fn ones_by<B: BitBlock, O: Operation>(
+    blocks: &[B],
+    summary: &[B],
+    others: &[B],
+    other_summary: &[B],
+) -> usize
+    requires each { All B.is_block blocks.now }
+    requires others { All B.is_block others.now }
+    requires summary { IsStoredSummary B.width B.number B.is_block blocks.now summary.now }
+    requires other_summary { IsStoredSummary B.width B.number B.is_block others.now other_summary.now }
+    requires fits { (n : ℕ)
+        → merged_ones O.merge B.width (map B.number blocks.now) (map B.number others.now) 0 n < 2 ^ 64 }
+    ensures { (n : ℕ) → length blocks.now ≤ n → length others.now ≤ n
+        → result ≡ merged_ones O.merge B.width (map B.number blocks.now) (map B.number others.now) 0 n }
+{
+    if is_short::<B>(blocks.len().max(others.len())) {
+        count_merged_blocks::<B, O>(blocks, others)
+    } else {
+        ones_of_long::<B, O>(blocks, summary, others, other_summary)
+    }
+}
+
+// The ones of the merge that is named. Here it becomes a type.
+#[inline(always)]
+pub(crate) fn ones_of_merge<B: BitBlock>(
+    blocks: &[B],
+    summary: &[B],
+    others: &[B],
+    other_summary: &[B],
+    merge: Merge,
+) -> usize
+    requires each { All B.is_block blocks.now }
+    requires others { All B.is_block others.now }
+    requires summary { IsStoredSummary B.width B.number B.is_block blocks.now summary.now }
+    requires other_summary { IsStoredSummary B.width B.number B.is_block others.now other_summary.now }
+    requires fits { (n : ℕ)
+        → merged_ones merge B.width (map B.number blocks.now) (map B.number others.now) 0 n < 2 ^ 64 }
+    ensures { (n : ℕ) → length blocks.now ≤ n → length others.now ≤ n
+        → result ≡ merged_ones merge B.width (map B.number blocks.now) (map B.number others.now) 0 n }
+{
+    match merge {
+        Merge::Union => ones_by::<B, Union>(blocks, summary, others, other_summary),
+        Merge::Intersection => ones_by::<B, Intersection>(blocks, summary, others, other_summary),
+        Merge::Difference => ones_by::<B, Difference>(blocks, summary, others, other_summary),
+        Merge::Symmetric => ones_by::<B, Symmetric>(blocks, summary, others, other_summary),
+    }
+}
