@@ -20,7 +20,7 @@ static int has_each(PyObject *self, PyObject *iterable)
 static int is_within(PyObject *self, PyObject *container)
 {
     int has = 1;
-    PyObject *walk = PyObject_GetIter(self), *member;
+    PyObject *walk = set_iter(self), *member;
     if (!walk)
         return -1;
     while (has == 1 && (member = PyIter_Next(walk))) {
@@ -51,7 +51,7 @@ static int compare_with_set(PyObject *self, PyObject *other, int operation)
     if (others < 0)
         return -1;
     switch (operation) {
-    case Py_EQ: return count == others ? has_each(self, other) : 0;
+    case Py_EQ: return count == others ? is_within(self, other) : 0;
     case Py_LE: return count <= others ? is_within(self, other) : 0;
     case Py_LT: return count < others ? is_within(self, other) : 0;
     case Py_GE: return count >= others ? has_each(self, other) : 0;

@@ -174,13 +174,27 @@ static bool put_numbers(PyObject *self, const char *bytes, size_t size, size_t w
     return true;
 }
 
+/* Whether its class walks over the items in a way of its own, so that they need not be the numbers of the buffer. */
+static bool has_own_walk(PyObject *object)
+{
+    static const char *const names[] = {"__iter__", "__getitem__"};
+    bool is_own = false;
+    for (int at = 0; at < 2; at++) {
+        PyObject *method = PyObject_GetAttrString((PyObject *)Py_TYPE(object), names[at]);
+        is_own = is_own || (method && Py_TYPE(method) != &PyWrapperDescr_Type);
+        Py_XDECREF(method);
+    }
+    PyErr_Clear();
+    return is_own;
+}
+
 /* The numbers of a buffer in a row, as of an array or of NumPy. NO_NUMBER where it is none. */
 static enum reading put_buffer(PyObject *self, PyObject *object)
 {
     bool is_signed;
     const void *bytes;
     Py_ssize_t length;
-    PyObject *view = PyMemoryView_FromObject(object);
+    PyObject *view = has_own_walk(object) ? NULL : PyMemoryView_FromObject(object);
     if (!view) {
         PyErr_Clear();
         return NO_NUMBER;

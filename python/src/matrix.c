@@ -258,15 +258,14 @@ PyObject *matrix_add_range(PyObject *self, PyObject *arguments)
 {
     PyObject *row_object, *start_object, *stop_object;
     size_t row, start, stop;
-    int start_is, stop_is;
+    bool is_within;
     if (!PyArg_ParseTuple(arguments, "OOO", &row_object, &start_object, &stop_object)
-        || !read_row(self, row_object, &row) || !read_bound(start_object, &start, &start_is)
-        || !read_bound(stop_object, &stop, &stop_is))
+        || !read_row(self, row_object, &row))
         return NULL;
-    int has_numbers = PyObject_RichCompareBool(start_object, stop_object, Py_LT);
+    int has_numbers = read_bounds(start_object, stop_object, &start, &stop, &is_within);
     if (has_numbers < 0)
         return NULL;
-    if (has_numbers && (start_is || stop_is || stop > bit_matrix_columns(matrix_of(self)))) {
+    if (has_numbers && (!is_within || stop > bit_matrix_columns(matrix_of(self)))) {
         PyErr_SetString(PyExc_IndexError, "a number of the range is no column");
         return NULL;
     }
@@ -326,15 +325,23 @@ PyObject *matrix_repr(PyObject *self)
 
 PyObject *matrix_reduce(PyObject *self, PyObject *Py_UNUSED(none))
 {
-    PyObject *rows = list_of_rows(self);
-    if (!rows)
+    PyObject *rows = list_of_rows(self), *state = rows ? state_of(self) : NULL;
+    if (!state) {
+        Py_XDECREF(rows);
         return NULL;
-    return Py_BuildValue("O(NN)N", (PyObject *)Py_TYPE(self), matrix_rows(self, NULL), matrix_columns(self, NULL), rows);
+    }
+    /* Where there are no attributes, the rows alone are the state. */
+    const char *form = state == Py_None ? "O(NN)N" : "O(NN)(NN)";
+    if (state == Py_None)
+        Py_DECREF(state);
+    return Py_BuildValue(form, (PyObject *)Py_TYPE(self), matrix_rows(self, NULL), matrix_columns(self, NULL), rows, state);
 }
 
-/* Puts in the rows that `__reduce__` gave. */
-PyObject *matrix_setstate(PyObject *self, PyObject *rows)
+/* Puts in the rows that `__reduce__` gave, and the attributes where there are some. */
+PyObject *matrix_setstate(PyObject *self, PyObject *state)
 {
+    bool has_attributes = PyTuple_Check(state) && PyTuple_Size(state) == 2;
+    PyObject *rows = has_attributes ? PyTuple_GetItem(state, 0) : state;
     if (!PyList_Check(rows)) {
         PyErr_SetString(PyExc_TypeError, "the state of a matrix is a list of its rows");
         return NULL;
@@ -347,5 +354,7 @@ PyObject *matrix_setstate(PyObject *self, PyObject *rows)
             return NULL;
         Py_DECREF(changed);
     }
+    if (has_attributes && !put_attributes(self, PyTuple_GetItem(state, 1)))
+        return NULL;
     Py_RETURN_NONE;
 }

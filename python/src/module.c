@@ -54,8 +54,8 @@ static PyMethodDef methods[] = {
     METHOD(intersection_count, METH_O, "intersection_count($self, other, /)\n--\n\nReturn how many numbers are in both."),
     METHOD(difference_count, METH_O, "difference_count($self, other, /)\n--\n\nReturn how many members are not in the other."),
     METHOD(symmetric_difference_count, METH_O, "symmetric_difference_count($self, other, /)\n--\n\nReturn how many numbers are in just one of both."),
-    {"__copy__", set_copy, METH_NOARGS, NULL},
-    {"__deepcopy__", set_copy, METH_O, NULL},
+    {"__copy__", set_shallow_copy, METH_NOARGS, NULL},
+    {"__deepcopy__", set_deep_copy, METH_O, NULL},
     {"__reversed__", set_reversed, METH_NOARGS, "Walk over the members in descending order."},
     {"__reduce__", set_reduce, METH_NOARGS, NULL},
     {"__sizeof__", set_sizeof, METH_NOARGS, NULL},
@@ -120,8 +120,8 @@ static PyMethodDef matrix_methods[] = {
     MATRIX_METHOD(transitive_closure, METH_NOARGS, "transitive_closure($self, /)\n--\n\nMake each row what a path of one edge or more leads to, where an edge leads from a row to each of its columns."),
     MATRIX_METHOD(reflexive_transitive_closure, METH_NOARGS, "reflexive_transitive_closure($self, /)\n--\n\nMake each row what a path of any number of edges leads to, also of none."),
     MATRIX_METHOD(dominators, METH_O, "dominators($self, entry, /)\n--\n\nReturn the matrix whose row v has what lies on every path from the row entry to v."),
-    {"__copy__", matrix_copy, METH_NOARGS, NULL},
-    {"__deepcopy__", matrix_copy, METH_O, NULL},
+    {"__copy__", matrix_shallow_copy, METH_NOARGS, NULL},
+    {"__deepcopy__", matrix_deep_copy, METH_O, NULL},
     {"__reduce__", matrix_reduce, METH_NOARGS, NULL},
     {"__setstate__", matrix_setstate, METH_O, NULL},
     {NULL, NULL, 0, NULL},
@@ -151,6 +151,7 @@ static PyType_Spec matrix_spec = {
 };
 
 static PyType_Slot walk_slots[] = {
+    {Py_tp_new, walk_new},
     {Py_tp_dealloc, walk_dealloc},
     {Py_tp_traverse, walk_traverse},
     {Py_tp_iter, PyObject_SelfIter},

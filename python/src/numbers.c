@@ -54,6 +54,20 @@ bool read_bound(PyObject *object, size_t *bound, int *outside)
     return true;
 }
 
+/* Reads the bounds of a range: 1 where it has numbers, 0 where it has none, or -1 with an exception. Where some number of it
+ * is below 0 or SIZE_MAX or more, `*is_within` is false, and the bounds are those of the others. */
+int read_bounds(PyObject *first, PyObject *last, size_t *start, size_t *stop, bool *is_within)
+{
+    int start_is = 0, stop_is = 0, has_numbers = -1;
+    PyObject *least = PyNumber_Index(first), *past = least ? PyNumber_Index(last) : NULL;
+    if (past && read_bound(least, start, &start_is) && read_bound(past, stop, &stop_is))
+        has_numbers = PyObject_RichCompareBool(least, past, Py_LT);
+    Py_XDECREF(least);
+    Py_XDECREF(past);
+    *is_within = !has_numbers || (!start_is && !stop_is);
+    return has_numbers;
+}
+
 PyObject *member_or_none(size_t member)
 {
     if (member == NO_MEMBER)

@@ -1,18 +1,11 @@
 /* Ranges of numbers, the ends of a set, and searches. */
 #include "set.h"
 
-/* Reads the bounds of a range. Where some number of it is below 0 or SIZE_MAX or more, `*is_within` is false, and the bounds
- * are those of the others. */
+/* Reads the arguments of a call as the bounds of a range, as `read_bounds` does. */
 bool read_range(PyObject *arguments, size_t *start, size_t *stop, bool *is_within)
 {
     PyObject *first, *last;
-    int start_is = 0, stop_is = 0;
-    if (!PyArg_ParseTuple(arguments, "OO", &first, &last) || !read_bound(first, start, &start_is)
-        || !read_bound(last, stop, &stop_is))
-        return false;
-    int has_numbers = PyObject_RichCompareBool(first, last, Py_LT);
-    *is_within = !has_numbers || (!start_is && !stop_is);
-    return has_numbers >= 0;
+    return PyArg_ParseTuple(arguments, "OO", &first, &last) && read_bounds(first, last, start, stop, is_within) >= 0;
 }
 
 static PyObject *change_range(PyObject *self, PyObject *arguments, bool (*call)(bit_set *, size_t, size_t))

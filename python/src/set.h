@@ -77,8 +77,17 @@ static inline PyObject *int_of(size_t number)
 /* numbers.c */
 PyObject *member_or_none(size_t member);
 bool read_bound(PyObject *object, size_t *bound, int *outside);
+int read_bounds(PyObject *first, PyObject *last, size_t *start, size_t *stop, bool *is_within);
 bool read_member(PyObject *object, size_t *number);
 enum reading read_number(PyObject *object, size_t *number);
+
+/* copying.c */
+PyObject *matrix_deep_copy(PyObject *self, PyObject *memo);
+PyObject *matrix_shallow_copy(PyObject *self, PyObject *Py_UNUSED(none));
+PyObject *set_deep_copy(PyObject *self, PyObject *memo);
+PyObject *set_shallow_copy(PyObject *self, PyObject *Py_UNUSED(none));
+PyObject *state_of(PyObject *self);
+bool put_attributes(PyObject *made, PyObject *state);
 
 /* making.c */
 PyObject *as_bit_set(PyObject *members);
@@ -137,6 +146,7 @@ PyObject *set_sizeof(PyObject *self, PyObject *Py_UNUSED(none));
 PyObject *set_to_array(PyObject *self, PyObject *Py_UNUSED(none));
 PyObject *set_to_bytes(PyObject *self, PyObject *Py_UNUSED(none));
 PyObject *set_to_bytes_lsb(PyObject *self, PyObject *Py_UNUSED(none));
+PyObject *walk_new(PyTypeObject *type, PyObject *Py_UNUSED(positional), PyObject *Py_UNUSED(named));
 PyObject *walk_next(PyObject *object);
 Py_ssize_t set_length(PyObject *self);
 int set_bool(PyObject *self);

@@ -38,7 +38,7 @@ PyObject *set_repr(PyObject *self)
 {
     PyObject *text = NULL, *name = type_name(self), *list = list_of(self);
     if (name && list)
-        text = PyUnicode_FromFormat("%U(%R)", name, list);
+        text = PyUnicode_FromFormat("%S(%R)", name, list);
     Py_XDECREF(name);
     Py_XDECREF(list);
     return text;
@@ -77,11 +77,10 @@ PyObject *set_reduce(PyObject *self, PyObject *Py_UNUSED(none))
     PyObject *array = set_to_array(self, NULL);
     if (!array)
         return NULL;
-    PyObject *state = PyObject_GetAttrString(self, "__dict__");
+    PyObject *state = state_of(self);
     if (!state) {
-        PyErr_Clear();
-        state = Py_None;
-        Py_INCREF(state);
+        Py_DECREF(array);
+        return NULL;
     }
     return Py_BuildValue("O(N)N", (PyObject *)Py_TYPE(self), array, state);
 }
@@ -89,6 +88,13 @@ PyObject *set_reduce(PyObject *self, PyObject *Py_UNUSED(none))
 PyObject *set_sizeof(PyObject *self, PyObject *Py_UNUSED(none))
 {
     return PyLong_FromSize_t(sizeof(BitSet) + bit_set_capacity(set_of(self)) / 8);
+}
+
+/* A walk is made by a set alone. */
+PyObject *walk_new(PyTypeObject *Py_UNUSED(type), PyObject *Py_UNUSED(positional), PyObject *Py_UNUSED(named))
+{
+    PyErr_SetString(PyExc_TypeError, "a walk over a bit set is made by iter or reversed");
+    return NULL;
 }
 
 static PyObject *walk_over(PyObject *self, bool is_backward)

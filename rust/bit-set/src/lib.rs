@@ -35,7 +35,7 @@ pub use matrix::{BitMatrix, Row};
 pub use walks::{Difference, Intersection, Iter, SymmetricDifference, Union};
 
 /// A type of blocks that the library has.
-pub trait BitBlock: raw::Calls + 'static {
+pub trait BitBlock: raw::Calls + Copy + 'static {
     /// The calls on matrices.
     #[doc(hidden)]
     type Rows: raw::MatrixCalls;

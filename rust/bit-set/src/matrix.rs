@@ -197,6 +197,7 @@ impl<B: BitBlock> BitMatrix<B> {
 
     /// The matrix whose row `v` has what lies on every path from `entry` to `v`.
     pub fn dominators(&self, entry: usize) -> Self {
+        self.assert_row(entry);
         Self::made(|out| unsafe { B::Rows::dominators(out, self.matrix, entry) })
     }
 }

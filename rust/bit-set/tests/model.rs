@@ -165,6 +165,20 @@ fn walks_from_both_ends() {
     }
 }
 
+fn clone_of_a_walk<B: BitBlock>() {
+    let set: BitSet<B> = [1, 70, 3000].into_iter().collect();
+    let mut walk = set.iter();
+    walk.next();
+    let copy = walk.clone();
+    assert!(walk.eq([70, 3000]) && copy.eq([70, 3000]));
+}
+
+#[test]
+fn clones_of_walks_over_any_blocks() {
+    clone_of_a_walk::<u32>();
+    clone_of_a_walk::<u64>();
+}
+
 #[test]
 fn walks_over_sets_of_many_groups() {
     let mut draws = Draws(7);

@@ -1,0 +1,115 @@
+/* Copies for the modules copy and pickle. They also have what an object of a class of the user's has beside its members. */
+#include "set.h"
+
+/* What an object has beside its members: what `__getstate__` returns, or before Python 3.11 its attributes without those
+ * of `__slots__`, as with Python's own sets. None where there is nothing. */
+PyObject *state_of(PyObject *self)
+{
+    PyObject *call = PyObject_GetAttrString(self, "__getstate__");
+    if (call) {
+        PyObject *state = PyObject_CallObject(call, NULL);
+        Py_DECREF(call);
+        return state;
+    }
+    PyErr_Clear();
+    PyObject *attributes = PyObject_GetAttrString(self, "__dict__");
+    if (attributes)
+        return attributes;
+    PyErr_Clear();
+    Py_INCREF(Py_None);
+    return Py_None;
+}
+
+/* Puts attributes of `__slots__` in. */
+static bool put_slots(PyObject *made, PyObject *slots)
+{
+    PyObject *items = PyMapping_Items(slots);
+    bool is_good = items;
+    for (Py_ssize_t at = 0; is_good && at < PyList_Size(items); at++) {
+        PyObject *item = PyList_GetItem(items, at);
+        is_good = PyTuple_Check(item) && PyTuple_Size(item) == 2
+            && !PyObject_SetAttr(made, PyTuple_GetItem(item, 0), PyTuple_GetItem(item, 1));
+    }
+    Py_XDECREF(items);
+    return is_good;
+}
+
+/* Puts attributes in: a state is a dictionary of them, or a pair of one and of one for `__slots__`, where either may be
+ * None. */
+bool put_attributes(PyObject *made, PyObject *state)
+{
+    bool is_pair = PyTuple_Check(state) && PyTuple_Size(state) == 2;
+    PyObject *attributes = is_pair ? PyTuple_GetItem(state, 0) : state;
+    PyObject *slots = is_pair ? PyTuple_GetItem(state, 1) : Py_None;
+    if (attributes != Py_None) {
+        PyObject *own = PyObject_GetAttrString(made, "__dict__");
+        bool is_good = own && !PyDict_Update(own, attributes);
+        Py_XDECREF(own);
+        if (!is_good)
+            return false;
+    }
+    return slots == Py_None || put_slots(made, slots);
+}
+
+/* Gives a copy of a set its state, as the module copy does. */
+static bool put_state(PyObject *made, PyObject *state)
+{
+    PyObject *call = is_bit_set(made) ? PyObject_GetAttrString(made, "__setstate__") : NULL;
+    if (!call) {
+        PyErr_Clear();
+        return put_attributes(made, state);
+    }
+    PyObject *done = PyObject_CallFunctionObjArgs(call, state, NULL);
+    Py_DECREF(call);
+    Py_XDECREF(done);
+    return done;
+}
+
+/* A deep copy of a state. The memo has the copy of what it belongs to by then, which it may lead back to. */
+static PyObject *deep_state(PyObject *self, PyObject *made, PyObject *state, PyObject *memo)
+{
+    PyObject *deep = NULL, *place = PyLong_FromVoidPtr(self), *module = PyImport_ImportModule("copy");
+    if (place && module && !PyObject_SetItem(memo, place, made))
+        deep = PyObject_CallMethod(module, "deepcopy", "(OO)", state, memo);
+    Py_XDECREF(place);
+    Py_XDECREF(module);
+    return deep;
+}
+
+/* Takes a copy of the members, and gives it a copy of the state: a deep one where there is a memo. */
+static PyObject *with_state(PyObject *self, PyObject *made, PyObject *memo)
+{
+    if (!made || Py_TYPE(self) == bit_set_type || Py_TYPE(self) == matrix_type)
+        return made;
+    PyObject *state = state_of(self);
+    if (state && state != Py_None && memo) {
+        PyObject *deep = deep_state(self, made, state, memo);
+        Py_DECREF(state);
+        state = deep;
+    }
+    bool is_good = state && (state == Py_None || put_state(made, state));
+    Py_XDECREF(state);
+    if (!is_good)
+        Py_CLEAR(made);
+    return made;
+}
+
+PyObject *set_shallow_copy(PyObject *self, PyObject *Py_UNUSED(none))
+{
+    return with_state(self, set_copy(self, NULL), NULL);
+}
+
+PyObject *set_deep_copy(PyObject *self, PyObject *memo)
+{
+    return with_state(self, set_copy(self, NULL), memo);
+}
+
+PyObject *matrix_shallow_copy(PyObject *self, PyObject *Py_UNUSED(none))
+{
+    return with_state(self, matrix_copy(self, NULL), NULL);
+}
+
+PyObject *matrix_deep_copy(PyObject *self, PyObject *memo)
+{
+    return with_state(self, matrix_copy(self, NULL), memo);
+}
