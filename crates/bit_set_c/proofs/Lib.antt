@@ -2,7 +2,6 @@ pub mod AsBox
 pub mod BlockNumbers
 pub mod Bounds
 pub mod ByteDigits
-pub mod Filling
 pub mod Loans
 pub mod Nulls
 pub mod Outcomes

@@ -83,15 +83,12 @@ fn put_blocks(bits: &mut BitVec<Block>, from: usize, blocks: &[Block]) -> bool
     if !lengthen(bits, end) {
         return false;
     }
-    bits.fill_range(from * WIDTH..end, true);
-    for (k, &block) in blocks.iter().enumerate() {
-        bits.keep_in_block(from + k, block);
-    }
+    bits.put_blocks(from, blocks);
     true
 }
 
 /// Makes the blocks from one on those, as far as they go, and returns whether it could: nothing changed where there is
-/// no memory, or the length would be above `usize::MAX`. One step for each block.
+/// no memory, or the length would be above `usize::MAX`. Copies them at once, and then reads each once.
 #[tactic(auto, using(bit_set::proofs::MemberLemmas::reads))]
 #[unsafe(no_mangle)]
 pub extern "C" fn bit_set_put_blocks(set: &mut Exclusive, from: usize, blocks: &[Block]) -> bool
