@@ -10,6 +10,7 @@
  *   Ranges                  insert_range, toggle_range, remove_range, contains_all_in_range, contains_any_in_range,
  *                           count_in_range
  *   Copies                  copy_members, copy_members_back, copy_bytes, copy_bytes_lsb, copy_blocks, put_blocks
+ *   Blocks in place         lend_blocks
  *   What a set says         count, is_empty, length, capacity, hash
  *   Two sets, read          is_subset, is_proper_subset, is_superset, is_disjoint, equals, compare, union_count,
  *                           intersection_count, difference_count, symmetric_difference_count, copy_union,
@@ -37,6 +38,7 @@
  *   bit_set **         a place that holds NULL. A call that returns true puts a set there, which is to be freed once;
  *                      a call that returns false leaves NULL.
  *   bit_matrix         the same as a bit_set: `bit_matrix *`, `const bit_matrix *` and `bit_matrix **`.
+ *   bit_set_lent *     a place that holds BIT_SET_NOTHING_LENT, or blocks that are still lent.
  *   T *, size_t        so many values one after another, none of them a part of a set, which only this call writes, or
  *                      with `const` no call. The pointer is never NULL, even to none.
  *
@@ -243,6 +245,20 @@ size_t bit_set_copy_blocks(const bit_set *set, size_t from, bit_set_block *block
  * and other numbers stay as they were. The length becomes at least that of `from + count` blocks, unless `count` is 0.
  * False also where that is above SIZE_MAX. */
 bool bit_set_put_blocks(bit_set *set, size_t from, const bit_set_block *blocks, size_t count) BIT_SET_MAY_FAIL;
+
+/* ---- Blocks in place. Constant time. */
+
+/* Blocks that a set lends: where the first is, which is never NULL, and how many there are. */
+typedef struct bit_set_lent {
+    const bit_set_block *blocks;
+    size_t count;
+} bit_set_lent;
+
+#define BIT_SET_NOTHING_LENT {(const bit_set_block *)sizeof(bit_set_block), 0}
+
+/* Lends all blocks, which have the bits that `bit_set_copy_blocks` copies. They may be read, also while other calls read
+ * the set, until a call gets the set as a `bit_set *`. */
+void bit_set_lend_blocks(const bit_set *set, bit_set_lent *lent) BIT_SET_CALL;
 
 /* ---- What a set says of itself. Constant time, but for the count and the hash, which read the blocks that are not zero,
  * and whether it is empty, which goes by the summary. */

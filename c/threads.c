@@ -22,6 +22,10 @@ static uint64_t reads(const bit_set *set, const bit_set *other) {
     sum += bit_set_copy_intersection(set, other, 1, blocks, ROOM) + blocks[ROOM - 1];
     sum += bit_set_copy_difference(set, other, 1, blocks, ROOM) + blocks[ROOM - 1];
     sum += bit_set_copy_symmetric_difference(set, other, 1, blocks, ROOM) + blocks[ROOM - 1];
+    bit_set_lent lent = BIT_SET_NOTHING_LENT;
+    bit_set_lend_blocks(set, &lent);
+    for (size_t block = 0; block < lent.count; block++)
+        sum += lent.blocks[block];
     sum += bit_set_first(set) + bit_set_last(set) + bit_set_nth(set, LIMIT / 3, ROOM);
     sum += bit_set_count_in_range(set, 1, LIMIT - 1) + bit_set_contains_all_in_range(set, 2, 4);
     sum += bit_set_contains_any_in_range(set, 1, 3);

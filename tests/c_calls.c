@@ -163,6 +163,17 @@ static void copies(bit_set *set, bool *table) {
         table[from * width + k] = blocks[k / width] >> k % width & 1;
 }
 
+/* Blocks that are lent, each of which is the one that is copied. */
+static void lends(const bit_set *set, const bool *table) {
+    size_t width = 8 * sizeof(bit_set_block), length = bit_set_length(set);
+    bit_set_lent lent = BIT_SET_NOTHING_LENT;
+    CHECK(lent.blocks && lent.count == 0);
+    bit_set_lend_blocks(set, &lent);
+    CHECK(lent.blocks && lent.count == length / width + (length % width != 0));
+    for (size_t n = 0; n < lent.count * width; n++)
+        CHECK((lent.blocks[n / width] >> n % width & 1) == (n < LIMIT && table[n]));
+}
+
 /* The call of this number on the first set, the second and the third. */
 static int32_t merge(size_t call) {
     return call == 0   ? bit_set_union_changes(sets[0], sets[1])
@@ -208,6 +219,8 @@ int main(int count, char **words) {
             copies(sets[k], tables[k]);
         if (draw(8) == 0)
             shifts(sets[k], tables[k]);
+        if (draw(8) == 0)
+            lends(sets[k], tables[k]);
         if (draw(8) == 0)
             merges();
         if (draw(100) == 0) {

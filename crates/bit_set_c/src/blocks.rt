@@ -1,4 +1,4 @@
-// The blocks of a set, copied out and in.
+// The blocks of a set, lent to be read, and copied out and in.
 ghost use Rattle.std.specs.Prelude.{◌≡◌, ◌≢◌, ℕ, ◌+◌, ◌*◌, ◌^◌, ◌<◌, ◌≤◌, ◌-◌, ◌++◌, false, drop, get_or, length, max, min, replicate, slice_index, take, OnErr, OnOk};
 ghost use Rattle.bit_blocks.specs.{Bits.blocks_of, Digits.is_one, Ranges.in_range};
 ghost use Rattle.bit_words.specs.Growth.{Grows};
@@ -9,6 +9,22 @@ use crate::block::{Block, WIDTH};
 use crate::handed::{Exclusive, Shared};
 use bit_set::BitSet;
 use bit_words::bit_vec::BitVec;
+
+#[tactic(auto, using(crate::proofs::BlockNumbers::numbers_are_blocks))]
+fn all_blocks(set: &BitSet<Block>) -> &[Block]
+    ensures { result.now ≡ blocks_of width set.now.values }
+{
+    set.get_ref().storage()
+}
+
+/// Lends the blocks to be read, as long as the set is lent.
+#[unsafe(no_mangle)]
+pub extern "C" fn bit_set_lend_blocks<'a>(set: &'a mut Shared, lent: &mut &'a [Block])
+    requires here { IsAt set.ref_ptr set.old.at }
+    ensures blocks { lent.new.now ≡ blocks_of width set.old.bits.values }
+{
+    *lent = all_blocks(set.get());
+}
 
 // The blocks from one on.
 #[tactic(auto, using(crate::proofs::BlockNumbers::numbers_are_blocks, std::proofs::lemmas::List::drop_all))]

@@ -5,6 +5,7 @@
 #![no_std]
 #![deny(unsafe_op_in_unsafe_fn)]
 
+use core::ffi::c_void;
 use core::marker::PhantomData;
 
 /// A set of the library's, which is used by a pointer alone.
@@ -17,6 +18,13 @@ pub struct Set {
 #[repr(C)]
 pub struct Matrix {
     private: [u8; 0],
+}
+
+/// Blocks that a set lends: where the first is, which is never null, and how many there are.
+#[repr(C)]
+pub struct Lent {
+    pub blocks: *const c_void,
+    pub count: usize,
 }
 
 /// What has the calls on matrices of such blocks.
@@ -108,6 +116,7 @@ calls! {
         count_in_range(set: *const Set, start: usize, end: usize) -> usize;
         copy_members(set: *const Set, from: usize, members: *mut usize, room: usize) -> usize;
         copy_members_back(set: *const Set, end: usize, members: *mut usize, room: usize) -> usize;
+        lend_blocks(set: *const Set, lent: *mut Lent);
         copy_bytes(set: *const Set, from: usize, bytes: *mut u8, room: usize) -> usize;
         copy_bytes_lsb(set: *const Set, from: usize, bytes: *mut u8, room: usize) -> usize;
         count(set: *const Set) -> usize;
