@@ -37,7 +37,7 @@ try_root() {
     try_packages "$1"
     try_upgrade
     try_module
-    try_archive
+    try_archive "$1"
     try_source
     try_readme
     try_cargo "$1"
@@ -92,11 +92,12 @@ try_module() {
         "/en v/bin/python" -m pip uninstall -y bit_set && ! find "/en v" -iname "*bit_set*" | grep .'
 }
 
-# By a user who may not write there, and in a path that has a space.
+# By a user who may not write there, and in a path that has a space, which the pkg-config of Debian 11 does not take.
 try_archive() {
-    try "$on: the archive for Linux" inside '
-        mkdir -p "/opt/some where" && tar xzf bit_set-$VERSION-linux-x86_64.tar.gz -C "/opt/some where"
-        cd "/opt/some where/bit_set-$VERSION-linux-x86_64"
+    local place='/opt/some where'
+    [ "$1" != 11 ] || place=/opt/somewhere
+    try "$on: the archive for Linux" inside "mkdir -p '$place' && cd '$place'"'
+        tar xzf /try/bit_set-$VERSION-linux-x86_64.tar.gz && cd bit_set-$VERSION-linux-x86_64
         export PKG_CONFIG_PATH="$PWD/lib/pkgconfig" LD_LIBRARY_PATH="$PWD/lib"
         [ "$(pkg-config --modversion bit_set)" = "$VERSION" ]
         cat > /tmp/use << END
