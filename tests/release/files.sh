@@ -24,6 +24,7 @@ try_files() {
     source="$room/try/bit_set-$version"
     cp "$release"/* "$room/try"
     try 'PROOF.txt is the same in each package' hold_proof
+    try 'what the packages of both machines have in one place is the same' agree_in_places
     try 'the shared objects export the calls of the headers alone' export_calls
 }
 
@@ -39,9 +40,9 @@ verdicts() {
 }
 
 tells() {
-    local words
-    for words in '^Toolchain: *[^ ]' '^Checksum of logic: *[0-9a-f]\{64\}$' '^What is trusted: ' '^    ./release FOLDER$'; do
-        grep -q "$words" "$release/PROOF.txt" || return
+    local line
+    for line in 'Toolchain: *[^ ].*' 'Checksum of logic: *[0-9a-f]\{64\}' 'What is trusted: .*' '    ./release FOLDER'; do
+        grep -qx "$line" "$release/PROOF.txt" || return
     done
 }
 
@@ -65,10 +66,22 @@ hold_proof() {
     done
 }
 
+# Debian installs the packages of two machines beside each other.
+agree_in_places() {
+    local architecture package file at="$room/beside-each-other"
+    for architecture in amd64 arm64; do
+        for package in "$release"/libbit-set*_"$architecture".deb; do
+            dpkg-deb -x "$package" "$at/$architecture" || return
+        done
+    done
+    while read -r file; do
+        [ ! -e "$at/arm64/$file" ] || cmp "$at/amd64/$file" "$at/arm64/$file" || return
+    done < <(cd "$at/amd64" && find . -type f)
+}
+
 # The calls that the headers declare, a name a line.
 declared() {
-    cat "$source"/include/*.h | grep -v '^static' | grep -o '^[a-z][a-z0-9_ ]* [*]*bit_[a-z0-9_]*(' | sed 's/.*[ *]\(bit_[a-z0-9_]*\)($/\1/' \
-        | LC_ALL=C sort
+    sed -n '/^static/d; s/^[a-z][a-z0-9_ ]*[ *]\(bit_[a-z0-9_]*\)(.*/\1/p' "$source"/include/*.h | LC_ALL=C sort
 }
 
 export_calls() {

@@ -7,8 +7,8 @@ try_here() {
     try_beside
     if has clang && has clang++; then
         cp -r "$source" "$room/clang"
-        try 'the source release by clang, with random calls' bare make -s -C "$room/clang" CC=clang CXX=clang++ check check_cc \
-            ROUNDS="$rounds"
+        try 'the source release by clang, with random calls' \
+            bare make -s -C "$room/clang" CC=clang CXX=clang++ check check_cc ROUNDS="$rounds"
     else
         left_out 'clang, which is not here'
     fi
@@ -61,15 +61,16 @@ try_cmake() {
 
 # The same calls on two of the shared objects, one beside the other.
 try_beside() {
-    local at="$room/frames/lib" newer=glibc-hwcaps/x86-64
+    local at="$room/frames/lib"
+    local newer="$at/glibc-hwcaps/x86-64"
     if ! grep -q '\bavx2\b' /proc/cpuinfo || ! grep -q '\bmovbe\b' /proc/cpuinfo; then
         left_out 'the object for v3 beside that for v2, on this processor'
         return
     fi
     try 'the comparison is built' bare cc -O2 -Wall -Wextra -Werror -I"$source/include" -I"$source/tests" \
         "$here/release/beside.c" -o "$room/beside" -ldl
-    try 'the object for v3 beside that for v2' bare "$room/beside" "$at/$newer-v3/"*.so.* "$at/$newer-v2/"*.so.* "$rounds"
-    try 'the object for v2 beside that for all' bare "$room/beside" "$at/$newer-v2/"*.so.* "$at"/libbit_set.so.* "$rounds"
+    try 'the object for v3 beside that for v2' bare "$room/beside" "$newer-v3/"*.so.* "$newer-v2/"*.so.* "$rounds"
+    try 'the object for v2 beside that for all' bare "$room/beside" "$newer-v2/"*.so.* "$at"/libbit_set.so.* "$rounds"
 }
 
 # That what is below a call of the library is found through its frames, and that the processor can demand marks.
@@ -120,7 +121,8 @@ try_arm() {
     try 'aarch64: the archive for Linux' over_library "$archive/include" "$archive/lib"
     try 'aarch64: frames are found through the library' bare sh -ec "
         aarch64-linux-gnu-gcc -Wl,--wrap=malloc -rdynamic -I'$archive/include' '$here/release/frames.c' \
-            '$archive/lib/libbit_set.a' -o '$room/arm-frames' && qemu-aarch64-static -L /usr/aarch64-linux-gnu '$room/arm-frames'"
+            '$archive/lib/libbit_set.a' -o '$room/arm-frames'
+        qemu-aarch64-static -L /usr/aarch64-linux-gnu '$room/arm-frames'"
     dpkg-deb -x "$release/libbit-set0_$version-1_arm64.deb" "$room/arm-packages"
     dpkg-deb -x "$release/libbit-set-dev_$version-1_arm64.deb" "$room/arm-packages"
     try 'aarch64: the packages' over_library "$room/arm-packages/usr/include" "$room/arm-packages/usr/lib/aarch64-linux-gnu"

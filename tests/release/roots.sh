@@ -47,23 +47,26 @@ try_packages() {
     try "$on: the packages are installed" inside "$(packages_of_readme); dpkg -i python3-bit-set_*_amd64.deb"
     try "$on: an example in C over the package" inside '
         [ "$(pkg-config --variable=includedir bit_set)" = /usr/include ]
-        gcc -std=c99 -Wall -Wextra -Werror bit_set-$VERSION/examples/example.c $(pkg-config --cflags --libs bit_set) -o shared
-        ./shared | cmp - bit_set-$VERSION/examples/example.out
-        gcc bit_set-$VERSION/examples/example.c -l:libbit_set.a -o static && ./static | cmp - bit_set-$VERSION/examples/example.out'
+        cp bit_set-$VERSION/examples/* .
+        gcc -std=c99 -Wall -Wextra -Werror example.c $(pkg-config --cflags --libs bit_set) -o shared
+        ./shared | cmp - example.out
+        gcc example.c -l:libbit_set.a -o static && ./static | cmp - example.out'
     try "$on: an example in C++ over the package" inside '
-        g++ -std=c++17 bit_set-$VERSION/examples/example.cc $(pkg-config --cflags --libs bit_set) -o shared_cc
-        ./shared_cc | cmp - bit_set-$VERSION/examples/example.out'
+        g++ -std=c++17 example.cc $(pkg-config --cflags --libs bit_set) -o shared_cc
+        ./shared_cc | cmp - example.out'
     # The loader says what it takes, which is the newest that the processor has.
     if [ "$1" != 11 ] && grep -q '\bavx2\b' /proc/cpuinfo && grep -q '\bmovbe\b' /proc/cpuinfo; then
-        try "$on: the loader takes the object for v3" inside 'ldd ./shared | grep -F glibc-hwcaps/x86-64-v3/libbit_set.so'
+        try "$on: the loader takes the object for v3" inside 'ldd ./shared | grep -F x86-64-v3/libbit_set.so'
     fi
     local calls
     for calls in c_calls c_matrix; do
         try "$on: random calls of $calls over the shared object" inside "
-            gcc -O2 bit_set-\$VERSION/tests/$calls.c \$(pkg-config --cflags --libs bit_set) -o $calls && ./$calls \$ROUNDS"
+            gcc -O2 bit_set-\$VERSION/tests/$calls.c \$(pkg-config --cflags --libs bit_set) -o $calls
+            ./$calls \$ROUNDS"
     done
     try "$on: the tests of Python over the package" inside 'python3 bit_set-$VERSION/python/tests.py'
-    try "$on: the packages are removed" inside 'dpkg --purge python3-bit-set libbit-set-dev libbit-set0 && ! ls /usr/lib/*/libbit_set*'
+    try "$on: the packages are removed" inside '
+        dpkg --purge python3-bit-set libbit-set-dev libbit-set0 && ! ls /usr/lib/*/libbit_set*'
 }
 
 # The same packages under an older version are installed first. Of all of them nothing stays.
@@ -72,12 +75,14 @@ try_upgrade() {
         find /usr | sort > before
         mkdir older
         for file in libbit-set*_amd64.deb python3-bit-set_*_amd64.deb; do
-            rm -rf tree && dpkg-deb -R "$file" tree && sed -i "s/$VERSION/0.11.9/" tree/DEBIAN/control && dpkg-deb -b tree "older/$file"
+            rm -rf tree && dpkg-deb -R "$file" tree && sed -i "s/$VERSION/0.11.9/" tree/DEBIAN/control
+            dpkg-deb -b tree "older/$file"
         done
         dpkg -i older/*.deb
-        [ "$(dpkg-query -Wf "\${Version} " libbit-set0 libbit-set-dev python3-bit-set)" = "0.11.9-1 0.11.9-1 0.11.9-1 " ]
+        installed() { dpkg-query -Wf "\${Version} " libbit-set0 libbit-set-dev python3-bit-set; }
+        [ "$(installed)" = "0.11.9-1 0.11.9-1 0.11.9-1 " ]
         dpkg -i libbit-set*_amd64.deb python3-bit-set_*_amd64.deb
-        [ "$(dpkg-query -Wf "\${Version} " libbit-set0 libbit-set-dev python3-bit-set)" = "$VERSION-1 $VERSION-1 $VERSION-1 " ]
+        [ "$(installed)" = "$VERSION-1 $VERSION-1 $VERSION-1 " ]
         python3 -c "import bit_set; assert len(bit_set.BitSet([3, 5])) == 2"
         dpkg --purge python3-bit-set libbit-set-dev libbit-set0
         find /usr | sort | diff before -'
@@ -117,19 +122,26 @@ try_source() {
             cd bit_set-\$VERSION && make -s PROCESSOR=$processor check check_cc ROUNDS=\$ROUNDS"
     done
     try "$on: the source release is built elsewhere by who may not write into it" inside '
-        cd bit_set-$VERSION && setpriv --reuid=65534 --regid=65534 --clear-groups make -s BUILD=/tmp/made check check_cc'
+        cd bit_set-$VERSION
+        setpriv --reuid=65534 --regid=65534 --clear-groups make -s BUILD=/tmp/made check check_cc'
     try "$on: the source release is installed and removed" inside '
-        cd bit_set-$VERSION && make -s install DESTDIR="/try/put here" && ls "/try/put here/usr/local/lib/libbit_set.so.0"
+        cd bit_set-$VERSION
+        make -s install DESTDIR="/try/put here" && ls "/try/put here/usr/local/lib/libbit_set.so"
         make -s uninstall DESTDIR="/try/put here" && ! find "/try/put here" ! -type d | grep .'
 }
 
 # Each line of README's, as it stands there.
 try_readme() {
     write_readme "$root/readme"
-    try "$on: README for C" inside "cd /readme && sh -eu c.sh && cc example.c -lbit_set -o example
+    try "$on: README for C" inside "
+        cd /readme && sh -eu c.sh
+        cc example.c -lbit_set -o example
         [ \"\$(./example | tr '\n' ' ')\" = '10 11 12 13 14 15 16 17 18 19 400 ' ]"
-    try "$on: README for Python" inside "cd /readme && python3 -m venv in && PATH=/readme/in/bin:\$PATH PIP_NO_INDEX=1
-        export PATH PIP_NO_INDEX && sh -eu python.sh && [ \"\$(python example.py)\" = '41 0 20' ]"
+    try "$on: README for Python" inside "
+        cd /readme && python3 -m venv in
+        export PATH=/readme/in/bin:\$PATH PIP_NO_INDEX=1
+        sh -eu python.sh
+        [ \"\$(python example.py)\" = '41 0 20' ]"
 }
 
 # Debian 13 is the first with a Cargo that takes the packages.
@@ -138,7 +150,9 @@ try_cargo() {
         left_out "$on: Cargo's packages, for which its Cargo is too old"
         return
     fi
-    try "$on: README for Rust" inside "cd /readme && CARGO_NET_OFFLINE=true && export CARGO_NET_OFFLINE && sh -eu rust.sh
+    try "$on: README for Rust" inside "
+        export CARGO_NET_OFFLINE=true
+        cd /readme && sh -eu rust.sh
         cd PROGRAM && [ \"\$(cargo run -q)\" = '{10, 12, 14, 16, 18, 400}, 6 members' ]"
     try "$on: the tests of Cargo's packages" inside '
         mkdir -p crates && for crate in *.crate; do tar xzf "$crate" -C crates; done

@@ -40,7 +40,7 @@ finish "$begun"
 expect "c/build beside another ended with $ended" ends_with 0
 take_seconds 0.1
 
-# A release of that repository, which gets no further than its proofs here: what would come then needs no stand-in that works.
+# A release of that repository, which gets no further than its proofs here, so that what comes then is not needed.
 others="$room/others"
 mkdir "$others"
 for command in python3 dpkg-deb strip objdump aarch64-linux-gnu-{gcc,ar,strip}; do
@@ -51,7 +51,8 @@ cp -r "$top/tools/release" "$library/tools"
 in_library() { git -C "$library" -c user.name=stand_in -c user.email=stand_in@example.com "$@" > /dev/null; }
 release() {
     ended=0
-    env PATH="${1:-$others:$PATH}" "$library/release" "$room/released" > "$room/wrote" 2> "$room/said" < /dev/null || ended=$?
+    env PATH="${1:-$others:$PATH}" "$library/release" "$room/released" < /dev/null > "$room/wrote" 2> "$room/said" \
+        || ended=$?
 }
 in_library init -q && in_library add . && in_library commit -qm stand_in
 for signal in HUP INT QUIT TERM; do

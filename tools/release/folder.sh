@@ -1,7 +1,7 @@
 # The folder that a release is written into, where nothing changes before all is made. To be sourced by release.
 # shellcheck shell=bash disable=SC2154
 
-# Ends the script unless this is an empty folder, or one that can be made, and has it in `released` from where it begins.
+# Ends the script unless this is an empty folder, or one that can be made. Its whole path is then in `released`.
 look_at_folder() {
     local at
     released="$(realpath -m -- "$1")"
