@@ -26,6 +26,11 @@ try_here() {
     for crate in "$release"/*.crate; do
         tar xzf "$crate" -C "$at"
     done
+    cp -r "$source" "$room/packages"
+    try 'the packages for Python and Rust from the source release' bare sh -ec "
+        cd '$room/packages' && make -s && python/build include MODULE build/x86-64/libbit_set.a
+        PYTHONPATH=\$PWD/MODULE python3 python/tests.py
+        cd rust && BIT_SET_LIBRARY_DIR=\$PWD/../build/x86-64 cargo test --offline"
     for flags in '' -Ctarget-cpu=x86-64-v3; do
         try "the tests of Cargo's packages, with RUSTFLAGS=$flags" bare sh -ec "
             export RUSTFLAGS='$flags'
