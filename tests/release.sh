@@ -59,14 +59,14 @@ inside() {
 # What runs a program for aarch64 here, over a root or what the cross compiler has.
 on_arm() { bare qemu-aarch64-static -L "${sysroot:-/usr/aarch64-linux-gnu}" "$@"; }
 
-for part in files roots machines; do
+for part in files readme roots machines; do
     # shellcheck source=/dev/null
     . "$here/release/$part.sh"
 done
 try_files
-try_root 11 bullseye python3,python3-pip
-try_root 12 bookworm python3,python3-pip
-try_root 13 trixie python3,python3-pip,cargo,gcc-aarch64-linux-gnu,libc6-dev-arm64-cross
+try_root 11 bullseye ""
+try_root 12 bookworm ""
+try_root 13 trixie cargo,gcc-aarch64-linux-gnu,libc6-dev-arm64-cross
 try_here
 try_musl
 try_arm

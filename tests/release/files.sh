@@ -4,16 +4,28 @@
 try_files() {
     try 'the sums' sums
     try 'PROOF.txt has a verdict for each processor' verdicts
+    try 'PROOF.txt says what is trusted and how to check it again' tells
     if has lintian; then
         try 'lintian' lintian --allow-root --fail-on error --tag-display-limit 0 "$release"/*.deb
         sed 's/^/    /' "$room/said"
     else
         left_out 'lintian'
     fi
+    if has auditwheel; then
+        local wheel
+        for wheel in "$release"/*.whl; do
+            try "auditwheel of ${wheel##*/}" agrees "$wheel"
+        done
+    else
+        left_out 'auditwheel, which is not here'
+    fi
     mkdir -p "$room/try"
     tar xzf "$release/bit_set-$version.tar.gz" -C "$room/try"
     source="$room/try/bit_set-$version"
     cp "$release"/* "$room/try"
+    try 'PROOF.txt is the same in each package' hold_proof
+    try 'what the packages of both machines have in one place is the same' agree_in_places
+    try 'the shared objects export the calls of the headers alone' export_calls
 }
 
 # Of each file but their own.
@@ -25,4 +37,61 @@ sums() {
 verdicts() {
     grep -q '^Commit: *[0-9a-f]\{40\}$' "$release/PROOF.txt" \
         && [ "$(grep -c ' bits  logic=proved ' "$release/PROOF.txt")" -eq 8 ]
+}
+
+tells() {
+    local line
+    for line in 'Toolchain: *[^ ].*' 'Checksum of logic: *[0-9a-f]\{64\}' 'What is trusted: .*' '    ./release FOLDER'; do
+        grep -qx "$line" "$release/PROOF.txt" || return
+    done
+}
+
+# The tag in a wheel's name is one that auditwheel gives it.
+agrees() {
+    local tag="${1##*-}"
+    auditwheel show "$1" | tr '\n' ' ' | grep -F "\"${tag%.whl}\""
+}
+
+hold_proof() {
+    local file at="$room/opened"
+    for file in "$release"/*; do
+        rm -rf "$at" && mkdir "$at" || return
+        case "$file" in
+            *.tar.gz | *.crate) tar xzf "$file" -C "$at" ;;
+            */libbit-set-dev_*.deb) dpkg-deb -x "$file" "$at" ;;
+            *.whl) python3 -m zipfile -e "$file" "$at" ;;
+            *) continue ;;
+        esac
+        cmp "$(find "$at" -name PROOF.txt)" "$release/PROOF.txt" || return
+    done
+}
+
+# Debian installs the packages of two machines beside each other.
+agree_in_places() {
+    local architecture package file at="$room/beside-each-other"
+    for architecture in amd64 arm64; do
+        for package in "$release"/libbit-set*_"$architecture".deb; do
+            dpkg-deb -x "$package" "$at/$architecture" || return
+        done
+    done
+    while read -r file; do
+        [ ! -e "$at/arm64/$file" ] || cmp "$at/amd64/$file" "$at/arm64/$file" || return
+    done < <(cd "$at/amd64" && find . -type f)
+}
+
+# The calls that the headers declare, a name a line.
+declared() {
+    sed -n '/^static/d; s/^[a-z][a-z0-9_ ]*[ *]\(bit_[a-z0-9_]*\)(.*/\1/p' "$source"/include/*.h | LC_ALL=C sort
+}
+
+export_calls() {
+    local machine file at="$room/exported"
+    mkdir -p "$at"
+    for machine in x86_64 aarch64; do
+        tar xzf "$release/bit_set-$version-linux-$machine.tar.gz" -C "$at" || return
+        while read -r file; do
+            echo "$file"
+            diff <(declared) <(nm -D --defined-only "$file" | cut -d ' ' -f 3 | LC_ALL=C sort) || return
+        done < <(find "$at/bit_set-$version-linux-$machine" -name 'libbit_set.so.*')
+    done
 }

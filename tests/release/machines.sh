@@ -3,11 +3,17 @@
 
 try_here() {
     try 'here there is no toolchain' bare sh -c '! command -v rt'
-    try_readme
     try_frames
+    try_beside
+    if has clang && has clang++; then
+        cp -r "$source" "$room/clang"
+        try 'the source release by clang, with random calls' \
+            bare make -s -C "$room/clang" CC=clang CXX=clang++ check check_cc ROUNDS="$rounds"
+    else
+        left_out 'clang, which is not here'
+    fi
     if has cmake; then
-        try 'CMake' bare sh -ec "
-            cp -r '$source' '$room/cmake' && cd '$room/cmake' && cmake -B made && cmake --build made && cd made && ctest"
+        try_cmake
     else
         left_out 'CMake, which is not here'
     fi
@@ -15,35 +21,61 @@ try_here() {
         left_out 'Cargo, which is not here'
         return
     fi
-    local flags
-    for flags in '' -Ctarget-cpu=x86-64-v3; do
-        try "the tests of Cargo's packages, with RUSTFLAGS=$flags" bare sh -ec "
-            export RUSTFLAGS='$flags'
-            cd '$room/readme'/bit-set-[0-9]* && cargo test --offline && cd ../fixedbitset-* && cargo test --offline"
-    done
-}
-
-# What README has as examples, each built over what is installed as it says. It says too what they write.
-try_readme() {
-    local at="$room/readme" crate
-    mkdir -p "$at/program/src"
+    local flags crate at="$room/crates of Cargo"
+    mkdir -p "$at"
     for crate in "$release"/*.crate; do
         tar xzf "$crate" -C "$at"
     done
-    example_of c > "$at/example.c"
-    example_of python > "$at/example.py"
-    example_of rs > "$at/program/src/main.rs"
-    printf '%s\n' '[package]' 'name = "program"' 'version = "0.1.0"' 'edition = "2021"' > "$at/program/Cargo.toml"
-    try 'README: the example of C' bare sh -ec "
-        make -s -C '$source' DESTDIR='$at/installed' install
-        cd '$at' && cc -Iinstalled/usr/local/include example.c installed/usr/local/lib/libbit_set.a -o example
-        [ \"\$(./example | tr '\n' ' ')\" = '10 11 12 13 14 15 16 17 18 19 400 ' ]"
-    [ -z "$cargo" ] || try 'README: the example of Rust' bare sh -ec "
-        cd '$at/program' && cargo add --offline --path ../bit-set-0.8.0+'$version'
-        [ \"\$(cargo run -q --offline)\" = '{10, 12, 14, 16, 18, 400}, 6 members' ]"
-    python3 -m zipfile -e "$release/bit_set-$version-cp38-abi3-manylinux_2_17_x86_64.whl" "$at/wheel"
-    try 'README: the example of Python' bare sh -ec "
-        [ \"\$(PYTHONPATH='$at/wheel' python3 '$at/example.py')\" = '41 0 20' ]"
+    cp -r "$source" "$room/packages"
+    try 'the packages for Python and Rust from the source release' bare sh -ec "
+        cd '$room/packages' && make -s && python/build include MODULE build/x86-64/libbit_set.a
+        PYTHONPATH=\$PWD/MODULE python3 python/tests.py
+        cd rust && BIT_SET_LIBRARY_DIR=\$PWD/../build/x86-64 cargo test --offline"
+    for flags in '' -Ctarget-cpu=x86-64-v3; do
+        try "the tests of Cargo's packages, with RUSTFLAGS=$flags" bare sh -ec "
+            export RUSTFLAGS='$flags'
+            cd '$at'/bit-set-[0-9]* && cargo test --offline && cd ../fixedbitset-* && cargo test --offline"
+    done
+}
+
+# A static library, a shared one that is installed and found, and one that is a part of another project.
+try_cmake() {
+    local at="$room/cmake" lines='cmake_minimum_required(VERSION 3.14)
+        project(use C)
+        add_executable(use main.c)'
+    mkdir -p "$at/found" "$at/part"
+    cp -r "$source" "$at/part/bit set"
+    cp "$source/examples/example.c" "$at/found/main.c"
+    cp "$source/examples/example.c" "$at/part/main.c"
+    printf '%s\n' "$lines" 'find_package(bit_set REQUIRED)' 'target_link_libraries(use bit_set::bit_set)' \
+        > "$at/found/CMakeLists.txt"
+    printf '%s\n' "$lines" 'add_subdirectory("bit set")' 'target_link_libraries(use bit_set::bit_set)' \
+        > "$at/part/CMakeLists.txt"
+    try 'CMake: a static library' bare sh -ec "
+        cmake -S '$source' -B '$at/static' && cmake --build '$at/static' && cd '$at/static' && ctest"
+    try 'CMake: a shared library, installed and found' bare sh -ec "
+        cmake -S '$source' -B '$at/shared' -DBUILD_SHARED_LIBS=ON -DBIT_SET_PROCESSOR=x86-64-v2
+        cmake --build '$at/shared' && (cd '$at/shared' && ctest) && cmake --install '$at/shared' --prefix '$at/put here'
+        readelf -nW '$at/shared/libbit_set.so' | grep 'x86 feature: IBT, SHSTK'
+        cmake -S '$at/found' -B '$at/found/made' -DCMAKE_PREFIX_PATH='$at/put here' && cmake --build '$at/found/made'
+        '$at/found/made/use' | cmp - '$source/examples/example.out'"
+    try 'CMake: a part of another project' bare sh -ec "
+        cmake -S '$at/part' -B '$at/part/made' && cmake --build '$at/part/made'
+        '$at/part/made/use' | cmp - '$source/examples/example.out'"
+}
+
+# The same calls on two of the shared objects, one beside the other.
+try_beside() {
+    local at="$room/frames/lib"
+    local newer="$at/glibc-hwcaps/x86-64"
+    if ! grep -q '\bavx2\b' /proc/cpuinfo || ! grep -q '\bmovbe\b' /proc/cpuinfo; then
+        left_out 'the object for v3 beside that for v2, on this processor'
+        return
+    fi
+    try 'the comparison is built' bare cc -O2 -Wall -Wextra -Werror -I"$source/include" -I"$source/tests" \
+        "$here/release/beside.c" -o "$room/beside" -ldl
+    try 'the object for v3 beside that for v2' bare "$room/beside" "$newer-v3/"*.so.* "$newer-v2/"*.so.* "$rounds"
+    try 'the object for v2 beside that for all' bare "$room/beside" "$newer-v2/"*.so.* "$at"/libbit_set.so.* "$rounds"
 }
 
 # That what is below a call of the library is found through its frames, and that the processor can demand marks.
@@ -53,19 +85,17 @@ try_frames() {
     tar xzf "$release/bit_set-$version-linux-x86_64.tar.gz" -C "$at" --strip-components=1
     try 'frames are found through the library' bare sh -ec "
         cd '$at' && cc -Wl,--wrap=malloc -rdynamic -Iinclude '$here/release/frames.c' lib/libbit_set.a -o frames && ./frames"
-    try 'the shared objects ask for IBT and SHSTK' asks_for_marks "$at"/lib/libbit_set.so.* "$at"/lib/glibc-hwcaps/*/*.so.*
+    try 'the shared objects ask for IBT and SHSTK' ask_for_marks 1 "$at"/lib/libbit_set.so.* "$at"/lib/glibc-hwcaps/*/*.so.*
+    try 'the archives do' ask_for_marks 3 "$at"/lib/libbit_set.a "$at"/lib/glibc-hwcaps/*/*.a
 }
 
-asks_for_marks() {
+# Whether each of these files asks, or each of the objects that it has.
+#   ask_for_marks COUNT FILE..
+ask_for_marks() {
     local file
-    for file in "$@"; do
-        readelf -nW "$file" | grep 'x86 feature: IBT, SHSTK' || return
+    for file in "${@:2}"; do
+        [ "$(readelf -nW "$file" | grep -c 'x86 feature: IBT, SHSTK')" -eq "$1" ] || return
     done
-}
-
-# The first block of this language in README.
-example_of() {
-    awk -v first="\`\`\`$1" '$0 == "```" { inside = 0 } inside; $0 == first && !seen++ { inside = 1 }' "$here/../README.md"
 }
 
 try_musl() {
@@ -94,6 +124,10 @@ try_arm() {
         CXX=aarch64-linux-gnu-g++ RUN='qemu-aarch64-static -L /usr/aarch64-linux-gnu' $checks ROUNDS="$rounds"
     tar xzf "$release/bit_set-$version-linux-aarch64.tar.gz" -C "$room"
     try 'aarch64: the archive for Linux' over_library "$archive/include" "$archive/lib"
+    try 'aarch64: frames are found through the library' bare sh -ec "
+        aarch64-linux-gnu-gcc -Wl,--wrap=malloc -rdynamic -I'$archive/include' '$here/release/frames.c' \
+            '$archive/lib/libbit_set.a' -o '$room/arm-frames'
+        qemu-aarch64-static -L /usr/aarch64-linux-gnu '$room/arm-frames'"
     dpkg-deb -x "$release/libbit-set0_$version-1_arm64.deb" "$room/arm-packages"
     dpkg-deb -x "$release/libbit-set-dev_$version-1_arm64.deb" "$room/arm-packages"
     try 'aarch64: the packages' over_library "$room/arm-packages/usr/include" "$room/arm-packages/usr/lib/aarch64-linux-gnu"

@@ -40,6 +40,40 @@ finish "$begun"
 expect "c/build beside another ended with $ended" ends_with 0
 take_seconds 0.1
 
+# A release of that repository, which gets no further than its proofs here, so that what comes then is not needed.
+others="$room/others"
+mkdir "$others"
+for command in python3 dpkg-deb strip objdump aarch64-linux-gnu-{gcc,ar,strip}; do
+    ln -s "$(command -v true)" "$others/$command"
+done
+cp -r "$top/release" "$library"
+cp -r "$top/tools/release" "$library/tools"
+in_library() { git -C "$library" -c user.name=stand_in -c user.email=stand_in@example.com "$@" > /dev/null; }
+release() {
+    ended=0
+    env PATH="${1:-$others:$PATH}" "$library/release" "$room/released" < /dev/null > "$room/wrote" 2> "$room/said" \
+        || ended=$?
+}
+in_library init -q && in_library add . && in_library commit -qm stand_in
+for signal in HUP INT QUIT TERM; do
+    ended_by_signal release "$signal" 'bit_set_c$' env PATH="$others:$PATH" "$library/release" "$room/released"
+    expect "release by SIG$signal leaves a folder" [ ! -e "$room/released" ]
+done
+release /usr/bin:/bin
+expect "release without rt ended with $ended" ends_with 127
+mkdir "$room/released"
+touch "$room/released/theirs"
+release
+expect "release into a folder that is not empty ended with $ended" ends_with 1
+expect 'release does not say that a folder is not empty' says 'is not empty'
+rm -r "$room/released"
+echo '# changed' >> "$library/c/build"
+release
+expect "release of what is not committed ended with $ended" ends_with 1
+expect 'release does not say what is not committed' says 'not committed'
+expect 'release makes a folder where it fails' [ ! -e "$room/released" ]
+in_library checkout c/build
+
 # All that the gate runs beside `rt ci` here is what runs ahead of it, since it too has folders of its own.
 for test in docs add misuse first_run edits c program refusals scripts; do
     printf '%s\n' '#!/bin/sh' 'echo 1 passed, 0 failed' > "$library/tests/$test.sh"

@@ -39,8 +39,8 @@ To check it again, with the toolchain, in a new clone of the repository at this 
 
     ./release FOLDER
 
-That proves all of it from nothing, and makes these files again. src/*/*.s are the same then, and by the same compilers all
-else is, as SHA256SUMS says.
+That proves all of it from nothing, and makes these files again. src/*/*.s are the same then, and by the same compilers and
+headers of Python all else is, as SHA256SUMS says.
 END
     } > "$2"
 }

@@ -1,11 +1,15 @@
 # The wheels for Python 3.8 and later. To be sourced by release.
 # shellcheck shell=bash disable=SC2154
 
-# Builds the package `bit_set` into a folder by the source release's script.
+# Builds the package `bit_set` into a folder by the source release's script. Debian has a part of Python's headers for
+# each kind of machine alone: what is here stands for it, since of the stable ABI it says the same.
 #   python_module MACHINE FOLDER LINK..      LINK is what says to the linker where the library is
 python_module() {
-    mkdir -p "$2"
-    CC="$(tool_of "$1" gcc)" "$source/python/build" "$source/include" "${@:2}" < /dev/null
+    local own headers="$room/headers-$1"
+    own="$(python3 -c 'import sysconfig; print(sysconfig.get_config_var("MULTIARCH") or "")')"
+    mkdir -p "$2" "$headers"
+    ln -sfn "/usr/include/$own" "$headers/$1-linux-gnu"
+    CPATH="$headers" CC="$(tool_of "$1" gcc)" "$source/python/build" "$source/include" "${@:2}" < /dev/null
 }
 
 # It has the library for each processor of its kind in it, and needs nothing but glibc 2.17 or later.

@@ -1,0 +1,33 @@
+# The folder that a release is written into, where nothing changes before all is made. To be sourced by release.
+# shellcheck shell=bash disable=SC2154
+
+# Ends the script unless this is an empty folder, or one that can be made. Its whole path is then in `released`.
+look_at_folder() {
+    local at
+    released="$(realpath -m -- "$1")"
+    at="$released"
+    until [ -e "$at" ]; do
+        at="${at%/*}"
+        at="${at:-/}"
+    done
+    { [ -d "$at" ] && [ -w "$at" ] && [ -x "$at" ]; } || stop "nothing can be written into $at"
+    [ "$at" != "$released" ] || [ -z "$(ls -A -- "$at")" ] || stop "$released is not empty"
+}
+
+# Whether all is as it was committed, but for that folder.
+no_change() {
+    local but=()
+    [[ "$released" != "$top"/* ]] || but=(":(exclude,literal)${released#"$top"/}")
+    [ -z "$(git status --porcelain -- . "${but[@]}")" ]
+}
+
+# Writes what was made into the folder, at once: no signal ends it in between.
+hand_over() {
+    trap '' HUP INT QUIT TERM
+    look_at_folder "$released"
+    mkdir -p -- "$released"
+    cp -p -- "$folder"/* "$released" || {
+        (cd "$folder" && printf '%s\0' *) | (cd "$released" && xargs -0 rm -f --)
+        stop "$released cannot be written"
+    }
+}
