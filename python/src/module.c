@@ -69,6 +69,10 @@ static PyMemberDef members[] = {
     {NULL, 0, 0, 0, NULL},
 };
 
+/* Python 3.8 and 3.9 remember what they look up in a type only where it has the flag that later headers no longer put into the
+ * first one, and 3.8 breaks where a class with another metaclass stands on a type without it. */
+enum { FLAGS = Py_TPFLAGS_DEFAULT | Py_TPFLAGS_HAVE_VERSION_TAG };
+
 static PyType_Slot set_slots[] = {
     {Py_tp_doc, "BitSet(members=())\n--\n\nA set of numbers from 0 to MAX_ELEMENT, as a MutableSet."},
     {Py_tp_new, set_new},
@@ -95,7 +99,7 @@ static PyType_Slot set_slots[] = {
 };
 
 static PyType_Spec set_spec = {
-    "bit_set.BitSet", sizeof(BitSet), 0, Py_TPFLAGS_DEFAULT | Py_TPFLAGS_BASETYPE, set_slots,
+    "bit_set.BitSet", sizeof(BitSet), 0, FLAGS | Py_TPFLAGS_BASETYPE, set_slots,
 };
 
 static PyMethodDef matrix_methods[] = {
@@ -146,7 +150,7 @@ static PyType_Slot matrix_slots[] = {
 };
 
 static PyType_Spec matrix_spec = {
-    "bit_set.BitMatrix", sizeof(BitMatrix), 0, Py_TPFLAGS_DEFAULT | Py_TPFLAGS_BASETYPE, matrix_slots,
+    "bit_set.BitMatrix", sizeof(BitMatrix), 0, FLAGS | Py_TPFLAGS_BASETYPE, matrix_slots,
 };
 
 static PyType_Slot walk_slots[] = {
@@ -159,7 +163,7 @@ static PyType_Slot walk_slots[] = {
 };
 
 static PyType_Spec walk_spec = {
-    "bit_set.Walk", sizeof(Walk), 0, Py_TPFLAGS_DEFAULT | Py_TPFLAGS_HAVE_GC, walk_slots,
+    "bit_set.Walk", sizeof(Walk), 0, FLAGS | Py_TPFLAGS_HAVE_GC, walk_slots,
 };
 
 static struct PyModuleDef module_definition = {
