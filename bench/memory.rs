@@ -1,5 +1,7 @@
-//! How many bytes sets hold. This library takes memory by the calls below, in the place of the toolchain's; what else takes
-//! memory is seen by the C library.
+//! How many bytes sets hold and ask for. This library takes memory by the calls below, in the place of the toolchain's; what
+//! else takes memory is seen by the C library.
+// A program counts one of these alone.
+#![allow(dead_code)]
 use std::cell::Cell;
 use std::ffi::c_void;
 use std::hint::black_box;
@@ -14,11 +16,13 @@ unsafe extern "C" {
 }
 
 /// What the C library tells of its memory: the fifth number is of what is mapped, the eighth of the rest that is in use.
-type MallInfo = [usize; 10];
+#[repr(C)]
+struct MallInfo([usize; 10]);
 
 thread_local! {
     static HELD: Cell<usize> = const { Cell::new(0) };
     static MOST: Cell<usize> = const { Cell::new(0) };
+    static ASKED: Cell<usize> = const { Cell::new(0) };
 }
 
 /// Whether there is memory, and where.
@@ -38,17 +42,23 @@ fn found(place: *mut c_void) -> Found {
     Found { is_there: 1, place }
 }
 
+fn ask(size: usize) {
+    ASKED.set(ASKED.get() + size);
+}
+
 fn leave(place: *mut c_void) {
     HELD.set(HELD.get() - unsafe { malloc_usable_size(place) });
 }
 
 #[unsafe(no_mangle)]
 extern "C" fn rattle_alloc(size: usize, align: usize) -> Found {
+    ask(size);
     found(unsafe { malloc(if size == 0 { align } else { size }) })
 }
 
 #[unsafe(no_mangle)]
 extern "C" fn rattle_realloc(place: *mut c_void, _old: usize, size: usize, align: usize) -> Found {
+    ask(size);
     leave(place);
     let moved = unsafe { realloc(place, if size == 0 { align } else { size }) };
     if moved.is_null() {
@@ -72,8 +82,13 @@ pub fn most_held(work: impl FnOnce() -> usize) -> usize {
     MOST.get() - before
 }
 
+/// How many bytes this library asked for since the last time that this was called.
+pub fn taken() -> usize {
+    ASKED.replace(0)
+}
+
 fn in_use() -> usize {
-    let info = unsafe { mallinfo2() };
+    let MallInfo(info) = unsafe { mallinfo2() };
     info[4] + info[7]
 }
 

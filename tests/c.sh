@@ -229,11 +229,18 @@ if command -v python3 > /dev/null; then
     fi
     if [ ! -f "$(python3 -c 'import sysconfig; print(sysconfig.get_path("include"))')/Python.h" ]; then
         echo 'left out: the Python module, without the headers of Python'
-    elif "$top/python/build" "$library" module > said 2>&1 && PYTHONPATH=module python3 -B "$top/python/tests.py" > said 2>&1; then
-        pass
+    elif "$top/python/build" "$library" module > said 2>&1; then
+        for file in tests faults; do
+            if PYTHONPATH=module python3 -B "$top/python/$file.py" > said 2>&1; then
+                pass
+            else
+                cat said
+                fail "the Python module fails python/$file.py"
+            fi
+        done
     else
         cat said
-        fail 'the Python module is not built or fails its tests'
+        fail 'the Python module is not built'
     fi
 fi
 finish

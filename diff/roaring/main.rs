@@ -6,6 +6,7 @@ mod croaring;
 mod damage;
 mod draw;
 mod examples;
+#[path = "../../bench/memory.rs"]
 mod memory;
 #[path = "../random.rs"]
 mod random;

@@ -1,34 +1,32 @@
 /* Which of two sets has the other, and how many members they have between them. */
 #include "set.h"
 
+static int has(void *self, PyObject *item)
+{
+    return set_contains(self, item);
+}
+
+static int lacks(void *self, PyObject *item)
+{
+    int found = set_contains(self, item);
+    return found < 0 ? found : !found;
+}
+
+static int is_in(void *container, PyObject *member)
+{
+    return PySequence_Contains(container, member);
+}
+
 /* Whether each item of an iterable is a member: 1, 0, or -1 with an exception. */
 static int has_each(PyObject *self, PyObject *iterable)
 {
-    int has = 1;
-    PyObject *items = PyObject_GetIter(iterable), *item;
-    if (!items)
-        return -1;
-    while (has == 1 && (item = PyIter_Next(items))) {
-        has = set_contains(self, item);
-        Py_DECREF(item);
-    }
-    Py_DECREF(items);
-    return PyErr_Occurred() ? -1 : has;
+    return each_item(PyObject_GetIter(iterable), has, self);
 }
 
 /* Whether each member is in a container: 1, 0, or -1 with an exception. */
 static int is_within(PyObject *self, PyObject *container)
 {
-    int has = 1;
-    PyObject *walk = set_iter(self), *member;
-    if (!walk)
-        return -1;
-    while (has == 1 && (member = PyIter_Next(walk))) {
-        has = PySequence_Contains(container, member);
-        Py_DECREF(member);
-    }
-    Py_DECREF(walk);
-    return PyErr_Occurred() ? -1 : has;
+    return each_item(set_iter(self), is_in, container);
 }
 
 static int compare_with_bit_set(PyObject *self, PyObject *other, int operation)
@@ -91,26 +89,19 @@ PyObject *set_issubset(PyObject *self, PyObject *items)
 {
     if (is_bit_set(items))
         return truth_if(bit_set_is_subset(set_of(self), set_of(items)));
-    PyObject *set = PyFrozenSet_New(items);
-    int truth = set ? is_within(self, set) : -1;
-    Py_XDECREF(set);
-    return truth_if(truth);
+    if (PyAnySet_Check(items))
+        return truth_if(compare_with_set(self, items, Py_LE));
+    size_t others;
+    PyObject *met = members_among(self, items, &others);
+    Py_XDECREF(met);
+    return truth_if(met ? others == 0 : -1);
 }
 
 PyObject *set_isdisjoint(PyObject *self, PyObject *iterable)
 {
     if (is_bit_set(iterable))
         return truth_if(bit_set_is_disjoint(set_of(self), set_of(iterable)));
-    int has = 0;
-    PyObject *items = PyObject_GetIter(iterable), *item;
-    if (!items)
-        return NULL;
-    while (!has && (item = PyIter_Next(items))) {
-        has = set_contains(self, item);
-        Py_DECREF(item);
-    }
-    Py_DECREF(items);
-    return PyErr_Occurred() ? NULL : truth_if(!has);
+    return truth_if(each_item(PyObject_GetIter(iterable), lacks, self));
 }
 
 /* How many members a merge with the items of an iterable has. */

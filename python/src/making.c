@@ -22,10 +22,15 @@ PyObject *set_new(PyTypeObject *type, PyObject *Py_UNUSED(positional), PyObject 
     return made ? made_if(bit_set_new(&((BitSet *)made)->set), made) : NULL;
 }
 
+PyObject *copy_as(PyTypeObject *type, PyObject *self)
+{
+    PyObject *made = blank(type);
+    return made ? made_if(bit_set_clone(&((BitSet *)made)->set, set_of(self)), made) : NULL;
+}
+
 PyObject *set_copy(PyObject *self, PyObject *Py_UNUSED(none))
 {
-    PyObject *made = blank(Py_TYPE(self));
-    return made ? made_if(bit_set_clone(&((BitSet *)made)->set, set_of(self)), made) : NULL;
+    return copy_as(Py_TYPE(self), self);
 }
 
 PyObject *set_copy_range(PyObject *self, PyObject *arguments)
@@ -99,19 +104,9 @@ static bool put_items(PyObject *self, PyObject *items)
     return false;
 }
 
-static bool put_iterable(PyObject *self, PyObject *iterable)
+static int put_item(void *self, PyObject *item)
 {
-    PyObject *items = PyObject_GetIter(iterable), *item;
-    if (!items)
-        return false;
-    while ((item = PyIter_Next(items))) {
-        bool is_in = put(self, item);
-        Py_DECREF(item);
-        if (!is_in)
-            break;
-    }
-    Py_DECREF(items);
-    return !PyErr_Occurred();
+    return put(self, item) ? 1 : -1;
 }
 
 /* Which numbers a buffer of this format has, where it is one of whole numbers of this machine. */
@@ -130,6 +125,7 @@ static bool read_format(PyObject *view, bool *is_signed)
     return is_known;
 }
 
+/* A count that an object has, or 0, also where there is no memory to look for it. */
 static Py_ssize_t size_attribute(PyObject *object, const char *name)
 {
     PyObject *value = PyObject_GetAttrString(object, name);
@@ -181,10 +177,12 @@ static bool has_own_walk(PyObject *object)
     bool is_own = false;
     for (int at = 0; at < 2; at++) {
         PyObject *method = PyObject_GetAttrString((PyObject *)Py_TYPE(object), names[at]);
-        is_own = is_own || (method && Py_TYPE(method) != &PyWrapperDescr_Type);
+        /* Where there is no memory to look for one, there may be one. */
+        bool may_be_own = method ? Py_TYPE(method) != &PyWrapperDescr_Type : !PyErr_ExceptionMatches(PyExc_AttributeError);
+        is_own = is_own || may_be_own;
         Py_XDECREF(method);
+        PyErr_Clear();
     }
-    PyErr_Clear();
     return is_own;
 }
 
@@ -201,7 +199,8 @@ static enum reading put_buffer(PyObject *self, PyObject *object)
     }
     enum reading done = NO_NUMBER;
     size_t width = (size_t)size_attribute(view, "itemsize");
-    if (read_format(view, &is_signed) && size_attribute(view, "ndim") == 1 && size_attribute(view, "c_contiguous")) {
+    bool is_row = width && size_attribute(view, "ndim") == 1 && size_attribute(view, "c_contiguous");
+    if (is_row && read_format(view, &is_signed)) {
         done = FAILED;
         if (!PyObject_AsReadBuffer(view, &bytes, &length)
             && put_numbers(self, bytes, (size_t)length / width, width, is_signed))
@@ -223,7 +222,7 @@ bool put_all(PyObject *self, PyObject *members)
     if (PyList_CheckExact(members) || PyTuple_CheckExact(members))
         return put_items(self, members);
     enum reading done = put_buffer(self, members);
-    return done == NO_NUMBER ? put_iterable(self, members) : done == NUMBER;
+    return done == NO_NUMBER ? each_item(PyObject_GetIter(members), put_item, self) == 1 : done == NUMBER;
 }
 
 int set_init(PyObject *self, PyObject *arguments, PyObject *named)
@@ -256,7 +255,7 @@ PyObject *set_add(PyObject *self, PyObject *member)
 int set_contains(PyObject *self, PyObject *member)
 {
     size_t number;
-    enum reading reading = read_number(member, &number);
+    enum reading reading = read_equal(self, member, &number);
     return reading == NUMBER ? bit_set_contains(set_of(self), number) : (int)reading;
 }
 
@@ -264,7 +263,7 @@ int set_contains(PyObject *self, PyObject *member)
 enum reading take_out(PyObject *self, PyObject *member)
 {
     size_t number;
-    enum reading reading = read_number(member, &number);
+    enum reading reading = read_equal(self, member, &number);
     if (reading == NUMBER && !bit_set_remove(set_of(self), number))
         return NO_NUMBER;
     return reading;

@@ -158,21 +158,22 @@ int matrix_contains(PyObject *self, PyObject *pair)
         && bit_matrix_contains(matrix_of(self), row, column);
 }
 
-static PyObject *change_cell(PyObject *self, PyObject *arguments, bool (*call)(bit_matrix *, size_t, size_t))
-{
-    size_t row, column;
-    return read_cell(self, arguments, &row, &column) ? PyBool_FromLong(call(matrix_of(self), row, column)) : NULL;
-}
-
-PyObject *matrix_add(PyObject *self, PyObject *arguments)
-{
-    return change_cell(self, arguments, bit_matrix_insert);
-}
-
-PyObject *matrix_discard(PyObject *self, PyObject *arguments)
-{
-    return change_cell(self, arguments, bit_matrix_remove);
-}
+/* A call on the row and the column, or on the two rows, that `read` makes of the arguments. It says yes or no. */
+#define PAIR_METHOD(name, read, call)                                          \
+    PyObject *matrix_##name(PyObject *self, PyObject *arguments)               \
+    {                                                                          \
+        size_t first, second;                                                  \
+        if (!read(self, arguments, &first, &second))                           \
+            return NULL;                                                       \
+        return PyBool_FromLong(call(matrix_of(self), first, second));          \
+    }
+PAIR_METHOD(add, read_cell, bit_matrix_insert)
+PAIR_METHOD(discard, read_cell, bit_matrix_remove)
+PAIR_METHOD(union_rows, read_rows, bit_matrix_union_rows)
+PAIR_METHOD(intersect_rows, read_rows, bit_matrix_intersect_rows)
+PAIR_METHOD(difference_rows, read_rows, bit_matrix_difference_rows)
+PAIR_METHOD(is_subset_row, read_rows, bit_matrix_is_subset_row)
+PAIR_METHOD(is_disjoint_row, read_rows, bit_matrix_is_disjoint_row)
 
 PyObject *matrix_count(PyObject *self, PyObject *row_object)
 {
@@ -192,43 +193,6 @@ PyObject *matrix_row(PyObject *self, PyObject *row_object)
         return NULL;
     PyObject *made = blank(bit_set_type);
     return made ? made_if(bit_matrix_row_to_set(&((BitSet *)made)->set, matrix_of(self), row), made) : NULL;
-}
-
-static PyObject *merge_rows(PyObject *self, PyObject *arguments, bool (*call)(bit_matrix *, size_t, size_t))
-{
-    size_t read, write;
-    return read_rows(self, arguments, &read, &write) ? PyBool_FromLong(call(matrix_of(self), read, write)) : NULL;
-}
-
-PyObject *matrix_union_rows(PyObject *self, PyObject *arguments)
-{
-    return merge_rows(self, arguments, bit_matrix_union_rows);
-}
-
-PyObject *matrix_intersect_rows(PyObject *self, PyObject *arguments)
-{
-    return merge_rows(self, arguments, bit_matrix_intersect_rows);
-}
-
-PyObject *matrix_difference_rows(PyObject *self, PyObject *arguments)
-{
-    return merge_rows(self, arguments, bit_matrix_difference_rows);
-}
-
-static PyObject *compare_rows(PyObject *self, PyObject *arguments, bool (*call)(const bit_matrix *, size_t, size_t))
-{
-    size_t row, other;
-    return read_rows(self, arguments, &row, &other) ? PyBool_FromLong(call(matrix_of(self), row, other)) : NULL;
-}
-
-PyObject *matrix_is_subset_row(PyObject *self, PyObject *arguments)
-{
-    return compare_rows(self, arguments, bit_matrix_is_subset_row);
-}
-
-PyObject *matrix_is_disjoint_row(PyObject *self, PyObject *arguments)
-{
-    return compare_rows(self, arguments, bit_matrix_is_disjoint_row);
 }
 
 /* Whether each member of a set is a column, with an IndexError where one is not. */

@@ -14,37 +14,77 @@ static bool merge_with(PyObject *self, PyObject *other, merge *call)
     return found;
 }
 
-/* Takes the items of an iterable out. What is no member of a bit set is passed over. */
-static bool take_out_each(PyObject *self, PyObject *iterable)
+/* Exchanges the members of two sets. */
+static void exchange(PyObject *one, PyObject *other)
 {
-    PyObject *items = PyObject_GetIter(iterable), *item;
-    while (items && (item = PyIter_Next(items))) {
-        take_out(self, item);
-        Py_DECREF(item);
-        if (PyErr_Occurred())
-            break;
-    }
-    Py_XDECREF(items);
-    return !PyErr_Occurred();
+    bit_set *set = set_of(one);
+    ((BitSet *)one)->set = set_of(other);
+    ((BitSet *)other)->set = set;
 }
 
-/* Keeps the members that are items of an iterable. What is no member of a bit set is passed over. */
-static bool keep_each(PyObject *self, PyObject *iterable)
+static int take_out_item(void *self, PyObject *item)
+{
+    return take_out(self, item) == FAILED ? -1 : 1;
+}
+
+/* A set, another that is made of items, and how many members of the set are not in that yet. */
+struct made_of_items {
+    PyObject *set, *made;
+    size_t left;
+};
+
+/* Puts an item in that is a member, until all are in: as with Python's own sets, no more items are asked for then. */
+static int put_member(void *with, PyObject *item)
 {
     size_t number;
-    PyObject *kept = set_new(bit_set_type, NULL, NULL), *items = PyObject_GetIter(iterable), *item;
-    while (kept && items && (item = PyIter_Next(items))) {
-        if (read_number(item, &number) == NUMBER && bit_set_contains(set_of(self), number)
-            && bit_set_insert(set_of(kept), number) < 0)
-            PyErr_NoMemory();
-        Py_DECREF(item);
-        if (PyErr_Occurred())
-            break;
-    }
-    Py_XDECREF(items);
-    bool is_done = !PyErr_Occurred() && merge_with(self, kept, bit_set_intersect_with);
-    Py_XDECREF(kept);
-    return is_done;
+    struct made_of_items *sets = with;
+    enum reading reading = read_equal(sets->set, item, &number);
+    if (reading != NUMBER || !bit_set_contains(set_of(sets->set), number))
+        return reading == FAILED ? -1 : 1;
+    int32_t answer = bit_set_insert(set_of(sets->made), number);
+    if (answer == BIT_SET_YES)
+        sets->left--;
+    else if (answer != BIT_SET_NO)
+        PyErr_NoMemory();
+    return answer < 0 ? -1 : sets->left > 0;
+}
+
+/* The members that are items of an iterable, as a new set, and how many are not. What equals no member is passed over. */
+PyObject *members_among(PyObject *self, PyObject *iterable, size_t *others)
+{
+    struct made_of_items sets = {self, set_new(bit_set_type, NULL, NULL), bit_set_count(set_of(self))};
+    if (sets.made && each_item(PyObject_GetIter(iterable), put_member, &sets) < 0)
+        Py_CLEAR(sets.made);
+    *others = sets.left;
+    return sets.made;
+}
+
+/* Keeps these members. All stay where the iterable raises. */
+static bool keep_each(PyObject *self, PyObject *iterable)
+{
+    size_t others;
+    PyObject *made = members_among(self, iterable, &others);
+    if (!made)
+        return false;
+    exchange(self, made);
+    Py_DECREF(made);
+    return true;
+}
+
+static int put_other(void *with, PyObject *item)
+{
+    struct made_of_items *sets = with;
+    int is_in = set_contains(sets->set, item);
+    return is_in ? is_in : put(sets->made, item) ? 1 : -1;
+}
+
+/* The items of a set of another kind that are not in this set. */
+static PyObject *others_than(PyObject *self, PyObject *other)
+{
+    struct made_of_items sets = {self, set_new(bit_set_type, NULL, NULL), 0};
+    if (sets.made && each_item(PyObject_GetIter(other), put_other, &sets) < 0)
+        Py_CLEAR(sets.made);
+    return sets.made;
 }
 
 /* With the items of an iterable. */
@@ -55,7 +95,7 @@ static bool merge_iterable(PyObject *self, PyObject *iterable, merge *call)
     if (is_bit_set(iterable))
         return merge_with(self, iterable, call);
     if (call == bit_set_difference_with)
-        return take_out_each(self, iterable);
+        return each_item(PyObject_GetIter(iterable), take_out_item, self) == 1;
     if (call == bit_set_intersect_with)
         return keep_each(self, iterable);
     PyObject *other = as_bit_set(iterable);
@@ -72,39 +112,52 @@ static PyObject *merge_each(PyObject *self, PyObject *iterables, merge *call)
     Py_RETURN_NONE;
 }
 
-/* A copy that is merged. */
-static PyObject *merged_with_each(PyObject *self, PyObject *iterables, merge *call)
+/* A copy that is merged, or NULL. */
+static PyObject *merged_with_each(PyObject *made, PyObject *iterables, merge *call)
 {
-    PyObject *made = set_copy(self, NULL), *done = made ? merge_each(made, iterables, call) : NULL;
-    if (!done) {
-        Py_XDECREF(made);
-        return NULL;
-    }
-    Py_DECREF(done);
+    PyObject *done = made ? merge_each(made, iterables, call) : NULL;
+    if (!done)
+        Py_CLEAR(made);
+    Py_XDECREF(done);
     return made;
 }
 
-#define MERGE_METHODS(name, call)                                         \
-    PyObject *set_##name##_update(PyObject *self, PyObject *others) \
-    {                                                                     \
-        return merge_each(self, others, call);                            \
-    }                                                                     \
-    PyObject *set_##name(PyObject *self, PyObject *others)         \
-    {                                                                     \
-        return merged_with_each(self, others, call);                      \
-    }
 PyObject *set_update(PyObject *self, PyObject *others)
 {
     return merge_each(self, others, bit_set_union_with);
 }
 
-PyObject *set_union(PyObject *self, PyObject *others)
+PyObject *set_difference_update(PyObject *self, PyObject *others)
 {
-    return merged_with_each(self, others, bit_set_union_with);
+    return merge_each(self, others, bit_set_difference_with);
 }
 
-MERGE_METHODS(intersection, bit_set_intersect_with)
-MERGE_METHODS(difference, bit_set_difference_with)
+/* All members stay where one of the others raises. The calls above keep what they did by then. Both are as with Python's
+ * own sets. */
+PyObject *set_intersection_update(PyObject *self, PyObject *others)
+{
+    PyObject *made = merged_with_each(copy_as(bit_set_type, self), others, bit_set_intersect_with);
+    if (!made)
+        return NULL;
+    exchange(self, made);
+    Py_DECREF(made);
+    Py_RETURN_NONE;
+}
+
+PyObject *set_union(PyObject *self, PyObject *others)
+{
+    return merged_with_each(set_copy(self, NULL), others, bit_set_union_with);
+}
+
+PyObject *set_intersection(PyObject *self, PyObject *others)
+{
+    return merged_with_each(set_copy(self, NULL), others, bit_set_intersect_with);
+}
+
+PyObject *set_difference(PyObject *self, PyObject *others)
+{
+    return merged_with_each(set_copy(self, NULL), others, bit_set_difference_with);
+}
 
 /* Of one iterable alone, as with Python's own sets. */
 PyObject *set_symmetric_difference_update(PyObject *self, PyObject *members)
@@ -142,6 +195,8 @@ static PyObject *operate(PyObject *left, PyObject *right, merge *call)
         left = right;
         right = other;
     }
+    if (call == bit_set_difference_with && !is_bit_set(left))
+        return others_than(right, left);
     PyObject *made = is_bit_set(left) ? set_copy(left, NULL) : as_bit_set(left);
     if (made && !merge_iterable(made, right, call)) {
         Py_DECREF(made);

@@ -5,55 +5,56 @@
 PyTypeObject *bit_set_type, *matrix_type, *walk_type;
 PyObject *abstract_set, *array_type;
 
-#define METHOD(name, how, text) {#name, (PyCFunction)set_##name, how, text}
+/* A method of a set or a matrix. */
+#define METHOD(of, name, how, text) {#name, (PyCFunction)of##_##name, how, text}
 
 static PyMethodDef methods[] = {
-    METHOD(add, METH_O, "add($self, number, /)\n--\n\nPut a number in."),
-    METHOD(discard, METH_O, "discard($self, number, /)\n--\n\nTake a number out, if it is in."),
-    METHOD(remove, METH_O, "remove($self, number, /)\n--\n\nTake a member out. KeyError if the number is not in."),
-    METHOD(toggle, METH_O, "toggle($self, number, /)\n--\n\nTake a number out if it is in, else put it in. Return whether it is in now."),
-    METHOD(clear, METH_NOARGS, "clear($self, /)\n--\n\nTake every member out."),
-    METHOD(first, METH_NOARGS, "first($self, /)\n--\n\nReturn the least member, or None."),
-    METHOD(last, METH_NOARGS, "last($self, /)\n--\n\nReturn the greatest member, or None."),
-    METHOD(pop, METH_NOARGS, "pop($self, /)\n--\n\nTake the least member out and return it. KeyError if there is none."),
-    METHOD(pop_last, METH_NOARGS, "pop_last($self, /)\n--\n\nTake the greatest member out and return it. KeyError if there is none."),
-    METHOD(next, METH_O, "next($self, start, /)\n--\n\nReturn the least member that is start or above, or None."),
-    METHOD(previous, METH_O, "previous($self, stop, /)\n--\n\nReturn the greatest member below stop, or None."),
-    METHOD(next_missing, METH_O, "next_missing($self, start, /)\n--\n\nReturn the least number that is start or above and not in."),
-    METHOD(nth, METH_O, "nth($self, index, /)\n--\n\nReturn the member that so many others come before, or None."),
-    METHOD(next_run, METH_O, "next_run($self, start, /)\n--\n\nReturn the first range of members from start on, as its start and stop, or None."),
-    METHOD(first_gap, METH_VARARGS, "first_gap($self, start, count, /)\n--\n\nReturn the least number from start on at which count numbers in a row begin that are not in, or None."),
-    METHOD(shift_up, METH_O, "shift_up($self, distance, /)\n--\n\nMove each member up by the distance."),
-    METHOD(shift_down, METH_O, "shift_down($self, distance, /)\n--\n\nMove each member down by the distance. Those below it are gone."),
-    METHOD(copy_range, METH_VARARGS, "copy_range($self, start, stop, /)\n--\n\nReturn the set of the members in range(start, stop)."),
-    METHOD(add_range, METH_VARARGS, "add_range($self, start, stop, /)\n--\n\nPut each number of range(start, stop) in."),
-    METHOD(discard_range, METH_VARARGS, "discard_range($self, start, stop, /)\n--\n\nTake each number of range(start, stop) out."),
-    METHOD(toggle_range, METH_VARARGS, "toggle_range($self, start, stop, /)\n--\n\nToggle each number of range(start, stop)."),
-    METHOD(count_in_range, METH_VARARGS, "count_in_range($self, start, stop, /)\n--\n\nReturn how many members are in range(start, stop)."),
-    METHOD(any_in_range, METH_VARARGS, "any_in_range($self, start, stop, /)\n--\n\nReturn whether some number of range(start, stop) is in."),
-    METHOD(all_in_range, METH_VARARGS, "all_in_range($self, start, stop, /)\n--\n\nReturn whether every number of range(start, stop) is in."),
-    METHOD(from_range, METH_VARARGS | METH_CLASS, "from_range($type, start, stop, /)\n--\n\nMake the set of range(start, stop)."),
-    METHOD(from_bytes, METH_O | METH_CLASS, "from_bytes($type, bytes, /)\n--\n\nMake the set of the bits that are 1, those of each byte counted from the highest."),
-    METHOD(to_bytes, METH_NOARGS, "to_bytes($self, /)\n--\n\nReturn a bit for each number up to the greatest member, those of each byte from the highest."),
-    METHOD(from_bytes_lsb, METH_O | METH_CLASS, "from_bytes_lsb($type, bytes, /)\n--\n\nMake the set of the bits that are 1, those of each byte counted from the lowest."),
-    METHOD(to_bytes_lsb, METH_NOARGS, "to_bytes_lsb($self, /)\n--\n\nReturn a bit for each number up to the greatest member, those of each byte from the lowest."),
-    METHOD(to_array, METH_NOARGS, "to_array($self, /)\n--\n\nReturn the members in ascending order as an array.array, which NumPy reads with no copy."),
-    METHOD(copy, METH_NOARGS, "copy($self, /)\n--\n\nReturn a set of the same members."),
-    METHOD(update, METH_VARARGS, "update($self, *others)\n--\n\nPut the items of iterables in."),
-    METHOD(union, METH_VARARGS, "union($self, *others)\n--\n\nReturn the set of what is in this set or in one of the others."),
-    METHOD(intersection_update, METH_VARARGS, "intersection_update($self, *others)\n--\n\nKeep what is in each of the others."),
-    METHOD(intersection, METH_VARARGS, "intersection($self, *others)\n--\n\nReturn the set of what is in this set and in each of the others."),
-    METHOD(difference_update, METH_VARARGS, "difference_update($self, *others)\n--\n\nTake out what is in one of the others."),
-    METHOD(difference, METH_VARARGS, "difference($self, *others)\n--\n\nReturn the set of what is in this set and in none of the others."),
-    METHOD(symmetric_difference_update, METH_O, "symmetric_difference_update($self, other, /)\n--\n\nKeep what is in just one of this set and the other."),
-    METHOD(symmetric_difference, METH_O, "symmetric_difference($self, other, /)\n--\n\nReturn the set of what is in just one of this set and the other."),
-    METHOD(issubset, METH_O, "issubset($self, other, /)\n--\n\nReturn whether each member is in the other."),
-    METHOD(issuperset, METH_O, "issuperset($self, other, /)\n--\n\nReturn whether each item of the other is in."),
-    METHOD(isdisjoint, METH_O, "isdisjoint($self, other, /)\n--\n\nReturn whether no item of the other is in."),
-    METHOD(union_count, METH_O, "union_count($self, other, /)\n--\n\nReturn how many numbers are in this set or in the other."),
-    METHOD(intersection_count, METH_O, "intersection_count($self, other, /)\n--\n\nReturn how many numbers are in both."),
-    METHOD(difference_count, METH_O, "difference_count($self, other, /)\n--\n\nReturn how many members are not in the other."),
-    METHOD(symmetric_difference_count, METH_O, "symmetric_difference_count($self, other, /)\n--\n\nReturn how many numbers are in just one of both."),
+    METHOD(set, add, METH_O, "add($self, number, /)\n--\n\nPut a number in."),
+    METHOD(set, discard, METH_O, "discard($self, number, /)\n--\n\nTake a number out, if it is in."),
+    METHOD(set, remove, METH_O, "remove($self, number, /)\n--\n\nTake a member out. KeyError if the number is not in."),
+    METHOD(set, toggle, METH_O, "toggle($self, number, /)\n--\n\nTake a number out if it is in, else put it in. Return whether it is in now."),
+    METHOD(set, clear, METH_NOARGS, "clear($self, /)\n--\n\nTake every member out."),
+    METHOD(set, first, METH_NOARGS, "first($self, /)\n--\n\nReturn the least member, or None."),
+    METHOD(set, last, METH_NOARGS, "last($self, /)\n--\n\nReturn the greatest member, or None."),
+    METHOD(set, pop, METH_NOARGS, "pop($self, /)\n--\n\nTake the least member out and return it. KeyError if there is none."),
+    METHOD(set, pop_last, METH_NOARGS, "pop_last($self, /)\n--\n\nTake the greatest member out and return it. KeyError if there is none."),
+    METHOD(set, next, METH_O, "next($self, start, /)\n--\n\nReturn the least member that is start or above, or None."),
+    METHOD(set, previous, METH_O, "previous($self, stop, /)\n--\n\nReturn the greatest member below stop, or None."),
+    METHOD(set, next_missing, METH_O, "next_missing($self, start, /)\n--\n\nReturn the least number that is start or above and not in."),
+    METHOD(set, nth, METH_O, "nth($self, index, /)\n--\n\nReturn the member that so many others come before, or None."),
+    METHOD(set, next_run, METH_O, "next_run($self, start, /)\n--\n\nReturn the first range of members from start on, as its start and stop, or None."),
+    METHOD(set, first_gap, METH_VARARGS, "first_gap($self, start, count, /)\n--\n\nReturn the least number from start on at which count numbers in a row begin that are not in, or None."),
+    METHOD(set, shift_up, METH_O, "shift_up($self, distance, /)\n--\n\nMove each member up by the distance."),
+    METHOD(set, shift_down, METH_O, "shift_down($self, distance, /)\n--\n\nMove each member down by the distance. Those below it are gone."),
+    METHOD(set, copy_range, METH_VARARGS, "copy_range($self, start, stop, /)\n--\n\nReturn the set of the members in range(start, stop)."),
+    METHOD(set, add_range, METH_VARARGS, "add_range($self, start, stop, /)\n--\n\nPut each number of range(start, stop) in."),
+    METHOD(set, discard_range, METH_VARARGS, "discard_range($self, start, stop, /)\n--\n\nTake each number of range(start, stop) out."),
+    METHOD(set, toggle_range, METH_VARARGS, "toggle_range($self, start, stop, /)\n--\n\nToggle each number of range(start, stop)."),
+    METHOD(set, count_in_range, METH_VARARGS, "count_in_range($self, start, stop, /)\n--\n\nReturn how many members are in range(start, stop)."),
+    METHOD(set, any_in_range, METH_VARARGS, "any_in_range($self, start, stop, /)\n--\n\nReturn whether some number of range(start, stop) is in."),
+    METHOD(set, all_in_range, METH_VARARGS, "all_in_range($self, start, stop, /)\n--\n\nReturn whether every number of range(start, stop) is in."),
+    METHOD(set, from_range, METH_VARARGS | METH_CLASS, "from_range($type, start, stop, /)\n--\n\nMake the set of range(start, stop)."),
+    METHOD(set, from_bytes, METH_O | METH_CLASS, "from_bytes($type, bytes, /)\n--\n\nMake the set of the bits that are 1, those of each byte counted from the highest."),
+    METHOD(set, to_bytes, METH_NOARGS, "to_bytes($self, /)\n--\n\nReturn a bit for each number up to the greatest member, those of each byte from the highest."),
+    METHOD(set, from_bytes_lsb, METH_O | METH_CLASS, "from_bytes_lsb($type, bytes, /)\n--\n\nMake the set of the bits that are 1, those of each byte counted from the lowest."),
+    METHOD(set, to_bytes_lsb, METH_NOARGS, "to_bytes_lsb($self, /)\n--\n\nReturn a bit for each number up to the greatest member, those of each byte from the lowest."),
+    METHOD(set, to_array, METH_NOARGS, "to_array($self, /)\n--\n\nReturn the members in ascending order as an array.array, which NumPy reads with no copy."),
+    METHOD(set, copy, METH_NOARGS, "copy($self, /)\n--\n\nReturn a set of the same members."),
+    METHOD(set, update, METH_VARARGS, "update($self, *others)\n--\n\nPut the items of iterables in."),
+    METHOD(set, union, METH_VARARGS, "union($self, *others)\n--\n\nReturn the set of what is in this set or in one of the others."),
+    METHOD(set, intersection_update, METH_VARARGS, "intersection_update($self, *others)\n--\n\nKeep what is in each of the others."),
+    METHOD(set, intersection, METH_VARARGS, "intersection($self, *others)\n--\n\nReturn the set of what is in this set and in each of the others."),
+    METHOD(set, difference_update, METH_VARARGS, "difference_update($self, *others)\n--\n\nTake out what is in one of the others."),
+    METHOD(set, difference, METH_VARARGS, "difference($self, *others)\n--\n\nReturn the set of what is in this set and in none of the others."),
+    METHOD(set, symmetric_difference_update, METH_O, "symmetric_difference_update($self, other, /)\n--\n\nKeep what is in just one of this set and the other."),
+    METHOD(set, symmetric_difference, METH_O, "symmetric_difference($self, other, /)\n--\n\nReturn the set of what is in just one of this set and the other."),
+    METHOD(set, issubset, METH_O, "issubset($self, other, /)\n--\n\nReturn whether each member is in the other."),
+    METHOD(set, issuperset, METH_O, "issuperset($self, other, /)\n--\n\nReturn whether each item of the other is in."),
+    METHOD(set, isdisjoint, METH_O, "isdisjoint($self, other, /)\n--\n\nReturn whether no item of the other is in."),
+    METHOD(set, union_count, METH_O, "union_count($self, other, /)\n--\n\nReturn how many numbers are in this set or in the other."),
+    METHOD(set, intersection_count, METH_O, "intersection_count($self, other, /)\n--\n\nReturn how many numbers are in both."),
+    METHOD(set, difference_count, METH_O, "difference_count($self, other, /)\n--\n\nReturn how many members are not in the other."),
+    METHOD(set, symmetric_difference_count, METH_O, "symmetric_difference_count($self, other, /)\n--\n\nReturn how many numbers are in just one of both."),
     {"__copy__", set_shallow_copy, METH_NOARGS, NULL},
     {"__deepcopy__", set_deep_copy, METH_O, NULL},
     {"__reversed__", set_reversed, METH_NOARGS, "Walk over the members in descending order."},
@@ -67,6 +68,10 @@ static PyMemberDef members[] = {
     {"__weaklistoffset__", T_PYSSIZET, offsetof(BitSet, weak_references), READONLY, NULL},
     {NULL, 0, 0, 0, NULL},
 };
+
+/* Python 3.8 and 3.9 remember what they look up in a type only where it has the flag that later headers no longer put into the
+ * first one, and 3.8 breaks where a class with another metaclass stands on a type without it. */
+enum { FLAGS = Py_TPFLAGS_DEFAULT | Py_TPFLAGS_HAVE_VERSION_TAG };
 
 static PyType_Slot set_slots[] = {
     {Py_tp_doc, "BitSet(members=())\n--\n\nA set of numbers from 0 to MAX_ELEMENT, as a MutableSet."},
@@ -94,32 +99,30 @@ static PyType_Slot set_slots[] = {
 };
 
 static PyType_Spec set_spec = {
-    "bit_set.BitSet", sizeof(BitSet), 0, Py_TPFLAGS_DEFAULT | Py_TPFLAGS_BASETYPE, set_slots,
+    "bit_set.BitSet", sizeof(BitSet), 0, FLAGS | Py_TPFLAGS_BASETYPE, set_slots,
 };
 
-#define MATRIX_METHOD(name, how, text) {#name, (PyCFunction)matrix_##name, how, text}
-
 static PyMethodDef matrix_methods[] = {
-    MATRIX_METHOD(from_row, METH_VARARGS | METH_CLASS, "from_row($type, members, rows, /)\n--\n\nMake a matrix of so many rows that each have the members, with as many columns as the set is long."),
-    MATRIX_METHOD(copy, METH_NOARGS, "copy($self, /)\n--\n\nReturn a matrix of the same rows."),
-    MATRIX_METHOD(row, METH_O, "row($self, row, /)\n--\n\nReturn the set of the columns that are in the row."),
-    MATRIX_METHOD(add, METH_VARARGS, "add($self, row, column, /)\n--\n\nPut the column into the row. Return whether it was not in."),
-    MATRIX_METHOD(discard, METH_VARARGS, "discard($self, row, column, /)\n--\n\nTake the column out of the row. Return whether it was in."),
-    MATRIX_METHOD(count, METH_O, "count($self, row, /)\n--\n\nReturn how many columns are in the row."),
-    MATRIX_METHOD(count_all, METH_NOARGS, "count_all($self, /)\n--\n\nReturn how many columns are in all rows together."),
-    MATRIX_METHOD(add_range, METH_VARARGS, "add_range($self, row, start, stop, /)\n--\n\nPut each column of range(start, stop) into the row."),
-    MATRIX_METHOD(fill_row, METH_O, "fill_row($self, row, /)\n--\n\nPut each column into the row."),
-    MATRIX_METHOD(clear_row, METH_O, "clear_row($self, row, /)\n--\n\nTake each column out of the row."),
-    MATRIX_METHOD(union_rows, METH_VARARGS, "union_rows($self, read, write, /)\n--\n\nPut what is in the row read into the row write. Return whether that changed it."),
-    MATRIX_METHOD(intersect_rows, METH_VARARGS, "intersect_rows($self, read, write, /)\n--\n\nKeep in the row write what is in the row read. Return whether that changed it."),
-    MATRIX_METHOD(difference_rows, METH_VARARGS, "difference_rows($self, read, write, /)\n--\n\nTake out of the row write what is in the row read. Return whether that changed it."),
-    MATRIX_METHOD(union_row_with, METH_VARARGS, "union_row_with($self, members, row, /)\n--\n\nPut the members into the row. Return whether that changed it."),
-    MATRIX_METHOD(is_subset_row, METH_VARARGS, "is_subset_row($self, row, other, /)\n--\n\nReturn whether each column of the row is in the other row."),
-    MATRIX_METHOD(is_disjoint_row, METH_VARARGS, "is_disjoint_row($self, row, other, /)\n--\n\nReturn whether no column is in both rows."),
-    MATRIX_METHOD(transpose, METH_NOARGS, "transpose($self, /)\n--\n\nReturn the matrix that has a row for each column, with the rows that have that column."),
-    MATRIX_METHOD(transitive_closure, METH_NOARGS, "transitive_closure($self, /)\n--\n\nMake each row what a path of one edge or more leads to, where an edge leads from a row to each of its columns."),
-    MATRIX_METHOD(reflexive_transitive_closure, METH_NOARGS, "reflexive_transitive_closure($self, /)\n--\n\nMake each row what a path of any number of edges leads to, also of none."),
-    MATRIX_METHOD(dominators, METH_O, "dominators($self, entry, /)\n--\n\nReturn the matrix whose row v has what lies on every path from the row entry to v."),
+    METHOD(matrix, from_row, METH_VARARGS | METH_CLASS, "from_row($type, members, rows, /)\n--\n\nMake a matrix of so many rows that each have the members, with as many columns as the set is long."),
+    METHOD(matrix, copy, METH_NOARGS, "copy($self, /)\n--\n\nReturn a matrix of the same rows."),
+    METHOD(matrix, row, METH_O, "row($self, row, /)\n--\n\nReturn the set of the columns that are in the row."),
+    METHOD(matrix, add, METH_VARARGS, "add($self, row, column, /)\n--\n\nPut the column into the row. Return whether it was not in."),
+    METHOD(matrix, discard, METH_VARARGS, "discard($self, row, column, /)\n--\n\nTake the column out of the row. Return whether it was in."),
+    METHOD(matrix, count, METH_O, "count($self, row, /)\n--\n\nReturn how many columns are in the row."),
+    METHOD(matrix, count_all, METH_NOARGS, "count_all($self, /)\n--\n\nReturn how many columns are in all rows together."),
+    METHOD(matrix, add_range, METH_VARARGS, "add_range($self, row, start, stop, /)\n--\n\nPut each column of range(start, stop) into the row."),
+    METHOD(matrix, fill_row, METH_O, "fill_row($self, row, /)\n--\n\nPut each column into the row."),
+    METHOD(matrix, clear_row, METH_O, "clear_row($self, row, /)\n--\n\nTake each column out of the row."),
+    METHOD(matrix, union_rows, METH_VARARGS, "union_rows($self, read, write, /)\n--\n\nPut what is in the row read into the row write. Return whether that changed it."),
+    METHOD(matrix, intersect_rows, METH_VARARGS, "intersect_rows($self, read, write, /)\n--\n\nKeep in the row write what is in the row read. Return whether that changed it."),
+    METHOD(matrix, difference_rows, METH_VARARGS, "difference_rows($self, read, write, /)\n--\n\nTake out of the row write what is in the row read. Return whether that changed it."),
+    METHOD(matrix, union_row_with, METH_VARARGS, "union_row_with($self, members, row, /)\n--\n\nPut the members into the row. Return whether that changed it."),
+    METHOD(matrix, is_subset_row, METH_VARARGS, "is_subset_row($self, row, other, /)\n--\n\nReturn whether each column of the row is in the other row."),
+    METHOD(matrix, is_disjoint_row, METH_VARARGS, "is_disjoint_row($self, row, other, /)\n--\n\nReturn whether no column is in both rows."),
+    METHOD(matrix, transpose, METH_NOARGS, "transpose($self, /)\n--\n\nReturn the matrix that has a row for each column, with the rows that have that column."),
+    METHOD(matrix, transitive_closure, METH_NOARGS, "transitive_closure($self, /)\n--\n\nMake each row what a path of one edge or more leads to, where an edge leads from a row to each of its columns."),
+    METHOD(matrix, reflexive_transitive_closure, METH_NOARGS, "reflexive_transitive_closure($self, /)\n--\n\nMake each row what a path of any number of edges leads to, also of none."),
+    METHOD(matrix, dominators, METH_O, "dominators($self, entry, /)\n--\n\nReturn the matrix whose row v has what lies on every path from the row entry to v."),
     {"__copy__", matrix_shallow_copy, METH_NOARGS, NULL},
     {"__deepcopy__", matrix_deep_copy, METH_O, NULL},
     {"__reduce__", matrix_reduce, METH_NOARGS, NULL},
@@ -147,7 +150,7 @@ static PyType_Slot matrix_slots[] = {
 };
 
 static PyType_Spec matrix_spec = {
-    "bit_set.BitMatrix", sizeof(BitMatrix), 0, Py_TPFLAGS_DEFAULT | Py_TPFLAGS_BASETYPE, matrix_slots,
+    "bit_set.BitMatrix", sizeof(BitMatrix), 0, FLAGS | Py_TPFLAGS_BASETYPE, matrix_slots,
 };
 
 static PyType_Slot walk_slots[] = {
@@ -160,7 +163,7 @@ static PyType_Slot walk_slots[] = {
 };
 
 static PyType_Spec walk_spec = {
-    "bit_set.Walk", sizeof(Walk), 0, Py_TPFLAGS_DEFAULT | Py_TPFLAGS_HAVE_GC, walk_slots,
+    "bit_set.Walk", sizeof(Walk), 0, FLAGS | Py_TPFLAGS_HAVE_GC, walk_slots,
 };
 
 static struct PyModuleDef module_definition = {

@@ -22,7 +22,26 @@ enum reading read_number(PyObject *object, size_t *number)
     return NO_NUMBER;
 }
 
-/* The same, with an exception where there is no such number. The object may be borrowed from a list. */
+/* Reads which number an object equals, as a look-up in one of Python's own sets does: 4.0 is 4 too. What is no index must
+ * have a hash, and equals a number only where that is a member. */
+enum reading read_equal(PyObject *self, PyObject *object, size_t *number)
+{
+    if (PyLong_CheckExact(object) || PyIndex_Check(object))
+        return read_number(object, number);
+    /* What equals an int has its hash, and that of a number which a set has room for is the number. */
+    Py_hash_t hash = PyObject_Hash(object);
+    *number = (size_t)hash;
+    if (hash < 0)
+        return hash == -1 ? FAILED : NO_NUMBER;
+    if (!bit_set_contains(set_of(self), *number))
+        return NO_NUMBER;
+    PyObject *member = int_of(*number);
+    int is_equal = member ? PyObject_RichCompareBool(object, member, Py_EQ) : -1;
+    Py_XDECREF(member);
+    return (enum reading)is_equal;
+}
+
+/* Reads a number as `read_number` does, with an exception where there is none. The object may be borrowed from a list. */
 bool read_member(PyObject *object, size_t *number)
 {
     Py_INCREF(object);

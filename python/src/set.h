@@ -41,6 +41,7 @@ typedef struct {
 enum reading { FAILED = -1, NO_NUMBER = 0, NUMBER = 1 };
 
 typedef bool merge(bit_set *, const bit_set *);
+typedef int look(void *, PyObject *);
 
 /* The types, `Set` of collections.abc, and the type of arrays. */
 extern PyTypeObject *bit_set_type, *matrix_type, *walk_type;
@@ -79,6 +80,7 @@ PyObject *member_or_none(size_t member);
 bool read_bound(PyObject *object, size_t *bound, int *outside);
 int read_bounds(PyObject *first, PyObject *last, size_t *start, size_t *stop, bool *is_within);
 bool read_member(PyObject *object, size_t *number);
+enum reading read_equal(PyObject *self, PyObject *object, size_t *number);
 enum reading read_number(PyObject *object, size_t *number);
 
 /* copying.c */
@@ -92,6 +94,7 @@ bool put_attributes(PyObject *made, PyObject *state);
 /* making.c */
 PyObject *as_bit_set(PyObject *members);
 PyObject *blank(PyTypeObject *type);
+PyObject *copy_as(PyTypeObject *type, PyObject *self);
 PyObject *made_if(bool found_memory, PyObject *made);
 PyObject *set_add(PyObject *self, PyObject *member);
 PyObject *set_copy(PyObject *self, PyObject *Py_UNUSED(none));
@@ -107,6 +110,7 @@ int set_init(PyObject *self, PyObject *arguments, PyObject *named);
 void set_dealloc(PyObject *self);
 
 /* merging.c */
+PyObject *members_among(PyObject *self, PyObject *iterable, size_t *others);
 PyObject *set_and(PyObject *left, PyObject *right);
 PyObject *set_difference(PyObject *self, PyObject *others);
 PyObject *set_difference_update(PyObject *self, PyObject *others);
@@ -136,6 +140,7 @@ PyObject *set_symmetric_difference_count(PyObject *self, PyObject *items);
 PyObject *set_union_count(PyObject *self, PyObject *items);
 
 /* walking.c */
+int each_item(PyObject *walk, look *look_at, void *with);
 PyObject *set_from_bytes(PyObject *type, PyObject *bytes);
 PyObject *set_from_bytes_lsb(PyObject *type, PyObject *bytes);
 PyObject *set_iter(PyObject *self);

@@ -122,6 +122,20 @@ PyObject *set_reversed(PyObject *self, PyObject *Py_UNUSED(none))
     return walk_over(self, true);
 }
 
+/* Hands each item of a walk, which it lets go, to `look` with what goes with it, as long as that returns 1. Returns what it
+ * returned last, or 1 where there was no item; -1 goes with an exception. */
+int each_item(PyObject *walk, look *look_at, void *with)
+{
+    int found = 1;
+    PyObject *item;
+    while (found == 1 && walk && (item = PyIter_Next(walk))) {
+        found = look_at(with, item);
+        Py_DECREF(item);
+    }
+    Py_XDECREF(walk);
+    return PyErr_Occurred() ? -1 : found;
+}
+
 /* Asks for the next group. */
 static void fill(Walk *walk)
 {

@@ -1,24 +1,23 @@
 //! Random calls, from a fixed seed, beside the sets of Rust.
+mod common;
+
 use bit_set::{BitBlock, BitSet};
+use common::{Draws, over_both_widths};
 use std::cell::RefCell;
 use std::collections::BTreeSet;
 use std::thread;
-
-struct Draws(u64);
-
-impl Draws {
-    fn below(&mut self, n: u64) -> usize {
-        self.0 ^= self.0 << 13;
-        self.0 ^= self.0 >> 7;
-        self.0 ^= self.0 << 17;
-        (self.0 % n) as usize
-    }
-}
 
 fn same(set: &BitSet, model: &BTreeSet<usize>) {
     assert!(set.iter().eq(model.iter().copied()));
     assert_eq!(set.len(), model.len());
     assert_eq!(set.is_empty(), model.is_empty());
+}
+
+fn walks_over_both(x: &BitSet, y: &BitSet, a: &BTreeSet<usize>, b: &BTreeSet<usize>) {
+    assert!(x.union(y).eq(a.union(b).copied()));
+    assert!(x.intersection(y).eq(a.intersection(b).copied()));
+    assert!(x.difference(y).eq(a.difference(b).copied()));
+    assert!(x.symmetric_difference(y).eq(a.symmetric_difference(b).copied()));
 }
 
 #[test]
@@ -52,10 +51,7 @@ fn calls_on_two_sets() {
         };
         let (a, b) = (draw(), draw());
         let (x, y): (BitSet, BitSet) = (a.iter().copied().collect(), b.iter().copied().collect());
-        assert!(x.union(&y).eq(a.union(&b).copied()));
-        assert!(x.intersection(&y).eq(a.intersection(&b).copied()));
-        assert!(x.difference(&y).eq(a.difference(&b).copied()));
-        assert!(x.symmetric_difference(&y).eq(a.symmetric_difference(&b).copied()));
+        walks_over_both(&x, &y, &a, &b);
         assert_eq!(x.is_subset(&y), a.is_subset(&b));
         assert_eq!(x.is_superset(&y), a.is_superset(&b));
         assert_eq!(x.is_disjoint(&y), a.is_disjoint(&b));
@@ -115,11 +111,7 @@ fn calls_on_ranges<B: BitBlock>() {
     }
 }
 
-#[test]
-fn calls_on_ranges_over_both_widths() {
-    calls_on_ranges::<u32>();
-    calls_on_ranges::<u64>();
-}
+over_both_widths!(calls_on_ranges_over_both_widths, calls_on_ranges);
 
 #[test]
 fn calls_on_ends_and_searches() {
@@ -173,11 +165,7 @@ fn clone_of_a_walk<B: BitBlock>() {
     assert!(walk.eq([70, 3000]) && copy.eq([70, 3000]));
 }
 
-#[test]
-fn clones_of_walks_over_any_blocks() {
-    clone_of_a_walk::<u32>();
-    clone_of_a_walk::<u64>();
-}
+over_both_widths!(clones_of_walks_over_any_blocks, clone_of_a_walk);
 
 #[test]
 fn walks_over_sets_of_many_groups() {
@@ -190,10 +178,7 @@ fn walks_over_sets_of_many_groups() {
         };
         let (a, b) = (draw(), draw());
         let (x, y): (BitSet, BitSet) = (a.iter().copied().collect(), b.iter().copied().collect());
-        assert!(x.union(&y).eq(a.union(&b).copied()));
-        assert!(x.intersection(&y).eq(a.intersection(&b).copied()));
-        assert!(x.difference(&y).eq(a.difference(&b).copied()));
-        assert!(x.symmetric_difference(&y).eq(a.symmetric_difference(&b).copied()));
+        walks_over_both(&x, &y, &a, &b);
         let mut walk = x.iter();
         walk.by_ref().take(a.len() / 2).for_each(drop);
         assert!(walk.clone().eq(a.iter().copied().skip(a.len() / 2)));

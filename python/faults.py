@@ -1,0 +1,381 @@
+"""Calls each method where something fails or changes the set on the way, beside Python's own sets.
+
+    PYTHONPATH=MODULE python3 python/faults.py
+
+It also looks for what is not given back then, and, where Python has its module _testcapi, lets each of Python's requests for
+memory fail in turn.
+"""
+
+import array
+import copy
+import ctypes
+import functools
+import gc
+import itertools
+import pickle
+import sys
+import threading
+import unittest
+from collections.abc import Set
+from decimal import Decimal
+from fractions import Fraction
+
+from bit_set import MAX_ELEMENT, BitMatrix, BitSet
+
+try:
+    from _testcapi import remove_mem_hooks, set_nomemory
+except ImportError:
+    set_nomemory = None
+
+MEMBERS = (1, 2, 3, 70, 400)
+
+
+class MallInfo(ctypes.Structure):
+    """What the C library tells of its memory."""
+
+    _fields_ = [(str(at), ctypes.c_size_t) for at in range(10)]
+
+
+c_library = ctypes.CDLL(None)
+has_mallinfo = hasattr(c_library, "mallinfo2")
+if has_mallinfo:
+    c_library.mallinfo2.restype = MallInfo
+
+
+class Fault(Exception):
+    """What the classes below raise."""
+
+
+class Number(int):
+    """A number of a class of its own."""
+
+
+class Index:
+    """What has a number, or raises as it is asked for it."""
+
+    def __init__(self, number=None, act=None):
+        self.number, self.act = number, act
+
+    def __index__(self):
+        if self.act:
+            self.act()
+        if self.number is None:
+            raise Fault
+        return self.number
+
+
+class NoHash:
+    """What raises as it is asked for its hash."""
+
+    def __hash__(self):
+        raise Fault
+
+
+class Equal:
+    """What has the hash of a member, and does something as it is compared."""
+
+    def __init__(self, act=None):
+        self.act = act
+
+    def __hash__(self):
+        return 3
+
+    def __eq__(self, other):
+        if not self.act:
+            raise Fault
+        self.act()
+        return True
+
+
+class FaultySet(Set):
+    """A set that raises in one of its methods."""
+
+    def __init__(self, fault):
+        self.fault = fault
+
+    def __len__(self):
+        return self._or_raise("len", 2)
+
+    def __contains__(self, number):
+        return self._or_raise("contains", number in (1, 2))
+
+    def __iter__(self):
+        return self._or_raise("iter", stops_after(1) if self.fault == "next" else iter((1, 2)))
+
+    def _or_raise(self, call, answer):
+        if self.fault == call:
+            raise Fault
+        return answer
+
+
+def stops_after(*items):
+    """A walk that raises after these items."""
+    yield from items
+    raise Fault
+
+
+def acts_after(act, *items):
+    """A walk that does something between two items."""
+    yield from items
+    act()
+    yield 2
+
+
+def raised(call):
+    """What a call returns, or the class of what it raises."""
+    try:
+        return call()
+    except Exception as error:
+        return type(error)
+
+
+# What equals a number and is no int, or equals none, or raises. All of these a set of Python's takes the same way.
+def items():
+    numbers = (3, 5, True, Number(3), Number(9), -1, 2**70, -(2**70), MAX_ELEMENT, MAX_ELEMENT + 1)
+    others = (3.0, 5.0, -1.0, float("nan"), float("inf"), 3 + 0j, Fraction(3), Fraction(7, 2), Decimal(3), "x", b"x", None)
+    return [*numbers, *others, (1,), frozenset(), [], {}, NoHash(), Equal()]
+
+
+# Iterables of which each makes a new one.
+def iterables(set_):
+    for item in items():
+        yield [1, item, 70]
+        yield (item,)
+        yield iter([1, 2, item])
+    for part in ([], [1], [1, 2, 3], [2, 9, 70], list(MEMBERS), [*MEMBERS, 5]):
+        yield from (part, tuple(part), iter(part), set(part), frozenset(part), dict.fromkeys(part), dict.fromkeys(part).keys())
+        yield from (BitSet(part), array.array("q", part), (number for number in part))
+    yield from (stops_after(), stops_after(1), stops_after(1, 2, 9), stops_after(*MEMBERS))
+    yield from (range(3), range(-2, 3), "x", "", b"\1\2", 5, None, set_, {3.0, 2}, {1: 2, "x": 3}, array.array("d", [3.0]))
+
+
+# What changes the set while it is read.
+def restless(set_):
+    acts = (set_.clear, lambda: set_.add(9000), lambda: set_.__init__([9]), lambda: set_.intersection_update([1]))
+    for act in acts:
+        yield from (acts_after(act), acts_after(act, 1, 400), [1, Index(2, act), 70], [Equal(act)], [Index(70, act)] * 600)
+
+
+IN_PLACE = ("intersection_update", "difference_update")
+NEW = ("intersection", "difference")
+TESTS = ("issubset", "issuperset", "isdisjoint")
+# Those that ask for no more items than they need, as sets of Python's do from this version on.
+EARLY = {"intersection": (3, 11), "intersection_update": (3, 11), "issuperset": (3, 11), "issubset": (3, 12)}
+OPERATORS = ("__and__", "__sub__", "__rand__", "__rsub__", "__iand__", "__isub__")
+COMPARISONS = ("__eq__", "__ne__", "__le__", "__lt__", "__ge__", "__gt__")
+# Those that put items in take numbers alone.
+GROWING = ("update", "union", "symmetric_difference_update", "symmetric_difference", "__or__", "__ior__", "__xor__", "__ixor__")
+COUNTS = ("union_count", "intersection_count", "difference_count", "symmetric_difference_count")
+
+
+def outcome(set_, name, *operands):
+    """What a call comes to, as a value that can be compared, and the members after it."""
+    found = raised(lambda: getattr(set_, name)(*operands))
+    return frozenset(found) if isinstance(found, (BitSet, set, frozenset)) else found, set(set_)
+
+
+class Beside(unittest.TestCase):
+    """Calls whose outcome must be that of a set of Python's."""
+
+    def same(self, name, make, *places):
+        """The call with the operands at these places of those that `make` gives."""
+        if sys.version_info < EARLY.get(name, (3, 0)):
+            return
+        outcomes = []
+        for kind in (BitSet, set):
+            set_ = kind(MEMBERS)
+            outcomes.append(outcome(set_, name, *(next(itertools.islice(make(set_), place, None)) for place in places)))
+        self.assertEqual(*outcomes, (name, places))
+
+    def test_items(self):
+        for name in ("__contains__", "discard", "remove"):
+            for place in range(len(items())):
+                self.same(name, lambda _: iter(items()), place)
+
+    def test_one_iterable(self):
+        for place in range(len(list(iterables(BitSet())))):
+            for name in (*IN_PLACE, *NEW, *TESTS):
+                self.same(name, iterables, place)
+
+    def test_operators_and_comparisons(self):
+        for place, other in enumerate(iterables(BitSet())):
+            if isinstance(other, (set, frozenset)):
+                for name in (*OPERATORS, *COMPARISONS):
+                    self.same(name, iterables, place)
+
+    def test_several_iterables(self):
+        places = [at for at, it in enumerate(iterables(BitSet())) if not isinstance(it, (list, tuple)) or at % 7 == 0]
+        for name in (*IN_PLACE, *NEW):
+            for two in itertools.product(places[::2], places[::3]):
+                self.same(name, iterables, *two)
+            self.same(name, iterables)
+
+    def test_growing(self):
+        def make(_):
+            yield from ([1, 9], (9,), {9, 1}, BitSet([9]), range(5), stops_after(1, 9), stops_after(), 5, NoIter())
+
+        for name in GROWING:
+            for place in range(9):
+                if name[:2] != "__" or place == 2:
+                    self.same(name, make, place)
+        for two in itertools.product(range(9), repeat=2):
+            self.same("update", make, *two)
+            self.same("union", make, *two)
+
+
+class NoIter:
+    """What raises as it is asked for a walk."""
+
+    def __iter__(self):
+        raise Fault
+
+
+def bound(set_, name, *operands):
+    """A call that is ready to be made."""
+    return functools.partial(getattr(set_, name), *operands)
+
+
+def calls_with_items():
+    """Names, and functions that each make a call ready, of a method of a set or a matrix of its own."""
+    number = [*items(), 4, Index(), Index(4), Index(-(2**70)), object()]
+    hidden = ("__class__", "__init_subclass__", "__subclasshook__", "__new__", "__getattribute__", "__delattr__")
+    for make in (lambda: BitSet(MEMBERS), lambda: BitMatrix(5, 80)):
+        for name in dir(make()):
+            if name not in hidden and callable(getattr(make(), name)):
+                yield name, lambda make=make, name=name: bound(make(), name)
+                for at, before in itertools.product(range(len(number)), ((), (1,))):
+                    yield name, lambda make=make, name=name, at=at, before=before: bound(make(), name, *before, number[at])
+                    yield name, lambda make=make, name=name, at=at, before=before: bound(make(), name, number[at], *before)
+
+
+def calls_with_iterables():
+    names = (*IN_PLACE, *NEW, *TESTS, *OPERATORS, *COMPARISONS, *GROWING, *COUNTS, "__init__")
+
+    def ready(name, make, place):
+        set_ = BitSet(MEMBERS)
+        return bound(set_, name, next(itertools.islice(make(set_), place, None)))
+
+    for make in (iterables, restless, lambda _: map(FaultySet, ("len", "contains", "iter", "next"))):
+        for place, name in itertools.product(range(len(list(make(BitSet())))), names):
+            yield name, lambda name=name, make=make, place=place: ready(name, make, place)
+
+
+def calls_that_make():
+    class Faulty(BitSet):
+        def __setstate__(self, state):
+            raise Fault
+
+        def __reduce__(self):
+            raise Fault
+
+    def faulty():
+        made = Faulty(MEMBERS)
+        made.name = "x"
+        return made
+
+    for call in (copy.copy, copy.deepcopy, pickle.dumps, repr, list, reversed, sorted, BitSet, set, iter, len, bool):
+        for make in (lambda: BitSet(MEMBERS), faulty):
+            yield call.__name__, lambda call=call, make=make: functools.partial(call, make())
+    for call in (copy.copy, copy.deepcopy, pickle.dumps, repr):
+        yield call.__name__, lambda call=call: functools.partial(call, BitMatrix(3, 90))
+    for kind, name, rest in ((BitSet, "from_range", (0, 9)), (BitSet, "from_bytes", (b"\1",)), (BitMatrix, "from_row", ([1], 2))):
+        yield name, lambda kind=kind, name=name, rest=rest: bound(kind, name, *rest)
+        for item in (*items(), Index(), memoryview(b"123")[::2], NoIter()):
+            yield name, lambda kind=kind, name=name, rest=rest, item=item: bound(kind, name, item, *rest[1:])
+            yield name, lambda kind=kind, name=name, rest=rest, item=item: bound(kind, name, *rest[:-1], item)
+    yield "BitMatrix", lambda: functools.partial(BitMatrix, 2**40, 2**40)
+
+
+class Everything(unittest.TestCase):
+    """Every method with every operand: it must return or raise, and give back what it took."""
+
+    def setUp(self):
+        # What a walk raises as it is let go.
+        hook = sys.unraisablehook
+        self.addCleanup(setattr, sys, "unraisablehook", hook)
+        sys.unraisablehook = lambda _: None
+
+    def test_what_is_not_given_back(self):
+        # A collection would give back what Python keeps for later calls.
+        gc.disable()
+        self.addCleanup(gc.enable)
+        for name, make_ready in itertools.chain(calls_with_items(), calls_with_iterables(), calls_that_make()):
+            # What Python keeps for later calls is there after the first ones.
+            held(make_ready, 5)
+            if max(held(make_ready, 10)) >= 10:
+                with self.subTest(name=name):
+                    held(make_ready, 100)
+                    self.assertLess(max(held(make_ready, 100)), 100)
+
+    @unittest.skipUnless(set_nomemory and sys.version_info >= (3, 11), "older versions break themselves where there is none")
+    def test_each_request_for_memory_of_pythons_fails(self):
+        some = itertools.islice(calls_with_iterables(), 0, None, 5)
+        for _, make_ready in itertools.chain(calls_with_items(), some, calls_that_make()):
+            for at in range(12):
+                call = make_ready()
+                set_nomemory(at, at + 1)
+                try:
+                    call()
+                except Exception:
+                    pass
+                finally:
+                    remove_mem_hooks()
+
+
+def in_use():
+    """How many blocks Python has handed out, and how many bytes the C library, where that tells."""
+    return sys.getallocatedblocks(), getattr(c_library.mallinfo2(), "7") if has_mallinfo else 0
+
+
+def held(make_ready, times):
+    """How many blocks and bytes more there are after so many calls."""
+    before = in_use()
+    for _ in range(times):
+        raised(make_ready())
+    return tuple(after - had for after, had in zip(in_use(), before))
+
+
+class Threads(unittest.TestCase):
+    def test_threads_that_change_shared_sets(self):
+        """Whatever threads do to shared sets, each call sees whole ones."""
+        sets = [BitSet(range(0, 3000, step)) for step in (1, 2, 7)]
+        faults = []
+
+        def work(seed):
+            calls = itertools.cycle(
+                (
+                    lambda a, b: a.intersection_update(iter(b), b),
+                    lambda a, b: a.update(number for number in b),
+                    lambda a, b: a.difference_update(list(b)[::3]),
+                    lambda a, b: a.symmetric_difference_update(b),
+                    lambda a, b: a.__init__(range(0, 3000, 5)),
+                    lambda a, b: [a.pop() for _ in range(3)],
+                    lambda a, b: (a | b, a & b, a - b, a ^ b, a == b, a <= set(b), len(a), repr(a), a.to_array()),
+                )
+            )
+            for at in range(seed, seed + 700):
+                try:
+                    next(calls)(sets[at % 3], sets[(at // 3) % 3])
+                except (KeyError, RuntimeError):
+                    pass
+                except BaseException as error:
+                    faults.append(error)
+                    raise
+
+        interval = sys.getswitchinterval()
+        sys.setswitchinterval(1e-6)
+        try:
+            threads = [threading.Thread(target=work, args=(seed,)) for seed in range(4)]
+            for thread in threads:
+                thread.start()
+            for thread in threads:
+                thread.join()
+        finally:
+            sys.setswitchinterval(interval)
+        self.assertEqual(faults, [])
+        for each in sets:
+            self.assertTrue(all(number < 9001 for number in each))
+
+
+if __name__ == "__main__":
+    unittest.main()
