@@ -1,11 +1,10 @@
 # What `bench/run` and `diff/run` share: it gets and builds the Rust crates that this library is put beside, and builds
-# this library for Rust. To be sourced, with the name of the script in `script`, and in `folder` where the crates are
-# kept, outside the repository. It ends the script with status 1 where something fails, and with 2 where something is
-# missing.
+# this library for Rust. To be sourced, with the name of the script in `script`, the processor that both sides are built
+# for in `cpu`, and in `folder` where the crates are kept, outside the repository. What is built is in `built`, a folder
+# there. It ends the script with status 1 where something fails, and with 2 where something is missing.
 # shellcheck shell=bash disable=SC2154
 # shellcheck source=../tools/ending.sh
 . "$(dirname "${BASH_SOURCE[0]}")/../tools/ending.sh"
-cpu=x86-64-v2
 crates="$(cd "$(dirname "${BASH_SOURCE[0]}")/../crates" && pwd -P)"
 
 say() {
@@ -32,8 +31,10 @@ in_folder() { cd "$1" && "${@:2}"; }
 
 command -v rt > /dev/null || missing rt "the Rattle toolchain's command, on the PATH"
 command -v rustc > /dev/null || missing rustc "the Rust compiler, of edition 2024 (1.85 or later), on the PATH"
-mkdir -p "$folder"
+[ "$cpu" != x86-64-v3 ] || grep -qw avx2 /proc/cpuinfo || missing AVX2 "this processor runs no code for $cpu"
+mkdir -p "$folder/$cpu"
 folder="$(cd "$folder" && pwd -P)"
+built="$folder/$cpu"
 # One run at a time gets and builds there, until `unlock`. What it starts has this lock too.
 exec {locked}< "$folder"
 if ! flock -n "$locked"; then
@@ -94,7 +95,7 @@ get_croaring() {
     [ -f "$croaring" ] || missing "$croaring" "it is part of Debian's package libroaring0; remove $folder/libroaring0 and try again"
 }
 
-# Both sides are built for the same processors: rt builds for x86-64-v2.
+# Both sides are built for the same processor.
 rust() {
     quietly rustc -C opt-level=3 -C "target-cpu=$cpu" --cap-lints allow "$@"
 }
@@ -104,14 +105,15 @@ peer() {
     shift
     source="$(echo "$sources/${name//_/-}"-*/src/lib.rs)"
     [ -f "$source" ] || missing "$source" "it is part of Debian's package of that crate; remove $folder and try again"
-    rust --edition 2018 --crate-type rlib --crate-name "$name" --cfg 'feature="std"' "$source" -o "$folder/lib$name.rlib" "$@"
+    rust --edition 2018 --crate-type rlib --crate-name "$name" --cfg 'feature="std"' "$source" \
+        -o "$built/lib$name.rlib" "$@"
 }
 
 build_peers() {
     [ -d "$sources" ] || get_peers
     say "building the peers"
     peer bit_vec
-    peer bit_set --extern "bit_vec=$folder/libbit_vec.rlib"
+    peer bit_set --extern "bit_vec=$built/libbit_vec.rlib"
     peer fixedbitset
 }
 
@@ -123,12 +125,14 @@ is_newer() {
         -o \( -name '*.rs' -o -name '*.rt' -o -name '*.antt' \) -newer "$file" -print -quit)" ]
 }
 
-# Makes the static library NAME, out/libNAME.a of its crate. To rt the crate is a library as any other, which the gate
-# proves in less time; so the compiler is called here, over the libraries below as rt proves them.
+# Makes the static library NAME, out/PROCESSOR/libNAME.a of its crate. To rt the crate is a library as any other, which
+# the gate proves in less time; so the compiler is called here, over the libraries below as rt proves them. What it
+# proves is kept for the next processor.
 build_static() {
-    local name="$1" kit library words
+    local name="$1" archive="out/$cpu/lib$1.a" kit library words
     kit="$(dirname "$(rt doc | head -n 1)")"
-    words=(--crate-name "$name" --crate-type staticlib --jobs "$(nproc)" --links "$name=" -L "dependency=$kit/rlibs")
+    words=(--crate-name "$name" --crate-type staticlib --cpu "$cpu" --jobs "$(nproc)" --links "$name=")
+    words+=(--incremental out/kept -L "dependency=$kit/rlibs")
     for library in std $(sed -n "s/^$name: //p" "$crates/../crates.txt"); do
         if [ -d "$crates/$library" ]; then
             quietly in_folder "$crates/$library" rt lib
@@ -141,9 +145,9 @@ build_static() {
         words+=(-L "dependency=$library")
     done
     words+=(--toolchain "$kit/toolchain" --antt-project "$kit/rattle/logic/antt-project.json")
-    words+=(--logic-built "$kit/logic_built" --backend llvm -o "out/lib$name.a")
-    mkdir -p "$crates/$name/out"
-    is_newer "$crates/$name/out/lib$name.a" "$crates" \
+    words+=(--logic-built "$kit/logic_built" --backend llvm -o "$archive")
+    mkdir -p "$crates/$name/out/$cpu" "$crates/$name/out/kept"
+    is_newer "$crates/$name/$archive" "$crates" \
         || quietly in_folder "$crates/$name" "$kit/bin/rattle" build "${words[@]}" src/lib.rt
 }
 
@@ -154,7 +158,7 @@ build_over() {
     say "proving and building this library, which takes some minutes the first time"
     for name in $1; do
         build_static "$name"
-        libraries+=(-C "link-arg=$crates/$name/out/lib$name.a")
+        libraries+=(-C "link-arg=$crates/$name/out/$cpu/lib$name.a")
     done
     rust --edition 2024 "$2" "${libraries[@]}" -o "$3" "${@:4}"
 }
@@ -165,8 +169,8 @@ build_program() {
     local memory
     memory="$(dirname "$(rt doc | head -n 1)")/c/liblibc_c.a"
     [ -f "$memory" ] || missing "$memory" "the toolchain's library of the calls that take memory"
-    build_over "$@" -C "link-arg=$memory" -L "$folder" --extern "bit_set=$folder/libbit_set.rlib" \
-        --extern "bit_vec=$folder/libbit_vec.rlib" --extern "fixedbitset=$folder/libfixedbitset.rlib"
+    build_over "$@" -C "link-arg=$memory" -L "$built" --extern "bit_set=$built/libbit_set.rlib" \
+        --extern "bit_vec=$built/libbit_vec.rlib" --extern "fixedbitset=$built/libfixedbitset.rlib"
 }
 
 # Debian's sources of CRoaring, by lists of packages of their own.
@@ -182,9 +186,10 @@ get_croaring_sources() {
     tar -C "$lists" -xf "$(echo "$lists"/croaring_*.orig.tar.*)" 2> /dev/null
 }
 
-# CRoaring built for the processors of the other sides, in `croaring_built`, which stays empty where its sources cannot be had.
+# CRoaring built for the processor of the other sides, in `croaring_built`, which stays empty where its sources cannot
+# be had.
 build_croaring() {
-    croaring_built="$folder/libroaring_$cpu.so"
+    croaring_built="$built/libroaring.so"
     [ ! -f "$croaring_built" ] || return 0
     say "building CRoaring"
     if ! get_croaring_sources; then
@@ -205,7 +210,8 @@ build_sparse_bits() {
         headers="$folder/llvm-14-dev$headers"
     }
     compiler="$(command -v clang++ || command -v g++)" || missing clang++ "or g++, which compiles LLVM's SparseBitVector"
-    quietly "$compiler" -std=c++14 -O3 "-march=$cpu" -DNDEBUG -fno-exceptions -I"$headers" -c "$bench/sparse_bits.cc" -o "$folder/sparse_bits.o"
+    quietly "$compiler" -std=c++14 -O3 "-march=$cpu" -DNDEBUG -fno-exceptions -I"$headers" -c "$bench/sparse_bits.cc" \
+        -o "$built/sparse_bits.o"
 }
 
 # Which toolchains and peers these are.

@@ -11,6 +11,7 @@ mod table;
 
 use inputs::{Random, overlapping};
 use roaring_sides::{CALLS, bytes_held, open_both, sides_of};
+use std::env;
 use std::process::ExitCode;
 use table::{Table, Work};
 
@@ -60,7 +61,8 @@ fn main() -> ExitCode {
         return ExitCode::from(2);
     }
     let mut columns = vec!["Roaring bitmaps", "Per", "here"];
-    for peer in ["CRoaring", "CRoaring for x86-64-v2", "`BitSet<u64>`", "`BTreeSet`"] {
+    let built = format!("CRoaring for {}", env::var("PROCESSOR").as_deref().unwrap_or("this"));
+    for peer in ["CRoaring", &built, "`BitSet<u64>`", "`BTreeSet`"] {
         columns.extend([peer, "ratio"]);
     }
     let mut table = Table::start(&columns);

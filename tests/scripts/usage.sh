@@ -14,6 +14,15 @@ for script in add gate look c/build release diff/run bench/run; do
     expect "$script with wrong words says no usage" says 'usage: '
 done
 
+for words in --cpu '--cpu x86-64-v4' '--cpu x86-64-v3 --wrong' '--cpu=x86-64-v3' "$room/bench no-table"; do
+    ended=0
+    # shellcheck disable=SC2086  # each word is one
+    "$top/bench/run" $words > "$room/wrote" 2> "$room/said" < /dev/null || ended=$?
+    expect "bench/run $words ends with $ended" ends_with 2
+    expect "bench/run $words says no usage" says 'usage: '
+done
+expect 'bench/run makes a folder for wrong words' [ ! -e "$room/bench" ]
+
 # An empty repository beside that from which libraries are copied.
 from="$room/from"
 mkdir -p "$from" "$room/theirs/crates"
