@@ -52,6 +52,14 @@ calls! {
     RemoveRuns "remove_runs" "s"
     RangeCardinality "range_cardinality" "snm"
     ContainsRange "contains_range" "snm"
+    InsertRange "insert_range" "snm"
+    RemoveRange "remove_range" "snm"
+    Push "push" "sn"
+    Append "append" "snmc"
+    Extend "extend" "snmc"
+    FromIter "from_iter" "snmc"
+    FromSortedIter "from_sorted_iter" "snmc"
+    SerializeInto "serialize_into" "sc"
 }
 
 impl Call {

@@ -57,7 +57,8 @@ impl Draw {
             let is_rare = match call {
                 Call::Clear | Call::Intersection | Call::IntersectWith | Call::Clone => true,
                 // Numbers by the thousand take longer than the rest together.
-                Call::Spread | Call::Scatter | Call::Erase => self.most > 1_000,
+                Call::Spread | Call::Scatter | Call::Erase | Call::Append | Call::Extend => self.most > 1_000,
+                Call::FromIter | Call::FromSortedIter => true,
                 _ => false,
             };
             if !is_rare || self.random.once_in(5) {
@@ -68,7 +69,7 @@ impl Draw {
 
     fn numbers(&mut self, line: &mut Line, set: &Set) {
         match line.call {
-            Call::Spread | Call::Erase => {
+            Call::Spread | Call::Erase | Call::Append | Call::Extend | Call::FromIter | Call::FromSortedIter => {
                 line.first = self.number(set);
                 line.second = self.random.of(&[1, 1, 1, 2, 3, 7, 16, 63, 4_096, 65_536, 1_000_003]);
                 let most = if line.second < 4_096 { self.most } else { 40 };
@@ -80,7 +81,14 @@ impl Draw {
                 line.second = 256 * self.number(set) + bits;
                 line.count = self.count(if bits < 20 { self.most } else { 60 });
             }
-            Call::Serialize | Call::Deserialize | Call::SerializedSize => line.count = self.random.below(2),
+            Call::Serialize | Call::SerializeInto | Call::Deserialize | Call::SerializedSize => {
+                line.count = self.random.below(2);
+            }
+            Call::InsertRange | Call::RemoveRange => {
+                line.first = self.number(set);
+                let longest = if self.random.once_in(10) { 200_000 } else { 300 };
+                line.second = line.first + self.random.below(longest);
+            }
             Call::RangeCardinality | Call::ContainsRange => {
                 line.first = self.number(set);
                 let ends = [line.first + self.random.below(300), self.number(set), 1 << 32, line.first];

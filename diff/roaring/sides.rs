@@ -77,13 +77,13 @@ impl<'a> Peer<'a> {
         Peer { calls, sets: [set(), set(), set(), set()], input: Vec::new(), written: None }
     }
 
-    /// The bytes of a set in the form of the line.
+    /// The bytes of a set in the form of the line. CRoaring finds the fewest bytes of lists and blocks, and leaves some runs that
+    /// have more.
     fn bytes(&self, set: usize, line: &Line) -> Vec<u8> {
         let mut copy = self.sets[set].clone();
+        copy.remove_runs();
         if line.count == 1 {
             copy.optimize();
-        } else {
-            copy.remove_runs();
         }
         copy.bytes()
     }
@@ -92,13 +92,14 @@ impl<'a> Peer<'a> {
     fn call(&mut self, line: &mut Line, bend: Option<&Bend>) -> Words {
         let mut returned = match line.call {
             Call::Deserialize => self.read(line),
-            Call::Serialize => self.write(line),
+            Call::Serialize | Call::SerializeInto => self.write(line),
             Call::Clone => {
                 self.sets[line.set] = self.sets[line.one].clone();
                 0
             }
             _ if line.call.is_in_place() => self.merge(line),
             Call::Union | Call::Intersection | Call::Difference | Call::SymmetricDifference => self.make(line),
+            Call::Append | Call::Extend | Call::FromIter | Call::FromSortedIter => self.change_by_items(line),
             _ => self.change(line).unwrap_or_else(|| self.look(line)),
         };
         if let Some(bend) = bend.filter(|bend| bend.call == line.call) {
@@ -143,6 +144,33 @@ impl<'a> Peer<'a> {
         usize::from(self.sets[line.set] != before)
     }
 
+    /// A call by items. Those of `append` go in up to the first that is not above the ones before, and a set of sorted items is
+    /// made where all are.
+    fn change_by_items(&mut self, line: &Line) -> usize {
+        let numbers = numbers_of(line);
+        let set = &mut self.sets[line.set];
+        let is_past = |set: &Set, number: u32| set.max().is_none_or(|last| last < number);
+        match line.call {
+            Call::Append => numbers.iter().take_while(|number| is_past(set, **number) && set.insert(**number)).count(),
+            Call::Extend => {
+                for number in numbers {
+                    set.insert(number);
+                }
+                0
+            }
+            _ => {
+                let mut made = Set::new(self.calls);
+                let sorted = line.call == Call::FromSortedIter;
+                let goes_in = |number: &&u32| (!sorted || is_past(&made, **number)) && (made.insert(**number) || !sorted);
+                let count = numbers.iter().take_while(goes_in).count();
+                if count == numbers.len() {
+                    *set = made;
+                }
+                if sorted { count } else { 0 }
+            }
+        }
+    }
+
     /// A call that changes one set by numbers: `None` where the line's is another one.
     fn change(&mut self, line: &Line) -> Option<usize> {
         let set = &mut self.sets[line.set];
@@ -165,6 +193,9 @@ impl<'a> Peer<'a> {
                 set.remove_runs();
                 0
             }
+            Call::InsertRange => set.insert_range(line.first as u64, line.second as u64) as usize,
+            Call::RemoveRange => set.remove_range(line.first as u64, line.second as u64) as usize,
+            Call::Push => usize::from(set.max().is_none_or(|last| last < number) && set.insert(number)),
             Call::Erase => numbers_of(line).iter().filter(|number| set.remove(**number)).count(),
             _ => return None,
         })
@@ -184,10 +215,7 @@ impl<'a> Peer<'a> {
             Call::Iter => digest_of_walk(&set.numbers(), line.count),
             Call::SerializedSize => self.bytes(line.set, line).len(),
             Call::RangeCardinality => set.range_len(line.first as u64, line.second as u64) as usize,
-            Call::ContainsRange => {
-                let size = line.second.saturating_sub(line.first) as u64;
-                usize::from(set.range_len(line.first as u64, line.second as u64) == size)
-            }
+            Call::ContainsRange => usize::from(set.contains_range(line.first as u64, line.second as u64)),
             Call::IsSubset => usize::from(set.is_subset(other)),
             Call::IsSuperset => usize::from(other.is_subset(set)),
             Call::IsDisjoint => usize::from(set.is_disjoint(other)),
