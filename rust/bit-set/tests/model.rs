@@ -147,13 +147,12 @@ fn calls_on_ends_and_searches() {
     assert!(BitSet::from_bytes_lsb(&[0b0101_0010, 1]).iter().eq([1, 4, 6, 8]));
 }
 
-#[test]
-fn walks_from_both_ends() {
+fn walks_from_both_ends<B: BitBlock>() {
     let mut draws = Draws(5);
     for _ in 0..300 {
         let bound = [70, 5000, 100_000][draws.below(3)];
         let model: BTreeSet<usize> = (0..draws.below(90)).map(|_| draws.below(bound)).collect();
-        let set: BitSet = model.iter().copied().collect();
+        let set: BitSet<B> = model.iter().copied().collect();
         assert!(set.iter().rev().eq(model.iter().rev().copied()));
         let (mut walk, mut other) = (set.iter(), model.iter().copied());
         for _ in 0..model.len() + 3 {
@@ -163,6 +162,12 @@ fn walks_from_both_ends() {
             }
         }
     }
+}
+
+#[test]
+fn walks_from_both_ends_over_both_widths() {
+    walks_from_both_ends::<u32>();
+    walks_from_both_ends::<u64>();
 }
 
 fn clone_of_a_walk<B: BitBlock>() {
@@ -179,8 +184,7 @@ fn clones_of_walks_over_any_blocks() {
     clone_of_a_walk::<u64>();
 }
 
-#[test]
-fn walks_over_sets_of_many_groups() {
+fn walks_over_long_sets<B: BitBlock>() {
     let mut draws = Draws(7);
     for _ in 0..60 {
         let mut draw = || -> BTreeSet<usize> {
@@ -189,7 +193,7 @@ fn walks_over_sets_of_many_groups() {
             (start..start + length).step_by(1 + draws.below(90)).chain(far).collect()
         };
         let (a, b) = (draw(), draw());
-        let (x, y): (BitSet, BitSet) = (a.iter().copied().collect(), b.iter().copied().collect());
+        let (x, y): (BitSet<B>, BitSet<B>) = (a.iter().copied().collect(), b.iter().copied().collect());
         assert!(x.union(&y).eq(a.union(&b).copied()));
         assert!(x.intersection(&y).eq(a.intersection(&b).copied()));
         assert!(x.difference(&y).eq(a.difference(&b).copied()));
@@ -199,6 +203,25 @@ fn walks_over_sets_of_many_groups() {
         assert!(walk.clone().eq(a.iter().copied().skip(a.len() / 2)));
         assert_eq!((walk.by_ref().last(), walk.next()), (a.iter().copied().skip(a.len() / 2).last(), None));
     }
+}
+
+#[test]
+fn walks_over_long_sets_over_both_widths() {
+    walks_over_long_sets::<u32>();
+    walks_over_long_sets::<u64>();
+}
+
+#[test]
+fn blocks_that_are_lent() {
+    let mut set: BitSet = [0, 5, 33, 95].into_iter().collect();
+    assert_eq!(set.as_slice(), [0b10_0001, 2, 1 << 31]);
+    set.truncate(65);
+    assert_eq!(set.as_slice(), [0b10_0001, 2, 0]);
+    let wide: BitSet<u64> = set.iter().collect();
+    assert_eq!(wide.as_slice(), [1 << 33 | 0b10_0001]);
+    set.reset();
+    assert!(set.as_slice().is_empty() && BitSet::new().as_slice().is_empty());
+    assert!(BitSet::with_capacity(0).as_slice().is_empty());
 }
 
 #[test]
