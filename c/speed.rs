@@ -1,9 +1,12 @@
 //! Times calls of this library through its Rust package beside the crate `bit-set`, both over blocks of one width and in
-//! one program: the least of many rounds, in turns. `speed ROW SIDE TIMES` runs one side of a row so often, to count
-//! instructions.
+//! one program: the least of many rounds, in turns. With the word `instructions` it counts these instead, by callgrind.
 use clients::Draws;
+use std::env;
 use std::hint::black_box;
+use std::io;
 use std::time::Instant;
+
+mod callgrind;
 
 const LIMIT: usize = 1 << 20;
 const ROUNDS: usize = 60;
@@ -13,7 +16,8 @@ const ROWS: [&str; 19] = [
     "walk 65536", "union 2", "union 256", "intersection 2", "intersection 256", "difference 2", "difference 256",
     "symmetric 2", "symmetric 256",
 ];
-const SMALL_ROWS: [&str; 4] = ["five: walk", "five: first", "five: clone", "new"];
+const SMALL_ROWS: [&str; 5] = ["five: walk", "five: first", "five: clone", "five: kept clones", "new"];
+const TURNS: [usize; 2] = [1, 3];
 
 macro_rules! sides {
     ($($name:ident is $set:path;)*) => {
@@ -33,6 +37,9 @@ macro_rules! sides {
                 // Ten thousand calls on a set of five, which each call must take for another one.
                 fn small_row(name: &str) -> Box<dyn FnMut() -> usize> {
                     let five: Set = FIVE.iter().copied().collect();
+                    if name == "five: kept clones" {
+                        return Box::new(move || (0..10_000).map(|_| black_box(&five).clone()).collect::<Vec<_>>().len());
+                    }
                     let times = |call: fn(&Set) -> usize| {
                         Box::new(move || (0..10_000).fold(0, |a, _| a ^ call(black_box(&five)))) as Box<dyn FnMut() -> usize>
                     };
@@ -73,30 +80,56 @@ macro_rules! sides {
 }
 
 sides! {
-    ours is bit_set::BitSet<u32>;
-    theirs is peer::BitSet<u32>;
+    ours32 is bit_set::BitSet<u32>;
+    theirs32 is peer::BitSet<u32>;
+    ours64 is bit_set::BitSet<u64>;
+    theirs64 is peer::BitSet<u64>;
 }
 
-fn main() {
+type Side = fn(&str, &[usize]) -> Box<dyn FnMut() -> usize>;
+
+const SIDES: [(&str, Side); 4] =
+    [("ours32", ours32::row), ("theirs32", theirs32::row), ("ours64", ours64::row), ("theirs64", theirs64::row)];
+
+// The least time of many rounds of a row, of each side in turns.
+fn times(name: &str, numbers: &[usize]) -> Vec<f64> {
+    let mut runs: Vec<_> = SIDES.iter().map(|(_, row)| row(name, numbers)).collect();
+    let mut least = vec![f64::MAX; runs.len()];
+    for _ in 0..ROUNDS {
+        for (run, least) in runs.iter_mut().zip(&mut least) {
+            let start = Instant::now();
+            black_box(run());
+            *least = least.min(start.elapsed().as_secs_f64() * 1e3);
+        }
+    }
+    least
+}
+
+// The instructions of a row by each side, in thousands.
+fn instructions(name: &str) -> io::Result<Vec<f64>> {
+    let of_side = |side: &str| callgrind::of_a_turn(&[name.to_string(), side.to_string()], TURNS);
+    SIDES.iter().map(|(side, _)| Ok(of_side(side)?.0 / 1e3)).collect()
+}
+
+fn main() -> io::Result<()> {
     let mut draws = Draws(9);
     let numbers: Vec<usize> = (0..LIMIT).map(|_| draws.below(LIMIT)).collect();
-    let words: Vec<String> = std::env::args().skip(1).collect();
-    if let [name, side, times] = &words[..] {
-        let mut run = if side == "ours" { ours::row(name, &numbers) } else { theirs::row(name, &numbers) };
-        (0..times.parse().unwrap()).for_each(|_| _ = black_box(run()));
-        return;
+    let words: Vec<String> = env::args().skip(1).collect();
+    if let [name, side, turns] = &words[..] {
+        let (_, row) = SIDES.iter().find(|(name, _)| name == side).expect("there is no such side");
+        let mut run = row(name, &numbers);
+        println!("{}", (0..turns.parse().unwrap()).fold(0, |a, _| a ^ black_box(run())));
+        return Ok(());
     }
-    println!("| row | ours, ms | bit-set, ms | ratio |\n|---|---|---|---|");
+    let counts = words == ["instructions"];
+    let unit = if counts { "thousand instructions" } else { "ms" };
+    println!("| row, in {unit} | ours, `u32` | `bit-set` | ratio | ours, `u64` | `bit-set` | ratio |");
+    println!("|---|---|---|---|---|---|---|");
     for name in ROWS.iter().chain(&SMALL_ROWS) {
-        let (mut x, mut y) = (ours::row(name, &numbers), theirs::row(name, &numbers));
-        let (mut least, mut theirs) = (f64::MAX, f64::MAX);
-        for _ in 0..ROUNDS {
-            for (run, least) in [(&mut x, &mut least), (&mut y, &mut theirs)] {
-                let start = Instant::now();
-                black_box(run());
-                *least = least.min(start.elapsed().as_secs_f64() * 1e3);
-            }
-        }
-        println!("| {name} | {least:.3} | {theirs:.3} | {:.2} |", least / theirs);
+        let row = if counts { instructions(name)? } else { times(name, &numbers) };
+        print!("| {name} |");
+        row.chunks(2).for_each(|pair| print!(" {:.3} | {:.3} | {:.2} |", pair[0], pair[1], pair[0] / pair[1]));
+        println!();
     }
+    Ok(())
 }

@@ -18,8 +18,8 @@ use std::cmp::Ordering;
 use std::fmt;
 use std::hash::{Hash, Hasher};
 use std::marker::PhantomData;
-use std::mem::{size_of, MaybeUninit};
-use std::ptr::null_mut;
+use std::ptr::{null_mut, NonNull};
+use std::slice;
 use std::sync::OnceLock;
 use std::thread::LocalKey;
 
@@ -35,7 +35,7 @@ pub use matrix::{BitMatrix, Row};
 pub use walks::{Difference, Intersection, Iter, SymmetricDifference, Union};
 
 /// A type of blocks that the library has.
-pub trait BitBlock: raw::Calls + Copy + 'static {
+pub trait BitBlock: raw::Calls + Copy + Into<u64> + 'static {
     /// The calls on matrices.
     #[doc(hidden)]
     type Rows: raw::MatrixCalls;
@@ -248,6 +248,21 @@ impl<B: BitBlock> BitSet<B> {
         unsafe { B::length(self.read()) }
     }
 
+    /// The blocks, which have a bit for each number below the length: number `n` is an element where bit `n % W` of block
+    /// `n / W`, counted from the lowest, is 1. `W` is how many bits a block has.
+    #[inline]
+    pub fn as_slice(&self) -> &[B] {
+        if self.set.is_null() {
+            return &[];
+        }
+        let mut lent = raw::Lent { blocks: NonNull::<B>::dangling().as_ptr().cast(), count: 0 };
+        // SAFETY: the blocks are lent until the set is next changed, which the result borrows as long.
+        unsafe {
+            B::lend_blocks(self.set, &mut lent);
+            slice::from_raw_parts(lent.blocks.cast(), lent.count)
+        }
+    }
+
     /// Whether `value` is an element.
     #[inline]
     pub fn contains(&self, value: usize) -> bool {
@@ -341,30 +356,6 @@ impl<B: BitBlock> BitSet<B> {
     pub fn is_disjoint(&self, other: &Self) -> bool {
         unsafe { B::is_disjoint(self.read(), other.read()) }
     }
-}
-
-// Writes words of 64 bits from one on, by a call that copies blocks, and returns how many it wrote.
-#[inline]
-fn copy_words<B: BitBlock>(
-    from: usize,
-    words: &mut [MaybeUninit<u64>],
-    call: impl FnOnce(usize, *mut B, usize) -> usize,
-) -> usize {
-    let parts = size_of::<u64>() / size_of::<B>();
-    let blocks = words.as_mut_ptr().cast::<B>();
-    let count = call(from * parts, blocks, words.len() * parts);
-    let end = (count + parts - 1) / parts;
-    if count % parts != 0 {
-        // SAFETY: the call wrote no more blocks than there is room for, so that this one is the other half of a word.
-        unsafe { blocks.add(count).write_bytes(0, 1) };
-    }
-    if cfg!(target_endian = "big") && parts == 2 {
-        for word in &mut words[..end] {
-            // SAFETY: the words below `end` are written.
-            word.write(unsafe { word.assume_init() }.rotate_left(32));
-        }
-    }
-    end
 }
 
 impl<B: BitBlock> Default for BitSet<B> {

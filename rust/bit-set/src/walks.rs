@@ -1,140 +1,123 @@
-//! Walks over a set, and over what two sets make. Blocks are copied in groups, past those that are zero by a search on
-//! the proved side, and decoded here: one call for each element costs more than the whole walk.
-use crate::{copy_words, BitBlock, BitSet};
-use std::mem::MaybeUninit;
+//! Walks over a set, and over what two sets make. The blocks are read where they are: a call for each element costs more
+//! than the whole walk.
+use crate::{BitBlock, BitSet};
+use std::mem::size_of;
 
-const GROUP: usize = 128;
+/// After so many words a walk passes over zeros by the summary: after few where that passes over many, else after more.
 const FEW: usize = 8;
+const MANY: usize = 128;
 const WIDTH: usize = u64::BITS as usize;
 
-// What a walk is over: the next group of blocks.
-trait Source<B: BitBlock>: Copy {
+// What a walk is over: words of 64 bits, in which there is a bit for each number.
+trait Source: Copy {
+    /// The next word.
+    fn next_word(&mut self) -> Option<u64>;
+
     /// A number with no element between `from` and it; `None` where there is none from `from` on.
     fn search(&self, from: usize) -> Option<usize>;
 
-    /// Writes the blocks from one on, and returns how many: fewer than there is room for at the end alone.
-    fn copy(&self, first: usize, group: &mut [MaybeUninit<u64>]) -> usize;
+    /// The same with this word as the next one.
+    fn at_word(self, word: usize) -> Self;
 }
 
-type Words = [MaybeUninit<u64>; GROUP];
-
-#[derive(Clone)]
+#[derive(Clone, Copy)]
 struct Walk<S> {
     source: S,
-    // What is left of the block in hand, and its first number.
-    block: u64,
+    // What is left of the word in hand, and its first number.
+    word: u64,
     base: usize,
-    // The first group, where there is no other.
-    few: [MaybeUninit<u64>; FEW],
-    many: Option<Box<Words>>,
-    // Which block the group begins with, the one of it that is next, and where it ends.
-    first: usize,
-    at: usize,
-    end: usize,
-    // How many blocks the next group has: few where those that are not zero are far apart. None where there is no more.
-    size: usize,
+    // From this base on zeros are passed over by a search, and after how many words the next time.
+    search_from: usize,
+    stride: usize,
 }
 
-// The group after one: its blocks, which one it begins with, where it ends, and how many blocks the next one has.
-struct Following {
-    words: Box<Words>,
-    first: usize,
-    end: usize,
-    size: usize,
-}
-
-impl Following {
-    // The group of at most `size` blocks from the first that is not zero on, from block `past` on.
-    #[cold]
-    #[inline(never)]
-    fn copy<B: BitBlock>(source: impl Source<B>, words: Option<Box<Words>>, past: usize, size: usize) -> Option<Self> {
-        let first = source.search(past.checked_mul(WIDTH)?)? / WIDTH;
-        let mut words = words.unwrap_or_else(|| Box::new([MaybeUninit::uninit(); GROUP]));
-        let end = source.copy(first, &mut words[..size]);
-        let size = match end == size {
-            false => 0,
-            true if first - past < FEW => GROUP.min(2 * size),
-            true => FEW,
-        };
-        Some(Following { words, first, end, size })
-    }
-}
-
-impl<S> Walk<S> {
-    // The first group begins at 0 without a search: of a small set it is all there is.
+impl<S: Source> Walk<S> {
     #[inline]
-    fn over<B: BitBlock>(source: S) -> Self
-    where
-        S: Source<B>,
-    {
-        let mut few = [MaybeUninit::uninit(); FEW];
-        let end = source.copy(0, &mut few);
-        let size = if end == FEW { 2 * FEW } else { 0 };
-        // SAFETY: the blocks below `end` are written.
-        let block = if end == 0 { 0 } else { unsafe { few[0].assume_init() } };
-        Walk { source, block, base: 0, few, many: None, first: 0, at: 1, end, size }
+    fn over(mut source: S) -> Self {
+        let word = source.next_word().unwrap_or(0);
+        Walk { source, word, base: 0, search_from: FEW * WIDTH, stride: FEW }
     }
 
     // Below this number every element was returned.
     fn passed(&self) -> usize {
-        match self.block {
-            0 => (self.first + self.at).saturating_mul(WIDTH),
-            block => self.base + block.trailing_zeros() as usize,
+        match self.word {
+            0 => self.base.saturating_add(WIDTH),
+            word => self.base + word.trailing_zeros() as usize,
         }
     }
 
-    // Takes the next block that is not zero in hand, and returns whether there is one. No call gets a reference to the walk,
+    // Takes the next word that is not zero in hand, and returns whether there is one. No call gets a reference to the walk,
     // so that its parts stay in registers of the caller's loop.
     #[inline(always)]
-    fn advance<B: BitBlock>(&mut self) -> bool
-    where
-        S: Source<B>,
-    {
+    fn advance(&mut self) -> bool {
+        if !self.scan() {
+            *self = self.past_zeros();
+        }
+        self.word != 0
+    }
+
+    // Takes words in hand up to the first that is not zero, and returns whether it came to that or to the end: it stops
+    // where a search is due.
+    #[inline(always)]
+    fn scan(&mut self) -> bool {
+        while let Some(word) = self.source.next_word() {
+            self.base += WIDTH;
+            self.word = word;
+            if word != 0 {
+                return true;
+            }
+            if self.base >= self.search_from {
+                return false;
+            }
+        }
+        true
+    }
+
+    #[cold]
+    #[inline(never)]
+    fn past_zeros(mut self) -> Self {
         loop {
-            let group = self.many.as_ref().map_or(self.few.as_ptr(), |many| many.as_ptr());
-            while self.at < self.end {
-                // SAFETY: the blocks below `end` are written.
-                self.block = unsafe { (*group.add(self.at)).assume_init() };
-                self.base = (self.first + self.at) * WIDTH;
-                self.at += 1;
-                if self.block != 0 {
-                    return true;
-                }
+            let past = self.base / WIDTH + 1;
+            let next = self.source.search(self.base.saturating_add(WIDTH)).unwrap_or(usize::MAX) / WIDTH;
+            self.stride = if next - past < FEW { MANY.min(2 * self.stride) } else { FEW };
+            self.search_from = (next + self.stride).saturating_mul(WIDTH);
+            self.source = self.source.at_word(next);
+            self.base = (next - 1) * WIDTH;
+            if self.scan() {
+                return self;
             }
-            if self.size == 0 {
-                return false;
-            }
-            let past = self.first + self.end;
-            let Some(next) = Following::copy(self.source, self.many.take(), past, self.size) else {
-                self.size = 0;
-                return false;
-            };
-            (self.first, self.at, self.end, self.size) = (next.first, 0, next.end, next.size);
-            self.many = Some(next.words);
         }
     }
 
     #[inline]
-    fn next<B: BitBlock>(&mut self) -> Option<usize>
-    where
-        S: Source<B>,
-    {
-        if self.block == 0 && !self.advance() {
+    fn next(&mut self) -> Option<usize> {
+        if self.word == 0 && !self.advance() {
             return None;
         }
         Some(self.take_lowest())
     }
 
-    // Takes the lowest one out of the block in hand, which is not zero.
+    // Takes the lowest one out of the word in hand, which is not zero.
     #[inline]
     fn take_lowest(&mut self) -> usize {
-        let lowest = self.block.trailing_zeros() as usize;
-        self.block &= self.block - 1;
+        let lowest = self.word.trailing_zeros() as usize;
+        self.word &= self.word - 1;
         self.base + lowest
     }
 }
 
-struct One<'a, B: BitBlock>(&'a BitSet<B>);
+// A set, and its blocks from the next word on.
+struct One<'a, B: BitBlock> {
+    set: &'a BitSet<B>,
+    rest: &'a [B],
+}
+
+impl<'a, B: BitBlock> One<'a, B> {
+    #[inline]
+    fn of(set: &'a BitSet<B>) -> Self {
+        One { set, rest: set.as_slice() }
+    }
+}
 
 impl<B: BitBlock> Clone for One<'_, B> {
     fn clone(&self) -> Self {
@@ -144,17 +127,25 @@ impl<B: BitBlock> Clone for One<'_, B> {
 
 impl<B: BitBlock> Copy for One<'_, B> {}
 
-impl<B: BitBlock> Source<B> for One<'_, B> {
-    fn search(&self, from: usize) -> Option<usize> {
-        self.0.next(from)
+impl<B: BitBlock> Source for One<'_, B> {
+    #[inline(always)]
+    fn next_word(&mut self) -> Option<u64> {
+        if let ([low, high, rest @ ..], true) = (self.rest, size_of::<B>() < size_of::<u64>()) {
+            self.rest = rest;
+            return Some((*low).into() | (*high).into() << 32);
+        }
+        let (&block, rest) = self.rest.split_first()?;
+        self.rest = rest;
+        Some(block.into())
     }
 
-    fn copy(&self, first: usize, group: &mut [MaybeUninit<u64>]) -> usize {
-        if self.0.set.is_null() {
-            return 0;
-        }
-        // SAFETY: the set and the group are lent for the call, as below.
-        copy_words(first, group, |from, blocks, room| unsafe { B::copy_blocks(self.0.set, from, blocks, room) })
+    fn search(&self, from: usize) -> Option<usize> {
+        self.set.next(from)
+    }
+
+    fn at_word(self, word: usize) -> Self {
+        let block = word * (size_of::<u64>() / size_of::<B>());
+        One { rest: self.set.as_slice().get(block..).unwrap_or(&[]), ..self }
     }
 }
 
@@ -164,7 +155,7 @@ const DIFFERENCE: u8 = 2;
 const SYMMETRIC: u8 = 3;
 
 // What two sets make.
-struct Two<'a, B: BitBlock, const MERGE: u8>(&'a BitSet<B>, &'a BitSet<B>);
+struct Two<'a, B: BitBlock, const MERGE: u8>(One<'a, B>, One<'a, B>);
 
 impl<B: BitBlock, const MERGE: u8> Clone for Two<'_, B, MERGE> {
     fn clone(&self) -> Self {
@@ -174,25 +165,31 @@ impl<B: BitBlock, const MERGE: u8> Clone for Two<'_, B, MERGE> {
 
 impl<B: BitBlock, const MERGE: u8> Copy for Two<'_, B, MERGE> {}
 
-impl<B: BitBlock, const MERGE: u8> Source<B> for Two<'_, B, MERGE> {
-    fn search(&self, from: usize) -> Option<usize> {
-        let Two(a, b) = self;
+impl<B: BitBlock, const MERGE: u8> Source for Two<'_, B, MERGE> {
+    // Past the end of a set its words are zero.
+    #[inline(always)]
+    fn next_word(&mut self) -> Option<u64> {
+        let (a, b) = (self.0.next_word(), self.1.next_word());
         match MERGE {
-            DIFFERENCE => a.next(from),
-            INTERSECTION => Some(a.next(from)?.max(b.next(from)?)),
-            _ => a.next(from).into_iter().chain(b.next(from)).min(),
+            INTERSECTION => Some(a? & b?),
+            DIFFERENCE => Some(a? & !b.unwrap_or(0)),
+            _ if a.is_none() && b.is_none() => None,
+            UNION => Some(a.unwrap_or(0) | b.unwrap_or(0)),
+            _ => Some(a.unwrap_or(0) ^ b.unwrap_or(0)),
         }
     }
 
-    fn copy(&self, first: usize, group: &mut [MaybeUninit<u64>]) -> usize {
-        let call = match MERGE {
-            UNION => B::copy_union,
-            INTERSECTION => B::copy_intersection,
-            DIFFERENCE => B::copy_difference,
-            _ => B::copy_symmetric_difference,
-        };
-        let (a, b) = (self.0.read(), self.1.read());
-        copy_words(first, group, |from, blocks, room| unsafe { call(a, b, from, blocks, room) })
+    fn search(&self, from: usize) -> Option<usize> {
+        let Two(a, b) = self;
+        match MERGE {
+            DIFFERENCE => a.search(from),
+            INTERSECTION => Some(a.search(from)?.max(b.search(from)?)),
+            _ => a.search(from).into_iter().chain(b.search(from)).min(),
+        }
+    }
+
+    fn at_word(self, word: usize) -> Self {
+        Two(self.0.at_word(word), self.1.at_word(word))
     }
 }
 
@@ -216,7 +213,7 @@ macro_rules! walks {
                 $(#[$doc])*
                 #[inline]
                 pub fn $name<'a>(&'a self, $other: &'a BitSet<B>) -> $Name<'a, B> {
-                    $Name(Walk::over(Two(self, $other)))
+                    $Name(Walk::over(Two(One::of(self), One::of($other))))
                 }
             }
         )*
@@ -246,19 +243,19 @@ impl<B: BitBlock> BitSet<B> {
     /// The elements, in ascending order from the front and in descending order from the back.
     #[inline]
     pub fn iter(&self) -> Iter<'_, B> {
-        Iter { walk: Walk::over(One(self)), end: usize::MAX }
+        Iter { walk: Walk::over(One::of(self)), end: usize::MAX }
     }
 }
 
 impl<B: BitBlock> Iter<'_, B> {
-    // Takes out of the block in hand what was returned from the back, and returns whether something is left.
+    // Takes out of the word in hand what was returned from the back, and returns whether something is left.
     #[inline]
     fn cut(&mut self) -> bool {
         let left = self.end.saturating_sub(self.walk.base);
         if left < WIDTH {
-            self.walk.block &= !(u64::MAX << left);
+            self.walk.word &= !(u64::MAX << left);
         }
-        self.walk.block != 0
+        self.walk.word != 0
     }
 }
 
@@ -267,7 +264,7 @@ impl<B: BitBlock> Iterator for Iter<'_, B> {
 
     #[inline]
     fn next(&mut self) -> Option<usize> {
-        if self.walk.block == 0 && !(self.walk.advance() && self.cut()) {
+        if self.walk.word == 0 && !(self.walk.advance() && self.cut()) {
             return None;
         }
         Some(self.walk.take_lowest())
@@ -276,7 +273,7 @@ impl<B: BitBlock> Iterator for Iter<'_, B> {
 
 impl<B: BitBlock> DoubleEndedIterator for Iter<'_, B> {
     fn next_back(&mut self) -> Option<usize> {
-        let element = self.walk.source.0.previous(self.end).filter(|&element| element >= self.walk.passed());
+        let element = self.walk.source.set.previous(self.end).filter(|&element| element >= self.walk.passed());
         self.end = element.unwrap_or(0);
         self.cut();
         element

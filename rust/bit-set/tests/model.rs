@@ -13,7 +13,7 @@ fn same(set: &BitSet, model: &BTreeSet<usize>) {
     assert_eq!(set.is_empty(), model.is_empty());
 }
 
-fn walks_over_both(x: &BitSet, y: &BitSet, a: &BTreeSet<usize>, b: &BTreeSet<usize>) {
+fn walks_over_both<B: BitBlock>(x: &BitSet<B>, y: &BitSet<B>, a: &BTreeSet<usize>, b: &BTreeSet<usize>) {
     assert!(x.union(y).eq(a.union(b).copied()));
     assert!(x.intersection(y).eq(a.intersection(b).copied()));
     assert!(x.difference(y).eq(a.difference(b).copied()));
@@ -139,13 +139,12 @@ fn calls_on_ends_and_searches() {
     assert!(BitSet::from_bytes_lsb(&[0b0101_0010, 1]).iter().eq([1, 4, 6, 8]));
 }
 
-#[test]
-fn walks_from_both_ends() {
+fn walks_from_both_ends<B: BitBlock>() {
     let mut draws = Draws(5);
     for _ in 0..300 {
         let bound = [70, 5000, 100_000][draws.below(3)];
         let model: BTreeSet<usize> = (0..draws.below(90)).map(|_| draws.below(bound)).collect();
-        let set: BitSet = model.iter().copied().collect();
+        let set: BitSet<B> = model.iter().copied().collect();
         assert!(set.iter().rev().eq(model.iter().rev().copied()));
         let (mut walk, mut other) = (set.iter(), model.iter().copied());
         for _ in 0..model.len() + 3 {
@@ -157,6 +156,8 @@ fn walks_from_both_ends() {
     }
 }
 
+over_both_widths!(walks_from_both_ends_over_both_widths, walks_from_both_ends);
+
 fn clone_of_a_walk<B: BitBlock>() {
     let set: BitSet<B> = [1, 70, 3000].into_iter().collect();
     let mut walk = set.iter();
@@ -167,8 +168,7 @@ fn clone_of_a_walk<B: BitBlock>() {
 
 over_both_widths!(clones_of_walks_over_any_blocks, clone_of_a_walk);
 
-#[test]
-fn walks_over_sets_of_many_groups() {
+fn walks_over_long_sets<B: BitBlock>() {
     let mut draws = Draws(7);
     for _ in 0..60 {
         let mut draw = || -> BTreeSet<usize> {
@@ -177,13 +177,28 @@ fn walks_over_sets_of_many_groups() {
             (start..start + length).step_by(1 + draws.below(90)).chain(far).collect()
         };
         let (a, b) = (draw(), draw());
-        let (x, y): (BitSet, BitSet) = (a.iter().copied().collect(), b.iter().copied().collect());
+        let (x, y): (BitSet<B>, BitSet<B>) = (a.iter().copied().collect(), b.iter().copied().collect());
         walks_over_both(&x, &y, &a, &b);
         let mut walk = x.iter();
         walk.by_ref().take(a.len() / 2).for_each(drop);
         assert!(walk.clone().eq(a.iter().copied().skip(a.len() / 2)));
         assert_eq!((walk.by_ref().last(), walk.next()), (a.iter().copied().skip(a.len() / 2).last(), None));
     }
+}
+
+over_both_widths!(walks_over_long_sets_over_both_widths, walks_over_long_sets);
+
+#[test]
+fn blocks_that_are_lent() {
+    let mut set: BitSet = [0, 5, 33, 95].into_iter().collect();
+    assert_eq!(set.as_slice(), [0b10_0001, 2, 1 << 31]);
+    set.truncate(65);
+    assert_eq!(set.as_slice(), [0b10_0001, 2, 0]);
+    let wide: BitSet<u64> = set.iter().collect();
+    assert_eq!(wide.as_slice(), [1 << 33 | 0b10_0001]);
+    set.reset();
+    assert!(set.as_slice().is_empty() && BitSet::new().as_slice().is_empty());
+    assert!(BitSet::with_capacity(0).as_slice().is_empty());
 }
 
 #[test]

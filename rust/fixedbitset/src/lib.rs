@@ -1,6 +1,6 @@
 //! Bits up to a length: the API of the crate `fixedbitset` 0.4, over a library for C whose every call is proved.
 //!
-//! `as_slice` and `as_mut_slice` are left out, since the library lends no blocks, and so is the feature `serde`.
+//! `as_mut_slice` is left out, since the library lends blocks to be read alone, and so is the feature `serde`.
 //! `union` and `symmetric_difference` ascend, where those of the crate go through one set and then through the other.
 //!
 //! ```
@@ -24,10 +24,22 @@ pub use walks::{Difference, Intersection, Ones, SymmetricDifference, Union};
 
 const BITS: usize = u32::BITS as usize;
 
+fn blocks_for(bits: usize) -> usize {
+    bits / BITS + usize::from(bits % BITS != 0)
+}
+
+// Makes the set at least so long. What is new in it is clear.
+fn lengthen(set: &mut BitSet, bits: usize) {
+    if bits > set.bit_length() {
+        set.insert(bits - 1);
+        set.remove(bits - 1);
+    }
+}
+
 /// Bits up to a length, each of which is set or clear.
 #[derive(Default)]
 pub struct FixedBitSet {
-    // Those that are set, each below the length.
+    // Those that are set, each below the length. The set is as long, or longer.
     set: BitSet,
     length: usize,
 }
@@ -46,17 +58,17 @@ impl FixedBitSet {
 
     /// So many bits, those of the blocks from the lowest, and clear past these.
     pub fn with_capacity_and_blocks<I: IntoIterator<Item = u32>>(bits: usize, blocks: I) -> Self {
-        let count = bits / BITS + usize::from(bits % BITS != 0);
-        let bytes: Vec<u8> = blocks.into_iter().take(count).flat_map(u32::to_le_bytes).collect();
+        let bytes: Vec<u8> = blocks.into_iter().take(blocks_for(bits)).flat_map(u32::to_le_bytes).collect();
         let mut set = BitSet::from_bytes_lsb(&bytes);
         set.truncate(bits);
+        lengthen(&mut set, bits);
         FixedBitSet { set, length: bits }
     }
 
     /// Makes the length at least `bits`. The new bits are clear.
     pub fn grow(&mut self, bits: usize) {
         if bits > self.length {
-            self.set.reserve_len(bits);
+            lengthen(&mut self.set, bits);
             self.length = bits;
         }
     }
@@ -212,9 +224,9 @@ impl FixedBitSet {
         other.is_subset(self)
     }
 
-    // The bits of a block, the first of them lowest.
-    fn block(&self, block: usize) -> u32 {
-        (0..BITS).fold(0, |value, bit| value | u32::from(self.contains(block * BITS + bit)) << bit)
+    /// The blocks, each with the first of its bits lowest. Past the length bits are clear.
+    pub fn as_slice(&self) -> &[u32] {
+        &self.set.as_slice()[..blocks_for(self.length)]
     }
 }
 
@@ -246,10 +258,7 @@ impl PartialOrd for FixedBitSet {
 impl Ord for FixedBitSet {
     // As the lists of blocks compare, and then the lengths.
     fn cmp(&self, other: &Self) -> Ordering {
-        match self.set.symmetric_difference(&other.set).next() {
-            Some(bit) => self.block(bit / BITS).cmp(&other.block(bit / BITS)),
-            None => self.length.cmp(&other.length),
-        }
+        self.as_slice().cmp(other.as_slice()).then(self.length.cmp(&other.length))
     }
 }
 
@@ -262,9 +271,7 @@ impl Hash for FixedBitSet {
 
 impl fmt::Debug for FixedBitSet {
     fn fmt(&self, fmt: &mut fmt::Formatter<'_>) -> fmt::Result {
-        let count = self.length / BITS + usize::from(self.length % BITS != 0);
-        let data: Vec<u32> = (0..count).map(|block| self.block(block)).collect();
-        fmt.debug_struct("FixedBitSet").field("data", &data).field("length", &self.length).finish()
+        fmt.debug_struct("FixedBitSet").field("data", &self.as_slice()).field("length", &self.length).finish()
     }
 }
 
