@@ -30,9 +30,8 @@ try_root() {
         return
     fi
     root="$room/root"
-    rm -rf "$root"
     cp -a "$roots/$1" "$root"
-    cp -r "$room/try" "$root/try"
+    cp -r "$given" "$root/try"
     try "$on: there is no toolchain" inside '! command -v rt'
     try_packages "$1"
     try_upgrade
