@@ -68,6 +68,10 @@ static PyMemberDef members[] = {
     {NULL, 0, 0, 0, NULL},
 };
 
+/* Python 3.9.2 frees a method of `type` as classes are made over one without a version tag, which is no longer a part of
+ * the default in the headers of 3.10. */
+#define FLAGS (Py_TPFLAGS_DEFAULT | Py_TPFLAGS_HAVE_VERSION_TAG)
+
 static PyType_Slot set_slots[] = {
     {Py_tp_doc, "BitSet(members=())\n--\n\nA set of numbers from 0 to MAX_ELEMENT, as a MutableSet."},
     {Py_tp_new, set_new},
@@ -94,7 +98,7 @@ static PyType_Slot set_slots[] = {
 };
 
 static PyType_Spec set_spec = {
-    "bit_set.BitSet", sizeof(BitSet), 0, Py_TPFLAGS_DEFAULT | Py_TPFLAGS_BASETYPE, set_slots,
+    "bit_set.BitSet", sizeof(BitSet), 0, FLAGS | Py_TPFLAGS_BASETYPE, set_slots,
 };
 
 #define MATRIX_METHOD(name, how, text) {#name, (PyCFunction)matrix_##name, how, text}
@@ -147,7 +151,7 @@ static PyType_Slot matrix_slots[] = {
 };
 
 static PyType_Spec matrix_spec = {
-    "bit_set.BitMatrix", sizeof(BitMatrix), 0, Py_TPFLAGS_DEFAULT | Py_TPFLAGS_BASETYPE, matrix_slots,
+    "bit_set.BitMatrix", sizeof(BitMatrix), 0, FLAGS | Py_TPFLAGS_BASETYPE, matrix_slots,
 };
 
 static PyType_Slot walk_slots[] = {
@@ -160,7 +164,7 @@ static PyType_Slot walk_slots[] = {
 };
 
 static PyType_Spec walk_spec = {
-    "bit_set.Walk", sizeof(Walk), 0, Py_TPFLAGS_DEFAULT | Py_TPFLAGS_HAVE_GC, walk_slots,
+    "bit_set.Walk", sizeof(Walk), 0, FLAGS | Py_TPFLAGS_HAVE_GC, walk_slots,
 };
 
 static struct PyModuleDef module_definition = {
