@@ -1,7 +1,8 @@
 #!/usr/bin/env bash
 # Tries what ./release wrote where no toolchain is and no network: in roots of Debian 11, 12 and 13, with musl, and as
 # programs for aarch64 under qemu. It installs the packages, builds the examples, runs the tests of Python and Rust, and
-# makes a million random calls beside a plain table for each processor. It is not a part of the gate.
+# makes a million random calls beside a plain table for each processor. The roots and the other kinds of system are tried
+# beside each other. It is not a part of the gate.
 #   tests/release.sh FOLDER [ROOTS]      ROOTS keeps the roots, which debootstrap makes where they are not there
 # It is to be run by root, for chroot. What cannot be tried for want of a program it says. The last line is
 # 'N passed, M failed'.
@@ -19,8 +20,10 @@ fi
 release="$(readlink -f "$1")"
 mkdir -p "${2:-${XDG_CACHE_HOME:-$HOME/.cache}/bit_set_roots}"
 roots="$(readlink -f "${2:-${XDG_CACHE_HOME:-$HOME/.cache}/bit_set_roots}")"
+# shellcheck source=../tools/ending.sh
+. "$here/../tools/ending.sh"
 room="$(mktemp -d)"
-trap 'rm -rf "$room"' EXIT
+passing+=("$room")
 version="$(basename "$release"/bit-set-sys-*.crate .crate)"
 version="${version#bit-set-sys-}"
 # Some twelve calls each.
@@ -63,12 +66,52 @@ for part in files readme roots machines; do
     # shellcheck source=/dev/null
     . "$here/release/$part.sh"
 done
+# The parts that run beside each other, and the processes that run them.
+parts=()
+runs=()
+
+# Runs a part in a folder of its own, and says last what it counted.
+run_part() {
+    room="$room/$1"
+    mkdir "$room"
+    passed=0
+    failed=0
+    "${@:2}"
+    echo "$passed $failed"
+}
+
+#   begin NAME COMMAND..
+begin() {
+    start_group run_part "$@" < /dev/null > "$room/$1.said" 2>&1
+    parts+=("$1")
+    runs+=("$!")
+}
+
+# Waits for each, shows what it said, and adds up what it counted. One that counted nothing has failed.
+finish() {
+    local at counts
+    for at in "${!parts[@]}"; do
+        wait_group "${runs[at]}"
+        sed '$d' "$room/${parts[at]}.said"
+        counts="$(tail -n 1 "$room/${parts[at]}.said")"
+        if [[ "$counts" =~ ^([0-9]+)\ ([0-9]+)$ ]]; then
+            passed=$((passed + BASH_REMATCH[1]))
+            failed=$((failed + BASH_REMATCH[2]))
+        else
+            echo "$counts"
+            echo "FAILED: ${parts[at]} did not end"
+            failed=$((failed + 1))
+        fi
+    done
+}
+
 try_files
-try_root 11 bullseye ""
-try_root 12 bookworm ""
-try_root 13 trixie cargo,gcc-aarch64-linux-gnu,libc6-dev-arm64-cross
-try_here
-try_musl
-try_arm
+begin 13 try_root 13 trixie cargo,gcc-aarch64-linux-gnu,libc6-dev-arm64-cross
+begin arm try_arm
+begin 12 try_root 12 bookworm ''
+begin 11 try_root 11 bullseye ''
+begin here try_here
+begin musl try_musl
+finish
 echo "$passed passed, $failed failed"
 [ "$failed" -eq 0 ]

@@ -70,7 +70,7 @@ static PyMemberDef members[] = {
 };
 
 /* Python 3.8 and 3.9 remember what they look up in a type only where it has the flag that later headers no longer put into the
- * first one, and 3.8 breaks where a class with another metaclass stands on a type without it. */
+ * default, and without it free a method of `type` too often as classes with another metaclass are made over one. */
 enum { FLAGS = Py_TPFLAGS_DEFAULT | Py_TPFLAGS_HAVE_VERSION_TAG };
 
 static PyType_Slot set_slots[] = {

@@ -19,10 +19,11 @@ try_files() {
     else
         left_out 'auditwheel, which is not here'
     fi
-    mkdir -p "$room/try"
-    tar xzf "$release/bit_set-$version.tar.gz" -C "$room/try"
-    source="$room/try/bit_set-$version"
-    cp "$release"/* "$room/try"
+    given="$room/try"
+    mkdir -p "$given"
+    tar xzf "$release/bit_set-$version.tar.gz" -C "$given"
+    source="$given/bit_set-$version"
+    cp "$release"/* "$given"
     try 'PROOF.txt is the same in each package' hold_proof
     try 'what the packages of both machines have in one place is the same' agree_in_places
     try 'the shared objects export the calls of the headers alone' export_calls
@@ -69,6 +70,7 @@ hold_proof() {
 # Debian installs the packages of two machines beside each other.
 agree_in_places() {
     local architecture package file at="$room/beside-each-other"
+    mkdir -p "$at"
     for architecture in amd64 arm64; do
         for package in "$release"/libbit-set*_"$architecture".deb; do
             dpkg-deb -x "$package" "$at/$architecture" || return

@@ -30,9 +30,8 @@ try_root() {
         return
     fi
     root="$room/root"
-    rm -rf "$root"
     cp -a "$roots/$1" "$root"
-    cp -r "$room/try" "$root/try"
+    cp -r "$given" "$root/try"
     try "$on: there is no toolchain" inside '! command -v rt'
     try_packages "$1"
     try_upgrade
@@ -110,7 +109,7 @@ try_archive() {
         gcc -Iinclude examples/example.c lib/libbit_set.a -o /tmp/alone
         ! echo > lib/written
 END
-        setpriv --reuid=65534 --regid=65534 --clear-groups sh -eu /tmp/use
+        chroot --userspec=65534:65534 --skip-chdir / sh -eu /tmp/use
         /tmp/example | cmp - examples/example.out && /tmp/alone | cmp - examples/example.out
         ldd /tmp/example | grep -F "$PWD/lib"'
 }
@@ -123,7 +122,7 @@ try_source() {
     done
     try "$on: the source release is built elsewhere by who may not write into it" inside '
         cd bit_set-$VERSION
-        setpriv --reuid=65534 --regid=65534 --clear-groups make -s BUILD=/tmp/made check check_cc'
+        chroot --userspec=65534:65534 --skip-chdir / make -s BUILD=/tmp/made check check_cc'
     try "$on: the source release is installed and removed" inside '
         cd bit_set-$VERSION
         make -s install DESTDIR="/try/put here" && ls "/try/put here/usr/local/lib/libbit_set.so"
