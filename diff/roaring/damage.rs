@@ -8,7 +8,7 @@ use std::ops::Range;
 use std::time::Instant;
 
 /// How many times its length a copy may ask for.
-const MULTIPLE: usize = 10;
+const MULTIPLE: usize = 11;
 
 /// The faults by their numbers in `crates/roaring_calls`: 0 stands for none.
 const FAULTS: [&str; 10] =

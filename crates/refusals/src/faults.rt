@@ -4,7 +4,6 @@ use bit_matrix::MatrixError;
 use bit_set::bit_vec::BitsError;
 use bit_set::{JsonError, RangesError, SetError};
 use bit_set_run::LinesFault;
-use roaring::PortableError;
 use std::alloc::AllocError;
 use std::io;
 
@@ -88,15 +87,6 @@ impl From<MatrixError> for Fault {
         match fault {
             MatrixError::Memory(_) => Fault::Memory,
             MatrixError::Length => Fault::Other,
-        }
-    }
-}
-
-impl From<PortableError> for Fault {
-    fn from(fault: PortableError) -> Self {
-        match fault {
-            PortableError::Memory => Fault::Memory,
-            _ => Fault::Other,
         }
     }
 }

@@ -3,9 +3,6 @@
 #![tactic(auto)]
 
 mod asks;
-mod bitmap_changes;
-mod bitmap_values;
-mod bitmaps;
 mod bits;
 mod ends;
 mod failing_writers;
@@ -77,21 +74,13 @@ fn over_plain(sweep: &mut Sweep<'_>) {
     without_memory::all_plain(sweep);
 }
 
-// Those of Roaring bitmaps, which have no type of blocks.
-fn over_bitmaps(sweep: &mut Sweep<'_>) {
-    sweep.go_over("roaring", 64);
-    bitmap_changes::all(sweep);
-    bitmap_values::all(sweep);
-}
-
-// The calls over the type of blocks of this name, or of Roaring bitmaps. Whether it names one.
+// The calls over the type of blocks of this name. Whether it names one.
 fn over_named(sweep: &mut Sweep<'_>, block: &str) -> bool {
     match block {
         "u8" => over_with_json::<u8>(sweep, "u8"),
         "u32" => over_plain(sweep),
         "u64" => over_with_json::<u64>(sweep, "u64"),
         "u128" => over::<u128>(sweep, "u128"),
-        "roaring" => over_bitmaps(sweep),
         _ => return false,
     }
     true
@@ -120,7 +109,7 @@ fn swept(rt: &HostRuntime, words: &[String]) -> u8 {
         return 2;
     }
     let mut sweep = Sweep::new(rt, None);
-    for block in ["u8", "u32", "u64", "u128", "roaring"] {
+    for block in ["u8", "u32", "u64", "u128"] {
         over_named(&mut sweep, block);
     }
     status(&sweep)
