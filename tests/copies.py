@@ -6,10 +6,21 @@ A copy has the files of a crate as they are in the checkout. The libraries below
 import os
 import re
 import shutil
+import signal
 import subprocess
 from pathlib import Path
 
 PARTS = ("src", "specs", "proofs")
+
+
+def end_by(number, _):
+    """Ends the program with what it has begun, as an error would."""
+    raise SystemExit(128 + number)
+
+
+for ending in (signal.SIGHUP, signal.SIGQUIT, signal.SIGTERM):
+    if signal.getsignal(ending) == signal.SIG_DFL:
+        signal.signal(ending, end_by)
 
 
 def lines_of(root):
@@ -93,15 +104,20 @@ def used_by(group):
 
 
 def run(folder, *words, at_line=None):
-    """Runs a command there, and returns its status, what it said and its processor seconds. Each line is handed on as it comes."""
+    """Runs a command there, and returns its status, what it said and its processor seconds. Each line is handed on as it comes.
+    Where the program ends meanwhile, the command does too."""
     how = {"stdin": subprocess.DEVNULL, "stdout": subprocess.PIPE, "stderr": subprocess.STDOUT, "text": True, "errors": "replace"}
     ran = subprocess.Popen(words, cwd=folder, start_new_session=True, **how)
     said = []
-    for line in ran.stdout:
-        said.append(line.rstrip("\n"))
-        if at_line:
-            at_line(said[-1], used_by(ran.pid))
-    _, status, usage = os.wait4(ran.pid, 0)
+    try:
+        for line in ran.stdout:
+            said.append(line.rstrip("\n"))
+            if at_line:
+                at_line(said[-1], used_by(ran.pid))
+        _, status, usage = os.wait4(ran.pid, 0)
+    except BaseException:
+        os.killpg(ran.pid, signal.SIGKILL)
+        raise
     ran.returncode = os.waitstatus_to_exitcode(status)
     return ran.returncode, said, usage.ru_utime + usage.ru_stime
 

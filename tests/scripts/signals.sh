@@ -26,6 +26,16 @@ for signal in HUP INT QUIT TERM; do
     ended_by_signal 'c/build --proved' "$signal" 'bit_set_c$' "$library/c/build" "$room/built" --proved
 done
 
+# The tests of edits, over libraries that are only named here.
+cp -r "$top"/tests/{edits,{edits,gate_edits}.txt,{edits,copies}.py,edits.sh} "$library/tests"
+for name in $(sed -n 's/^\([a-z_]*\):.*/\1/p' "$library/crates.txt"); do
+    mkdir -p "$library/crates/$name/out/rlib/$name.rlib"
+done
+for signal in HUP INT QUIT TERM; do
+    ended_by_signal tests/edits.sh "$signal" 'bit_set_c$' "$library/tests/edits.sh" bit_set_c
+done
+find "$library/crates" -mindepth 1 -maxdepth 1 ! -name bit_set_c -exec rm -r {} +
+
 # Two runs for one folder: the second waits.
 take_seconds 1
 forget_calls
