@@ -142,7 +142,8 @@ mark mid 10
 (ulimit -f 16 && run && exit "$ended")
 ended=$?
 expect 'with a limit of the size of a file it succeeds' not ends_with 0
-expect 'it does not say that a file is too large' says 'File size limit exceeded'
+# By the signal, or as an error where the signal is ignored.
+expect 'it does not say that a file is too large' grep -q -e 'File size limit exceeded' -e 'File too large' "$room/said"
 expect_marks 'without that limit' 7 10 1
 if [ "$(id -u)" -eq 0 ] && mkdir "$room/small" && mount -t tmpfs -o size=256k none "$room/small" 2> /dev/null; then
     mv "$repository/out" "$room/out"
