@@ -1,16 +1,8 @@
 //! The blocks after each call that changes the length, beside a list of bits.
+mod common;
+
+use common::Draws;
 use fixedbitset::FixedBitSet;
-
-struct Draws(u64);
-
-impl Draws {
-    fn below(&mut self, n: usize) -> usize {
-        self.0 ^= self.0 << 13;
-        self.0 ^= self.0 >> 7;
-        self.0 ^= self.0 << 17;
-        (self.0 % n as u64) as usize
-    }
-}
 
 // The blocks of these bits.
 fn blocks_of(bits: &[bool]) -> Vec<u32> {

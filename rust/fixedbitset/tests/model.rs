@@ -1,17 +1,9 @@
 //! Random calls, from a fixed seed, beside a list of what is set.
+mod common;
+
+use common::Draws;
 use fixedbitset::FixedBitSet;
 use std::ops::Range;
-
-struct Draws(u64);
-
-impl Draws {
-    fn below(&mut self, n: usize) -> usize {
-        self.0 ^= self.0 << 13;
-        self.0 ^= self.0 >> 7;
-        self.0 ^= self.0 << 17;
-        (self.0 % n as u64) as usize
-    }
-}
 
 /// Bits, some of them set, and the same as a list.
 fn draw(draws: &mut Draws) -> (FixedBitSet, Vec<bool>) {
