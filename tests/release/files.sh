@@ -48,11 +48,10 @@ tells() {
 # A module takes nothing of the system but glibc, and that no newer than the tag in its wheel's name.
 takes_little() {
     local at="$room/wheel" tag newest
-    tag="$(sed 's/.*manylinux_\([0-9]*\)_\([0-9]*\)_.*/\1.\2/' <<< "${1##*/}")"
+    tag="$(cut -d _ -f 1,2 --output-delimiter=. <<< "${1##*manylinux_}")"
     rm -rf "$at" && python3 -m zipfile -e "$1" "$at" || return
-    readelf -d "$at"/bit_set/*.so | sed -n 's/.*(NEEDED).*\[\(.*\)\]/\1/p'
     newest="$(objdump -T "$at"/bit_set/*.so | sed -n 's/.*GLIBC_\([0-9.]*\).*/\1/p' | sort -V | tail -n 1)"
-    echo "tag $tag, newest $newest"
+    echo "it takes glibc $newest"
     ! readelf -d "$at"/bit_set/*.so | grep '(NEEDED)' | grep -v '\[libc\.so\.6\]' \
         && [ "$(printf '%s\n' "$newest" "$tag" | sort -V | tail -n 1)" = "$tag" ]
 }
