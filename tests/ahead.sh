@@ -10,10 +10,7 @@ unset CDPATH
 cd "$(dirname "$(dirname "$(readlink -f "${BASH_SOURCE[0]}")")")" || exit 1
 . tools/ending.sh
 # rt keeps the copy there that it proves, and leaves it where it is ended.
-room="$(mktemp -d)" || exit 1
-passing+=("$room")
-export TMPDIR="$room"
-chmod 711 "$room"
+make_room || exit 1
 kept="$(dirname "$(dirname "$(rt doc | head -n 1)")")/rattle-kept"
 # rt makes the folder itself, where it can.
 if [ "${CI:-}" != true ] && { [ -O "$kept" ] || { [ ! -e "$kept" ] && [ -w "$(dirname "$kept")" ]; }; }; then

@@ -22,8 +22,7 @@ mkdir -p "${2:-${XDG_CACHE_HOME:-$HOME/.cache}/bit_set_roots}"
 roots="$(readlink -f "${2:-${XDG_CACHE_HOME:-$HOME/.cache}/bit_set_roots}")"
 # shellcheck source=../tools/ending.sh
 . "$here/../tools/ending.sh"
-room="$(mktemp -d)"
-passing+=("$room")
+make_room
 version="$(basename "$release"/bit-set-sys-*.crate .crate)"
 version="${version#bit-set-sys-}"
 # Some twelve calls each.

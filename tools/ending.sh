@@ -8,13 +8,36 @@
 declare -gA groups=()
 # Files and folders that go when the script ends.
 passing=()
+# Whether signals wait, and which does.
+is_held=''
+waiting=''
+
+# Between these two a signal waits, so that what is begun there is on a list when it is heeded.
+hold_signals() { is_held=yes; }
+heed_signals() {
+    is_held=''
+    [ -z "$waiting" ] || end_by "$waiting"
+}
 
 # Starts a command as a group of processes of its own, which `$!` numbers.
 start_group() {
+    hold_signals
     set -m
     "$@" &
     set +m
     groups[$!]=1
+    heed_signals
+}
+
+# Makes the folder `room` for the script, which goes with it, and in that one for the temporary files of what it runs,
+# which that leaves where it is ended. rt runs tests and programs as nobody, who has to get there.
+make_room() {
+    hold_signals
+    room="$(trap '' HUP INT QUIT TERM && mktemp -d)" && passing+=("$room")
+    heed_signals
+    [ -n "$room" ] || return
+    export TMPDIR="$room/temporary"
+    mkdir "$TMPDIR" && chmod 711 "$room" && chmod 1777 "$TMPDIR"
 }
 
 # Waits for one, and returns its status.
@@ -67,6 +90,10 @@ clean_up() {
 
 # Ends the script as the signal ends a process that does nothing about it, but without a file of its memory.
 end_by() {
+    if [ -n "$is_held" ]; then
+        waiting="$1"
+        return
+    fi
     clean_up
     trap - EXIT "$1"
     ulimit -c 0

@@ -11,14 +11,12 @@ try_files() {
     else
         left_out 'lintian'
     fi
-    if has auditwheel; then
-        local wheel
-        for wheel in "$release"/*.whl; do
-            try "auditwheel of ${wheel##*/}" agrees "$wheel"
-        done
-    else
-        left_out 'auditwheel, which is not here'
-    fi
+    local wheel
+    has auditwheel || left_out 'auditwheel, which is not here'
+    for wheel in "$release"/*.whl; do
+        try "${wheel##*/} takes what its tag says" takes_little "$wheel"
+        ! has auditwheel || try "auditwheel of ${wheel##*/}" agrees "$wheel"
+    done
     given="$room/try"
     mkdir -p "$given"
     tar xzf "$release/bit_set-$version.tar.gz" -C "$given"
@@ -45,6 +43,17 @@ tells() {
     for line in 'Toolchain: *[^ ].*' 'Checksum of logic: *[0-9a-f]\{64\}' 'What is trusted: .*' '    ./release FOLDER'; do
         grep -qx "$line" "$release/PROOF.txt" || return
     done
+}
+
+# A module takes nothing of the system but glibc, and that no newer than the tag in its wheel's name.
+takes_little() {
+    local at="$room/wheel" tag newest
+    tag="$(cut -d _ -f 1,2 --output-delimiter=. <<< "${1##*manylinux_}")"
+    rm -rf "$at" && python3 -m zipfile -e "$1" "$at" || return
+    newest="$(objdump -T "$at"/bit_set/*.so | sed -n 's/.*GLIBC_\([0-9.]*\).*/\1/p' | sort -V | tail -n 1)"
+    echo "it takes glibc $newest"
+    ! readelf -d "$at"/bit_set/*.so | grep '(NEEDED)' | grep -v '\[libc\.so\.6\]' \
+        && [ "$(printf '%s\n' "$newest" "$tag" | sort -V | tail -n 1)" = "$tag" ]
 }
 
 # The tag in a wheel's name is one that auditwheel gives it.

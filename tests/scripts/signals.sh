@@ -9,6 +9,29 @@ for signal in HUP INT QUIT TERM; do
 done
 expect_marks 'after runs that were ended' '30 TERM' 11 1
 
+# A signal that comes after a beginning and before what was begun is on a list.
+cat > "$room/begins" << 'SCRIPT'
+signal="$1"
+. "$2/tools/ending.sh"
+set() {
+    builtin set "$@"
+    [ "$1" = -m ] || { echo "sleep $! 30" >> "$STAND_INS/calls" && kill -s "$signal" "$$"; }
+}
+mktemp() { command mktemp "$@" && kill -s "$signal" "$$"; }
+"${@:3}"
+SCRIPT
+for signal in HUP INT QUIT TERM; do
+    for begins in make_room 'start_group sleep 30'; do
+        forget_calls
+        ended=0
+        # shellcheck disable=SC2086  # a command and its words
+        { env --default-signal=HUP,INT,QUIT,TERM bash "$room/begins" "$signal" "$top" $begins || ended=$?; } 2> "$room/said"
+        expect "$begins by SIG$signal: it ends with $ended" ends_with $((128 + $(kill -l "$signal")))
+        expect "$begins by SIG$signal: what it started is not ended" wait_until all_are_gone
+        expect "$begins by SIG$signal: it leaves temporary files" is_empty "$TMPDIR"
+    done
+done
+
 # A repository with the library for C, and with tests that only begin.
 library="$room/library"
 mkdir -p "$library/crates" "$library/tests"
