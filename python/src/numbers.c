@@ -5,28 +5,23 @@
 enum reading read_number(PyObject *object, size_t *number)
 {
     /* In the stable ABI the second of these is a call. */
-    if (PyLong_CheckExact(object) || PyLong_Check(object)) {
-        *number = PyLong_AsSize_t(object);
-    } else {
-        if (!PyIndex_Check(object))
-            return NO_NUMBER;
-        PyObject *index = PyNumber_Index(object);
-        if (!index)
-            return FAILED;
-        *number = PyLong_AsSize_t(index);
-        Py_DECREF(index);
-    }
-    if (*number != SIZE_MAX)
-        return NUMBER;
-    PyErr_Clear();
-    return NO_NUMBER;
+    if (PyLong_CheckExact(object) || PyLong_Check(object))
+        return read_int(object, number);
+    if (!PyIndex_Check(object))
+        return NO_NUMBER;
+    PyObject *index = PyNumber_Index(object);
+    if (!index)
+        return FAILED;
+    enum reading reading = read_int(index, number);
+    Py_DECREF(index);
+    return reading;
 }
 
 /* Reads which number an object equals, as a look-up in one of Python's own sets does: 4.0 is 4 too. What is no index must
  * have a hash, and equals a number only where that is a member. */
-enum reading read_equal(PyObject *self, PyObject *object, size_t *number)
+enum reading read_equal_of_any(PyObject *self, PyObject *object, size_t *number)
 {
-    if (PyLong_CheckExact(object) || PyIndex_Check(object))
+    if (PyIndex_Check(object))
         return read_number(object, number);
     /* What equals an int has its hash, and that of a number which a set has room for is the number. */
     Py_hash_t hash = PyObject_Hash(object);
@@ -42,7 +37,7 @@ enum reading read_equal(PyObject *self, PyObject *object, size_t *number)
 }
 
 /* Reads a number as `read_number` does, with an exception where there is none. The object may be borrowed from a list. */
-bool read_member(PyObject *object, size_t *number)
+bool read_member_of_any(PyObject *object, size_t *number)
 {
     Py_INCREF(object);
     enum reading reading = read_number(object, number);

@@ -79,9 +79,30 @@ static inline PyObject *int_of(size_t number)
 PyObject *member_or_none(size_t member);
 bool read_bound(PyObject *object, size_t *bound, int *outside);
 int read_bounds(PyObject *first, PyObject *last, size_t *start, size_t *stop, bool *is_within);
-bool read_member(PyObject *object, size_t *number);
-enum reading read_equal(PyObject *self, PyObject *object, size_t *number);
+bool read_member_of_any(PyObject *object, size_t *number);
+enum reading read_equal_of_any(PyObject *self, PyObject *object, size_t *number);
 enum reading read_number(PyObject *object, size_t *number);
+
+/* Reads a number below SIZE_MAX from an int, which runs no code. */
+static inline enum reading read_int(PyObject *object, size_t *number)
+{
+    *number = PyLong_AsSize_t(object);
+    if (*number != SIZE_MAX)
+        return NUMBER;
+    PyErr_Clear();
+    return NO_NUMBER;
+}
+
+/* Most objects are ints, so these two test for one in the caller: it makes a tenth of the time of a look-up. */
+static inline bool read_member(PyObject *object, size_t *number)
+{
+    return (PyLong_CheckExact(object) && read_int(object, number) == NUMBER) || read_member_of_any(object, number);
+}
+
+static inline enum reading read_equal(PyObject *self, PyObject *object, size_t *number)
+{
+    return PyLong_CheckExact(object) ? read_int(object, number) : read_equal_of_any(self, object, number);
+}
 
 /* copying.c */
 PyObject *matrix_deep_copy(PyObject *self, PyObject *memo);
