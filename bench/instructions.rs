@@ -4,8 +4,22 @@ use crate::small::{CALLS, Input};
 use std::io;
 
 const LENGTHS: [usize; 3] = [64, 500, 4_000];
+const LARGE: usize = 1 << 24;
 const SIDES: [&str; 3] = ["here", "bit-set", "fixedbitset"];
 const TURNS: [usize; 2] = [100, 1_100];
+const TURNS_OF_LARGE: [usize; 2] = [2, 12];
+
+/// The calls that are counted at the large length too: those that go over all blocks and write no set anew.
+const OF_LARGE: [&str; 8] = [
+    "`union_with`",
+    "`intersect_with`",
+    "`difference_with`",
+    "`symmetric_difference_with`",
+    "`==` of equal sets",
+    "`is_subset` of more",
+    "`is_disjoint` of disjoint sets",
+    "`count`",
+];
 
 /// Does the turns of one call by one side, and prints the result: what callgrind is run on. The words are a place in
 /// the list of calls, a side, a length and how many turns. `None` where they are not.
@@ -22,9 +36,10 @@ pub fn run_turns(words: &[String]) -> Option<()> {
 fn instructions(call: usize, len: usize, agrees: &mut bool) -> io::Result<Vec<f64>> {
     let mut counts = Vec::new();
     let mut results = Vec::new();
+    let turns = if len == LARGE { TURNS_OF_LARGE } else { TURNS };
     for side in SIDES {
         let words = ["turns".to_string(), call.to_string(), side.to_string(), len.to_string()];
-        let (count, result) = callgrind::of_a_turn(&words, TURNS)?;
+        let (count, result) = callgrind::of_a_turn(&words, turns)?;
         counts.push(count);
         results.push(result);
     }
@@ -38,8 +53,11 @@ fn instructions(call: usize, len: usize, agrees: &mut bool) -> io::Result<Vec<f6
 /// Prints the rows. Whether the sides of each gave the same results.
 fn rows() -> io::Result<bool> {
     let mut agrees = true;
-    for len in LENGTHS {
+    for len in LENGTHS.into_iter().chain([LARGE]) {
         for (place, call) in CALLS.iter().enumerate() {
+            if len == LARGE && !OF_LARGE.contains(&call.name) {
+                continue;
+            }
             let counts = instructions(place, len, &mut agrees)?;
             let better = counts[1].min(counts[2]);
             print!("| {} | {len} | {:.0} | {:.0} | {:.0} |", call.name, counts[0], counts[1], counts[2]);
