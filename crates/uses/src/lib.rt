@@ -15,7 +15,6 @@ pub mod chains;
 pub mod closing;
 pub mod commands;
 pub mod complements;
-pub mod compressed;
 pub mod filling;
 pub mod filtering;
 pub mod from_the_back;

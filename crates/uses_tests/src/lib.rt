@@ -8,8 +8,6 @@ mod chains_tests;
 #[cfg(test)]
 mod commands_tests;
 #[cfg(test)]
-mod compressed_tests;
-#[cfg(test)]
 mod expect;
 #[cfg(test)]
 mod kinds_tests;
