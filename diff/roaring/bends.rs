@@ -1,6 +1,8 @@
 //! Wrong calls of CRoaring's side, for the self test: each is to be seen.
 use crate::calls::{Call, Line};
 use crate::croaring::Set;
+use crate::sides::digest_of_walk;
+use crate::walks::{digest_of_steps, numbers_between};
 
 /// What a wrong call gets wrong, of its set after the call, beside the second one, and of what was returned.
 type Turn = fn(&Line, &mut Set, &Set, &mut usize);
@@ -22,7 +24,7 @@ fn past_container(set: &Set) -> Option<u32> {
     set.numbers().into_iter().find(|number| number / 65_536 != key)
 }
 
-pub static BENDS: [Bend; 10] = [
+pub static BENDS: [Bend; 14] = [
     Bend {
         name: "insert returns true for the first number of a container, in or not",
         call: Call::Insert,
@@ -89,7 +91,7 @@ pub static BENDS: [Bend; 10] = [
         turn: |line, set, _, returned| {
             let past = past_container(set);
             let kept: Vec<u32> = set.numbers().into_iter().filter(|number| Some(*number) != past).collect();
-            *returned = crate::sides::digest_of_walk(&kept, line.count);
+            *returned = digest_of_walk(&kept, line.count);
         },
     },
     Bend {
@@ -100,6 +102,36 @@ pub static BENDS: [Bend; 10] = [
             if let Some(last) = last {
                 set.remove(last);
             }
+        },
+    },
+    Bend {
+        name: "deserialize_from takes a byte past a set of no members",
+        call: Call::DeserializeFrom,
+        turn: |_, set, _, returned| *returned += usize::from(set.is_empty()),
+    },
+    Bend {
+        name: "a walk from both ends lacks the last number of a container",
+        call: Call::Walk,
+        turn: |line, set, _, returned| {
+            let kept: Vec<u32> = set.numbers().into_iter().filter(|number| low(*number) != 65_535).collect();
+            *returned = digest_of_steps(set, &kept, line);
+        },
+    },
+    Bend {
+        name: "a walk over a range has the end of it too",
+        call: Call::Range,
+        turn: |line, set, _, returned| {
+            let members = numbers_between(set, line.first, line.second.saturating_add(1));
+            *returned = digest_of_steps(set, &members, line);
+        },
+    },
+    Bend {
+        name: "to_bit_set leaves out the greatest member where it is the last of 64 numbers",
+        call: Call::ToBitSet,
+        turn: |line, set, _, returned| {
+            let mut members = numbers_between(set, 0, line.first);
+            members.pop_if(|last| *last % 64 == 63);
+            *returned = digest_of_walk(&members, members.len());
         },
     },
 ];

@@ -60,6 +60,10 @@ calls! {
     FromIter "from_iter" "snmc"
     FromSortedIter "from_sorted_iter" "snmc"
     SerializeInto "serialize_into" "sc"
+    DeserializeFrom "deserialize_from" "stmc"
+    Walk "walk" "snc"
+    Range "range" "snmc"
+    ToBitSet "to_bit_set" "snc"
 }
 
 impl Call {

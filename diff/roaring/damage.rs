@@ -10,12 +10,16 @@ use std::time::Instant;
 /// How many times its length a copy may ask for.
 const MULTIPLE: usize = 11;
 
+/// For how many bytes a reader is asked at once, at most.
+const PIECE: usize = 8_192;
+
 /// The faults by their numbers in `crates/roaring_calls`: 0 stands for none.
 const FAULTS: [&str; 10] =
     ["taken", "Short", "Cookie", "TooMany", "Keys", "Offset", "Cardinality", "Order", "Runs", "Memory"];
 
 unsafe extern "C" {
     fn roaring_read(bytes: *const u8, n: usize, places: *mut usize, m: usize) -> usize;
+    fn roaring_read_from(bytes: *const u8, n: usize, most: usize, places: *mut usize, m: usize) -> usize;
 }
 
 /// What this library makes of bytes: the number of the fault, and how many bytes the set takes, how many members it has, and
@@ -23,6 +27,13 @@ unsafe extern "C" {
 pub fn read(bytes: &[u8]) -> (usize, [usize; 3]) {
     let mut words = [0; 3];
     let fault = unsafe { roaring_read(bytes.as_ptr(), bytes.len(), words.as_mut_ptr(), words.len()) };
+    (fault, words)
+}
+
+/// The same where they come in pieces of at most so many.
+fn read_from(bytes: &[u8], most: usize) -> (usize, [usize; 3]) {
+    let mut words = [0; 3];
+    let fault = unsafe { roaring_read_from(bytes.as_ptr(), bytes.len(), most, words.as_mut_ptr(), words.len()) };
     (fault, words)
 }
 
@@ -105,6 +116,8 @@ struct Tally {
     changed: usize,
     /// The most memory that was asked for, as a multiple of the length.
     most: f64,
+    /// The same of a reader, without its first piece.
+    most_in_pieces: f64,
     wrong: usize,
 }
 
@@ -115,7 +128,11 @@ fn try_copy(calls: &Calls, good: &[u8], bytes: &[u8], tally: &mut Tally) {
     let asked = memory::taken();
     tally.of_faults[fault] += 1;
     tally.most = tally.most.max(asked as f64 / bytes.len().max(1) as f64);
+    let in_pieces = read_from(bytes, 1 + bytes.len() % 100);
+    let past_piece = memory::taken().saturating_sub(PIECE);
+    tally.most_in_pieces = tally.most_in_pieces.max(past_piece as f64 / bytes.len().max(1) as f64);
     let mut reason = (asked > MULTIPLE * bytes.len()).then_some("it asks for more memory than it may");
+    reason = reason.or((in_pieces != (fault, words)).then_some("it reads something else of a reader"));
     if fault == 0 {
         tally.changed += usize::from(!bytes.starts_with(good));
         reason = reason.or(wrong(calls, bytes, &words));
@@ -131,7 +148,7 @@ fn try_copy(calls: &Calls, good: &[u8], bytes: &[u8], tally: &mut Tally) {
 pub fn run(calls: &Calls, copies: usize, seed: u64) -> bool {
     let start = Instant::now();
     let mut random = Random::new(seed);
-    let mut tally = Tally { of_faults: [0; FAULTS.len()], changed: 0, most: 0.0, wrong: 0 };
+    let mut tally = Tally { of_faults: [0; FAULTS.len()], changed: 0, most: 0.0, most_in_pieces: 0.0, wrong: 0 };
     let mut done = 0;
     while done < copies && tally.wrong < 5 {
         let mut set = good_set(calls, &mut random);
@@ -155,5 +172,6 @@ pub fn run(calls: &Calls, copies: usize, seed: u64) -> bool {
         println!("{name}: {count}");
     }
     println!("memory: at most {:.2} times the length", tally.most);
+    println!("memory for a reader: at most {PIECE} bytes and {:.2} times the length", tally.most_in_pieces);
     tally.wrong == 0
 }

@@ -10,6 +10,9 @@ pub const LINES: usize = 1_000;
 /// A set of more members is emptied now and then.
 const MOST: u64 = 300_000;
 
+/// A bit set is made of numbers below this one: it takes memory for all of them.
+const GREATEST: usize = 100_000_000;
+
 pub struct Draw {
     random: Random,
     lines_left: usize,
@@ -84,15 +87,27 @@ impl Draw {
             Call::Serialize | Call::SerializeInto | Call::Deserialize | Call::SerializedSize => {
                 line.count = self.random.below(2);
             }
+            Call::DeserializeFrom => {
+                line.second = self.random.of(&[1, 3, 100, 8_192, 1_000_000]);
+                line.count = self.random.below(2);
+            }
+            Call::ToBitSet => {
+                line.first = self.number(set).min(GREATEST);
+                line.count = self.random.below(2);
+            }
             Call::InsertRange | Call::RemoveRange => {
                 line.first = self.number(set);
                 let longest = if self.random.once_in(10) { 200_000 } else { 300 };
                 line.second = line.first + self.random.below(longest);
             }
-            Call::RangeCardinality | Call::ContainsRange => {
-                line.first = self.number(set);
-                let ends = [line.first + self.random.below(300), self.number(set), 1 << 32, line.first];
-                line.second = self.random.of(&ends);
+            Call::RangeCardinality | Call::ContainsRange => self.range(line, set),
+            Call::Walk => {
+                line.first = self.random.below(1 << 32);
+                line.count = self.steps();
+            }
+            Call::Range => {
+                self.range(line, set);
+                line.count = self.steps();
             }
             Call::Select => line.first = self.random.below(set.len() as usize + 3),
             Call::Iter => {
@@ -101,6 +116,19 @@ impl Draw {
             }
             _ => line.first = self.number(set),
         }
+    }
+
+    /// A range, which may be empty or go past all numbers.
+    fn range(&mut self, line: &mut Line, set: &Set) {
+        line.first = self.number(set);
+        let ends = [line.first + self.random.below(300), self.number(set), 1 << 32, line.first];
+        line.second = self.random.of(&ends);
+    }
+
+    /// How many steps of a walk from both ends.
+    fn steps(&mut self) -> usize {
+        let most = self.random.of(&[7, 40, 400]);
+        self.random.below(most)
     }
 
     /// How many numbers: few, near what a list can have, or any number up to the most.

@@ -12,6 +12,7 @@ mod memory;
 mod random;
 mod shrink;
 mod sides;
+mod walks;
 
 use bends::{BENDS, Bend};
 use calls::{CALLS, Line};

@@ -2,6 +2,7 @@
 use crate::bends::Bend;
 use crate::calls::{Call, Line};
 use crate::croaring::{Calls, Set};
+use crate::walks::{digest_of_steps, numbers_between};
 
 unsafe extern "C" {
     fn roaring_run(
@@ -40,7 +41,7 @@ pub struct Peer<'a> {
 }
 
 /// 0 for none, else one more than the number.
-fn of_item(item: Option<u32>) -> usize {
+pub fn of_item(item: Option<u32>) -> usize {
     item.map_or(0, |number| number as usize + 1)
 }
 
@@ -55,6 +56,11 @@ pub fn digest_of_walk(numbers: &[u32], steps: usize) -> usize {
     digest_of(0, items.chain(std::iter::repeat(0)).take(steps))
 }
 
+/// A step of the generator of random numbers that this library's side has too.
+pub fn next_state(state: u64) -> u64 {
+    state.wrapping_mul(6_364_136_223_846_793_005).wrapping_add(1_442_695_040_888_963_407)
+}
+
 /// The numbers of a line that puts in or takes out many.
 fn numbers_of(line: &Line) -> Vec<u32> {
     if line.call != Call::Scatter {
@@ -65,7 +71,7 @@ fn numbers_of(line: &Line) -> Vec<u32> {
     let mask = (1u64 << (line.second % 33)) - 1;
     let mut state = line.first as u64;
     let next = |_| {
-        state = state.wrapping_mul(6_364_136_223_846_793_005).wrapping_add(1_442_695_040_888_963_407);
+        state = next_state(state);
         base.wrapping_add(((state >> 24) & mask) as u32)
     };
     (0..line.count).map(next).collect()
@@ -91,7 +97,7 @@ impl<'a> Peer<'a> {
     /// Makes the call of a line. One that reads bytes is told where they stand.
     fn call(&mut self, line: &mut Line, bend: Option<&Bend>) -> Words {
         let mut returned = match line.call {
-            Call::Deserialize => self.read(line),
+            Call::Deserialize | Call::DeserializeFrom => self.read(line),
             Call::Serialize | Call::SerializeInto => self.write(line),
             Call::Clone => {
                 self.sets[line.set] = self.sets[line.one].clone();
@@ -113,7 +119,9 @@ impl<'a> Peer<'a> {
         let bytes = self.bytes(line.one, line);
         line.first = self.input.len();
         self.input.extend(&bytes);
-        line.second = self.input.len();
+        if line.call == Call::Deserialize {
+            line.second = self.input.len();
+        }
         let Some((set, len)) = Set::of_bytes(self.calls, &bytes) else { return 0 };
         self.sets[line.set] = set;
         len
@@ -213,6 +221,12 @@ impl<'a> Peer<'a> {
             Call::Rank => set.rank(number) as usize,
             Call::Select => of_item(set.select(number)),
             Call::Iter => digest_of_walk(&set.numbers(), line.count),
+            Call::Walk => digest_of_steps(set, &set.numbers(), line),
+            Call::Range => digest_of_steps(set, &numbers_between(set, line.first, line.second), line),
+            Call::ToBitSet => {
+                let below = numbers_between(set, 0, line.first);
+                digest_of_walk(&below, below.len())
+            }
             Call::SerializedSize => self.bytes(line.set, line).len(),
             Call::RangeCardinality => set.range_len(line.first as u64, line.second as u64) as usize,
             Call::ContainsRange => usize::from(set.contains_range(line.first as u64, line.second as u64)),
