@@ -4,7 +4,7 @@ ghost use Rattle.bit_blocks.specs.{Mismatches.IsFirstBlockMismatch, Storage.valu
 ghost use Rattle.bit_words.specs.Summary.{IsStoredSummary};
 
 use crate::summary::is_short;
-use crate::summary::queries::{chunks_before_zero, first_chunks};
+use crate::summary::queries::{chunks_before_zero, first_chunks, is_full};
 use bit_blocks::block::BitBlock;
 use bit_blocks::packed::comparing::{first_mismatching_block, same_blocks};
 use bit_blocks::packed::zeros::zeros_before;
@@ -59,7 +59,8 @@ fn mismatch_in_runs<B: BitBlock>(blocks: &[B], others: &[B], summary: &[B]) -> O
     None
 }
 
-// Whether two lists have the same blocks. Where both store a summary these are compared first. It is a call of its own, so that
+// Whether two lists have the same blocks. Where both store a summary these are compared first, if enough blocks are 0 to be
+// passed over. It is a call of its own, so that
 // few blocks are compared with no register saved.
 #[inline(never)]
 fn same_of_long<B: BitBlock>(blocks: &[B], summary: &[B], others: &[B], other_summary: &[B]) -> bool
@@ -71,6 +72,9 @@ fn same_of_long<B: BitBlock>(blocks: &[B], summary: &[B], others: &[B], other_su
         ↔ ((k : ℕ) → get_or (map B.number blocks.now) k 0 ≡ get_or (map B.number others.now) k 0) }
 {
     if is_short::<B>(blocks.len().min(others.len())) {
+        return same_blocks(blocks, others);
+    }
+    if is_full(summary) {
         return same_blocks(blocks, others);
     }
     same_blocks(summary, other_summary) && mismatch_in_runs(blocks, others, summary).is_none()

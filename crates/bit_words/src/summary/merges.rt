@@ -5,6 +5,7 @@ ghost use Rattle.bit_blocks.specs.{BlockMerges.{other_at, CanMerge, HasMerged, S
 ghost use Rattle.bit_words.specs.Summary.{IsSummary, IsStoredSummary, SaysUsed};
 
 use crate::summary::merges::touched::{merge_touched, touched_by};
+use crate::summary::queries::SAMPLED;
 use crate::summary::summarized::{Listed, Summarized};
 use crate::summary::{is_nonzero, is_short, used_from};
 use bit_blocks::block::BitBlock;
@@ -187,13 +188,14 @@ pub(crate) fn touched_at<B: BitBlock, O: Operation, S: Summarized<B>>(
     touched_by::<B, O>(block_at(summary, q), others.used_at(q))
 }
 
-// The blocks of chunk `q` become their merges, and the summary follows them.
+// The blocks of chunk `q` become their merges, and the summary follows them. Where lists are dense the summaries are not asked.
 #[inline(always)]
 fn merge_chunk_at<B: BitBlock, O: Operation, S: Summarized<B>>(
     blocks: &mut [B],
     summary: &mut [B],
     others: S,
     q: usize,
+    dense: bool,
 )
     requires can { CanMerge B.is_block blocks.old (S.count others) (S.are_blocks others) }
     requires summaries { S.are_summarized others }
@@ -204,6 +206,11 @@ fn merge_chunk_at<B: BitBlock, O: Operation, S: Summarized<B>>(
     ensures summary { IsSummary B.width B.number B.is_block blocks.new summary.new }
     ensures summary_len { length summary.new ≡ length summary.old }
 {
+    if dense && q < block_index::<B>(others.len()) {
+        let digits = merge_whole::<B, O, S>(blocks, others, q);
+        put_in(summary, q, digits);
+        return;
+    }
     let touched = touched_at::<B, O, S>(blocks, summary, others, q);
     if is_nonzero(touched) {
         let own = block_at(summary, q);
@@ -239,7 +246,8 @@ pub(crate) fn chunks_to_merge<B: BitBlock, O: Operation, S: Others<B>>(
     }
 }
 
-// Whether each block of each chunk but the last may change: then a pass over all blocks is the shortest.
+// Whether most blocks may change in each chunk that is looked at: then a pass over all blocks is the shortest. The last chunk
+// may be a part of one, and is not looked at.
 #[inline]
 pub(crate) fn is_dense<B: BitBlock, O: Operation, S: Summarized<B>>(
     blocks: &[B],
@@ -250,9 +258,10 @@ pub(crate) fn is_dense<B: BitBlock, O: Operation, S: Summarized<B>>(
     requires summaries { S.are_summarized others }
     requires summary { IsSummary B.width B.number B.is_block blocks.now summary.now }
 {
-    let all = block_not(B::zero());
-    for q in 1..chunks_to_merge::<B, O, S>(blocks, summary, others) {
-        if !same(touched_at::<B, O, S>(blocks, summary, others, q - 1), all) {
+    let last = chunks_to_merge::<B, O, S>(blocks, summary, others).saturating_sub(1);
+    for sample in 0..last.div_ceil(SAMPLED) {
+        let touched = touched_at::<B, O, S>(blocks, summary, others, sample * SAMPLED);
+        if touched.count_ones() <= B::bits() / 2 {
             return false;
         }
     }
@@ -260,14 +269,16 @@ pub(crate) fn is_dense<B: BitBlock, O: Operation, S: Summarized<B>>(
 }
 
 // Each block becomes its merge with the other of its index, or with zeros where there is none, and the summary is that of
-// what they become. The blocks before `start` stay, and are passed over but for those of its chunk. It is a call of its own,
-// so that what picks the merge is short and goes into its caller, which knows the merge.
+// what they become. The blocks before `start` stay, and are passed over but for those of its chunk. `dense` says whether to
+// merge all blocks of the others' whole chunks, where it takes longer to look which may change. It is a call of its own, so
+// that what picks the merge is short and goes into its caller, which knows the merge.
 #[inline(never)]
 pub(crate) fn merge_long<B: BitBlock, O: Operation, S: Summarized<B>>(
     blocks: &mut [B],
     summary: &mut [B],
     others: S,
     start: usize,
+    dense: bool,
 )
     requires can { CanMerge B.is_block blocks.old (S.count others) (S.are_blocks others) }
     requires summaries { S.are_summarized others }
@@ -279,7 +290,7 @@ pub(crate) fn merge_long<B: BitBlock, O: Operation, S: Summarized<B>>(
 {
     let chunks = chunks_to_merge::<B, O, S>(blocks, summary, others);
     for q in block_index::<B>(start)..chunks {
-        merge_chunk_at::<B, O, S>(blocks, summary, others, q);
+        merge_chunk_at::<B, O, S>(blocks, summary, others, q, dense);
     }
 }
 
@@ -328,13 +339,11 @@ pub(crate) fn merge_stored<B: BitBlock, O: Operation>(
         blocks: others,
         summary: other_summary,
     };
-    if O::is_union()
-        && !is_short::<B>(others.len())
-        && is_dense::<B, O, Listed<B>>(blocks, summary, list)
-    {
+    let dense = !is_short::<B>(others.len()) && is_dense::<B, O, Listed<B>>(blocks, summary, list);
+    if dense && O::is_union() {
         unite_long::<B, O>(blocks, summary, others, other_summary, start);
     } else {
-        merge_long::<B, O, Listed<B>>(blocks, summary, list, start);
+        merge_long::<B, O, Listed<B>>(blocks, summary, list, start, dense);
     }
 }
 

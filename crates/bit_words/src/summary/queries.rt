@@ -10,6 +10,24 @@ use bit_blocks::packed::access::block_at;
 use bit_blocks::packed::ones::ones_of;
 use bit_blocks::packed::zeros::{are_zero, used_blocks, zeros_before};
 
+// One chunk of so many is looked at to tell whether a list is dense.
+pub(crate) const SAMPLED: usize = 8;
+
+// Whether most blocks are not 0 in each chunk that is looked at: then no summary saves a pass over all of them. The last chunk may
+// be a part of one, and is not looked at.
+#[inline]
+pub(crate) fn is_full<B: BitBlock>(summary: &[B]) -> bool
+    requires each { All B.is_block summary.now }
+{
+    let last = summary.len().saturating_sub(1);
+    for sample in 0..last.div_ceil(SAMPLED) {
+        if block_at(summary, sample * SAMPLED).count_ones() <= B::bits() / 2 {
+            return false;
+        }
+    }
+    true
+}
+
 // Whether all blocks are 0, by the summary where one is stored.
 pub(crate) fn are_zero_by_summary<B: BitBlock>(blocks: &[B], summary: &[B]) -> bool
     requires each { All B.is_block blocks.now }
