@@ -177,7 +177,7 @@ fn change_long<B: BitBlock, O: Operation, S: Summarized<B>>(
     let Some(start) = first_change_long::<B, O, S>(blocks, summary, others) else {
         return false;
     };
-    merge_long::<B, O, S>(blocks, summary, others, start, false);
+    merge_long::<B, O, S>(blocks, summary, others, start);
     true
 }
 

@@ -12,7 +12,7 @@ use bit_blocks::block::BitBlock;
 use bit_blocks::block::masks::with_one_if;
 use bit_blocks::block::merge::Merge;
 use bit_blocks::block::operation::{Difference, Intersection, Operation, Symmetric, Union};
-use bit_blocks::block::operators::{block_not, block_or, same, shift_left};
+use bit_blocks::block::operators::{block_or, shift_left};
 use bit_blocks::packed::access::{block_at, block_count, block_index, put_in};
 use bit_blocks::packed::block_merges::{merge_between, merge_block, merge_from};
 use bit_blocks::packed::groups::LONG_GROUP;
@@ -188,14 +188,13 @@ pub(crate) fn touched_at<B: BitBlock, O: Operation, S: Summarized<B>>(
     touched_by::<B, O>(block_at(summary, q), others.used_at(q))
 }
 
-// The blocks of chunk `q` become their merges, and the summary follows them. Where lists are dense the summaries are not asked.
+// The blocks of chunk `q` become their merges, and the summary follows them.
 #[inline(always)]
 fn merge_chunk_at<B: BitBlock, O: Operation, S: Summarized<B>>(
     blocks: &mut [B],
     summary: &mut [B],
     others: S,
     q: usize,
-    dense: bool,
 )
     requires can { CanMerge B.is_block blocks.old (S.count others) (S.are_blocks others) }
     requires summaries { S.are_summarized others }
@@ -206,11 +205,6 @@ fn merge_chunk_at<B: BitBlock, O: Operation, S: Summarized<B>>(
     ensures summary { IsSummary B.width B.number B.is_block blocks.new summary.new }
     ensures summary_len { length summary.new ≡ length summary.old }
 {
-    if dense && q < block_index::<B>(others.len()) {
-        let digits = merge_whole::<B, O, S>(blocks, others, q);
-        put_in(summary, q, digits);
-        return;
-    }
     let touched = touched_at::<B, O, S>(blocks, summary, others, q);
     if is_nonzero(touched) {
         let own = block_at(summary, q);
@@ -269,16 +263,14 @@ pub(crate) fn is_dense<B: BitBlock, O: Operation, S: Summarized<B>>(
 }
 
 // Each block becomes its merge with the other of its index, or with zeros where there is none, and the summary is that of
-// what they become. The blocks before `start` stay, and are passed over but for those of its chunk. `dense` says whether to
-// merge all blocks of the others' whole chunks, where it takes longer to look which may change. It is a call of its own, so
-// that what picks the merge is short and goes into its caller, which knows the merge.
+// what they become. The blocks before `start` stay, and are passed over but for those of its chunk. It is a call of its own,
+// so that what picks the merge is short and goes into its caller, which knows the merge.
 #[inline(never)]
 pub(crate) fn merge_long<B: BitBlock, O: Operation, S: Summarized<B>>(
     blocks: &mut [B],
     summary: &mut [B],
     others: S,
     start: usize,
-    dense: bool,
 )
     requires can { CanMerge B.is_block blocks.old (S.count others) (S.are_blocks others) }
     requires summaries { S.are_summarized others }
@@ -290,7 +282,7 @@ pub(crate) fn merge_long<B: BitBlock, O: Operation, S: Summarized<B>>(
 {
     let chunks = chunks_to_merge::<B, O, S>(blocks, summary, others);
     for q in block_index::<B>(start)..chunks {
-        merge_chunk_at::<B, O, S>(blocks, summary, others, q, dense);
+        merge_chunk_at::<B, O, S>(blocks, summary, others, q);
     }
 }
 
@@ -339,11 +331,13 @@ pub(crate) fn merge_stored<B: BitBlock, O: Operation>(
         blocks: others,
         summary: other_summary,
     };
-    let dense = !is_short::<B>(others.len()) && is_dense::<B, O, Listed<B>>(blocks, summary, list);
-    if dense && O::is_union() {
+    if O::is_union()
+        && !is_short::<B>(others.len())
+        && is_dense::<B, O, Listed<B>>(blocks, summary, list)
+    {
         unite_long::<B, O>(blocks, summary, others, other_summary, start);
     } else {
-        merge_long::<B, O, Listed<B>>(blocks, summary, list, start, dense);
+        merge_long::<B, O, Listed<B>>(blocks, summary, list, start);
     }
 }
 

@@ -12,12 +12,6 @@ returns-else-is_nonzero-clause-has g c =
     let zero : g.B.BitBlock.number c.touched_at-touched.result ≡ 0 = grind (arith, c.is_nonzero.ensures, c.if-is_nonzero.false) in
     merged_stay _ g.B.BitBlock.width _ _ _ _ _ _ c.requires.can.each (stay_untouched _ _ _ c.args.q _ _ _ zero c.touched_at-touched.ensures.kept)
 
-pub returns-then-q-block_index-clause-summary : goal.returns-then-q-block_index-clause-summary
-returns-then-q-block_index-clause-summary g c =
-    let put = c.put_in.ensures in
-    chunk_summary _ g.B.BitBlock.width c.args.q _ _ _ _ _ _ _ _ g.met.B.BitBlock.width_law.positive c.merge_whole-digits.ensures.has c.requires.summary c.requires.in_summary put.numbers put.each put.len c.merge_whole-digits.ensures.digits
-
 pub returns-then-is_nonzero-clause-summary : goal.returns-then-is_nonzero-clause-summary
 returns-then-is_nonzero-clause-summary g c =
-    let put = c.put_in-then-is_nonzero.ensures in
-    chunk_summary _ g.B.BitBlock.width c.args.q _ _ _ _ _ _ _ _ g.met.B.BitBlock.width_law.positive c.merge_chunk-digits.ensures.has c.requires.summary c.requires.in_summary put.numbers put.each put.len c.merge_chunk-digits.ensures.digits
+    chunk_summary _ g.B.BitBlock.width c.args.q _ _ _ _ _ _ _ _ g.met.B.BitBlock.width_law.positive c.merge_chunk-digits.ensures.has c.requires.summary c.requires.in_summary c.put_in.ensures.numbers c.put_in.ensures.each c.put_in.ensures.len c.merge_chunk-digits.ensures.digits
