@@ -1,6 +1,7 @@
 mod Chains
 pub mod SourceLemmas
 pub mod SummarySpanLemmas
+mod RangeCountLemmas
 pub mod RangeLemmas
 pub mod MovedLemmas
 pub mod RangeQueryLemmas

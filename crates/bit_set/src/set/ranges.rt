@@ -121,8 +121,8 @@ impl<B: BitBlock> BitSet<B> {
         self.bits.any_in_range(range)
     }
 
-    /// How many numbers of the range are in: of `0..n`, the rank of `n`. Reads each block of the range once, and no
-    /// other.
+    /// How many numbers of the range are in: of `0..n`, the rank of `n`. Reads each block of the range at most
+    /// once, and no other; of a long range it passes over zero blocks by the summary.
     ///
     /// ```
     /// // The set is {1, 3, 4, 5}.

@@ -3,10 +3,11 @@ ghost use Rattle.std.specs.{Prelude.{◌≡◌, ◌≢◌, ℕ, ◌<◌, ◌≤�
 ghost use Rattle.bit_blocks.specs.Ranges.{changed_in_range, values_in_range};
 
 use crate::bit_vec::BitVec;
+use crate::summary::range_counts::ones_in_range;
 use crate::summary::spans::{fill_span, negate_span};
 use bit_blocks::block::BitBlock;
 use bit_blocks::block::operation::{Difference, Intersection, Union};
-use bit_blocks::packed::span_queries::{ones_in_span, span_merges_to_false};
+use bit_blocks::packed::span_queries::span_merges_to_false;
 use std::ops::Range;
 
 impl<B: BitBlock> BitVec<B> {
@@ -46,8 +47,8 @@ impl<B: BitBlock> BitVec<B> {
         }
     }
 
-    /// How many values in the range are true; indexes past the list count for none. Reads each block of the range once,
-    /// and no other.
+    /// How many values in the range are true; indexes past the list count for none. Reads each block of the range at most
+    /// once, and no other; of a long range it passes over zero blocks by the summary.
     pub fn count_ones_in_range(&self, range: Range<usize>) -> usize
         ensures { result ≡ count_by (λ value. value) (values_in_range range.start range.end self.now.values) }
     {
@@ -55,7 +56,7 @@ impl<B: BitBlock> BitVec<B> {
         if range.start >= end {
             return 0;
         }
-        ones_in_span(&self.blocks, range.start, end)
+        ones_in_range(&self.blocks, &self.summary, range.start, end)
     }
 
     /// Whether each index in the range has a true value, and so whether the range is empty or the list is long enough

@@ -65,7 +65,7 @@ pub(crate) fn ones_by_summary<B: BitBlock>(blocks: &[B], summary: &[B]) -> usize
 // chunks of zeros, each as many blocks as one has bits, by the summary alone. It is a call of its own, so that a short
 // list saves no registers for it.
 #[inline(never)]
-fn ones_of_runs<B: BitBlock>(blocks: &[B], summary: &[B]) -> usize
+pub(crate) fn ones_of_runs<B: BitBlock>(blocks: &[B], summary: &[B]) -> usize
     requires each { All B.is_block blocks.now }
     requires summary { All B.is_block summary.now }
     requires enough { length blocks.now ≤ length summary.now * B.width }

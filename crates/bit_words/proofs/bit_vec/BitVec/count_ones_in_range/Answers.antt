@@ -9,15 +9,16 @@ returns-then-range-end g c =
     ap (λ n. count_by (value_at g.B.BitBlock.width (map g.B.BitBlock.number c.self.inside.blocks.items)) (range_with_len c.args.range.start n)) (sym none)
     ∙ trues_in_view _ c.args.range.start c.args.range.end _ _ c.min-end.result _ _ c.self.view_is c.min-end.ensures
 
-pub ones_in_span-requires : goal.ones_in_span-requires
-ones_in_span-requires g c =
+pub ones_in_range-requires : goal.ones_in_range-requires
+ones_in_range-requires g c =
     let whole = ap (λ n. n * g.B.BitBlock.width) c.self.invariant.packed.count in
-    rw c.deref.ensures.value (record {
+    rw (c.deref.ensures.value, c.deref-2.ensures.value) (record {
       some = c.if-range-end.false;
       within = omega (arith, blocks_for-enough g.B.BitBlock.width c.self.inside.len g.met.B.BitBlock.width_law.positive, whole, c.min-end.ensures);
       each = c.self.invariant.packed.each;
+      summary = c.self.invariant.summary;
     })
 
 pub returns : goal.returns
 returns g c =
-    rw c.deref.ensures.value at c.ones_in_span.ensures ∙ trues_in_view _ c.args.range.start c.args.range.end _ _ c.min-end.result _ _ c.self.view_is c.min-end.ensures
+    rw c.deref.ensures.value at c.ones_in_range.ensures ∙ trues_in_view _ c.args.range.start c.args.range.end _ _ c.min-end.result _ _ c.self.view_is c.min-end.ensures

@@ -1,0 +1,77 @@
+// How many ones a range of a long list has. Chunks of zeros are passed over by the summary.
+ghost use Rattle.std.specs.{Prelude.{◌≡◌, ℕ, ◌+◌, ◌-◌, ◌*◌, ◌/◌, ◌^◌, ◌<◌, ◌≤◌, All, length, map}, List.{count_by, range_with_len}};
+ghost use Rattle.bit_blocks.specs.Storage.{value_at};
+ghost use Rattle.bit_words.specs.Summary.{IsStoredSummary, IsSummary};
+
+use crate::summary::is_short;
+use crate::summary::queries::{first_chunks, ones_of_runs};
+use bit_blocks::block::BitBlock;
+use bit_blocks::packed::access::block_index;
+use bit_blocks::packed::span_queries::ones_in_span;
+
+// The ones of the chunks from `first` on and before `end`, which the list has as a whole.
+#[inline]
+fn ones_of_whole_chunks<B: BitBlock>(blocks: &[B], summary: &[B], first: usize, end: usize) -> usize
+    requires forward { first ≤ end }
+    requires within { end * B.width ≤ length blocks.now }
+    requires fits { end * B.width * B.width < 2 ^ 64 }
+    requires each { All B.is_block blocks.now }
+    requires summary { IsSummary B.width B.number B.is_block blocks.now summary.now }
+    ensures { result ≡ count_by (value_at B.width (map B.number blocks.now))
+        (range_with_len (first * B.width * B.width) (end * B.width * B.width - first * B.width * B.width)) }
+{
+    let chunks = first_chunks(first_chunks(blocks, first).1, end - first).0;
+    ones_of_runs(chunks, summary.split_at(first).1.split_at(end - first).0)
+}
+
+// The ones from bit `start` on and below `end`, where the chunks from `first` on and before `last` lie between these. It is a call
+// of its own, so that a short range saves no registers for it.
+#[inline(never)]
+fn ones_around_chunks<B: BitBlock>(
+    blocks: &[B],
+    summary: &[B],
+    start: usize,
+    first: usize,
+    last: usize,
+    end: usize,
+) -> usize
+    requires some { first ≤ last }
+    requires begun { start < first * B.width * B.width }
+    requires ended { last * B.width * B.width ≤ end }
+    requires within { end ≤ length blocks.now * B.width }
+    requires each { All B.is_block blocks.now }
+    requires summary { IsSummary B.width B.number B.is_block blocks.now summary.now }
+    ensures { result ≡ count_by (value_at B.width (map B.number blocks.now)) (range_with_len start (end - start)) }
+{
+    let width = B::bits();
+    let from = first * width * width;
+    let to = last * width * width;
+    let begun = ones_in_span(blocks, start, from);
+    let ones = begun + ones_of_whole_chunks(blocks, summary, first, last);
+    if to == end {
+        return ones;
+    }
+    ones + ones_in_span(blocks, to, end)
+}
+
+// How many of the bits from `start` on and below `end`, of which there are some, are 1.
+#[inline]
+pub(crate) fn ones_in_range<B: BitBlock>(
+    blocks: &[B],
+    summary: &[B],
+    start: usize,
+    end: usize,
+) -> usize
+    requires some { start < end }
+    requires within { end ≤ length blocks.now * B.width }
+    requires each { All B.is_block blocks.now }
+    requires summary { IsStoredSummary B.width B.number B.is_block blocks.now summary.now }
+    ensures { result ≡ count_by (value_at B.width (map B.number blocks.now)) (range_with_len start (end - start)) }
+{
+    let first = block_index::<B>(block_index::<B>(start)) + 1;
+    let last = block_index::<B>(block_index::<B>(end));
+    if is_short::<B>(blocks.len()) || last <= first {
+        return ones_in_span(blocks, start, end);
+    }
+    ones_around_chunks(blocks, summary, start, first, last, end)
+}
