@@ -3,7 +3,7 @@ use Rattle.std.proofs.Common.{◌≡◌, ◌≢◌, ℕ, ◌+◌, ◌-◌, ◌*�
 use Rattle.std.proofs.lemmas.{Bool.{cases_eq, cases_lt, Decides.nat_tests}, Nat.{row_fits}, List.{get_or-append-add, get_or-append_right, get_or-drop, get_or-set_other, get_or-set_same, get_or-take, get_or_append_left, get_or_past, length-map, map-append, take-map}}
 use Rattle.bit_blocks.specs.{BlockMerges.{other_at, AreKept, HasMerged, Stay}, Digits.is_one, Merges.merge_of_values, declared.block.merge.Merge.Merge}
 use Rattle.bit_blocks.proofs.{BlockMergeLemmas.{merged_more, merged_none, merged_put, merged_same, stay_more, stay_none, stay_one, stay_part, stay_same}, VectorLemmas.numbers_below}
-use Rattle.bit_matrix.specs.Merges.{AreApart, IsMergedPart, IsNotedBlock, IsNotedMerge}
+use Rattle.bit_matrix.specs.Merges.{AreApart, IsMergedPart, IsTrackedBlock, IsTrackedMerge}
 use Rattle.bit_matrix.proofs.RowLemmas.{map-slice, same_block}
 
 -- one block more, whose merge x was written
@@ -22,9 +22,9 @@ pub still_write : (m : Merge) (w read write k : ℕ) (ms os ns : List ℕ) → I
 still_write m w read write k ms os ns before = before.others (write + k) (λ i below e. omega (arith, e, below))
 
 -- whether a block changed so far
-pub told_more : (write k x y : ℕ) (ms ns rs : List ℕ) (b c : ℕ) → write + k < length ns → rs ≡ set ns (write + k) x → get_or ns (write + k) 0 ≡ y → get_or ms (write + k) 0 ≡ y → ((b ≡ 0) ↔ ((q : ℕ) → q < k → get_or ns (write + q) 0 ≡ get_or ms (write + q) 0)) → ((c ≡ 0) ↔ ((b ≡ 0) × (y ≡ x)))
+pub reported_more : (write k x y : ℕ) (ms ns rs : List ℕ) (b c : ℕ) → write + k < length ns → rs ≡ set ns (write + k) x → get_or ns (write + k) 0 ≡ y → get_or ms (write + k) 0 ≡ y → ((b ≡ 0) ↔ ((q : ℕ) → q < k → get_or ns (write + q) 0 ≡ get_or ms (write + q) 0)) → ((c ≡ 0) ↔ ((b ≡ 0) × (y ≡ x)))
     → (c ≡ 0) ↔ ((q : ℕ) → q < k + 1 → get_or rs (write + q) 0 ≡ get_or ms (write + q) 0)
-told_more write k x y ms ns rs b c within is now was before one =
+reported_more write k x y ms ns rs b c within is now was before one =
     let here : get_or rs (write + k) 0 ≡ x = ap (λ zs. get_or zs (write + k) 0) is ∙ get_or-set_same ns (write + k) x 0 within in
     let elsewhere = λ (q : ℕ) (below : q < k). let e : get_or rs (write + q) 0 ≡ get_or ns (write + q) 0 = ap (λ zs. get_or zs (write + q) 0) is ∙ get_or-set_other ns (write + k) (write + q) x 0 (λ e. omega (arith, e, below)) in e in (
       λ none q below. elim (cases_eq q k) [
@@ -62,27 +62,27 @@ after_other read write count are less = elim are.apart [
 -- ---- whether blocks stay
 
 module _ {X : Type 0} (m : Merge) (w : ℕ) (f : X → ℕ) (P : X → Type 0) where
-  pub noted_none : (start end : ℕ) (xs os : List X) (was : X) → All P xs → P was → end ≤ start → IsNotedMerge m w f P start end xs os xs was was
-  noted_none start end xs os was each is le = record {
+  pub tracked_none : (start end : ℕ) (xs os : List X) (was : X) → All P xs → P was → end ≤ start → IsTrackedMerge m w f P start end xs os xs was was
+  tracked_none start end xs os was each is le = record {
     has = merged_none m w f P start end _ xs each le;
     of_block = is;
     none = (λ none. (none, stay_none m w f start end _ xs le), λ both. both.0);
   }
 
   -- the block k, which was read in xs, is written in ys
-  pub noted_put : (k : ℕ) (xs os ys zs : List X) (merged was now : X) → ((x : X) → P x → f x < 2 ^ w) → All P ys → k < length ys → get_or (map f ys) k 0 ≡ get_or (map f xs) k 0 → IsNotedBlock m w f P k xs os merged was now → map f zs ≡ set (map f ys) k (f merged) → All P zs → length zs ≡ length ys → IsNotedMerge m w f P k (k + 1) ys os zs was now
-  noted_put k xs os ys zs merged was now law each within still noted written all len =
+  pub tracked_put : (k : ℕ) (xs os ys zs : List X) (merged was now : X) → ((x : X) → P x → f x < 2 ^ w) → All P ys → k < length ys → get_or (map f ys) k 0 ≡ get_or (map f xs) k 0 → IsTrackedBlock m w f P k xs os merged was now → map f zs ≡ set (map f ys) k (f merged) → All P zs → length zs ≡ length ys → IsTrackedMerge m w f P k (k + 1) ys os zs was now
+  tracked_put k xs os ys zs merged was now law each within still tracked written all len =
       let a = get_or (map f ys) k 0 in
       let b = get_or (map f os) k 0 in
-      let digits = λ (j : ℕ) (inside : j < w). let e : is_one (f merged) j ≡ merge_of_values m (is_one a j) (is_one b j) = noted.digit j inside ∙ ap (λ n. merge_of_values m (is_one n j) (is_one b j)) (sym still) in e in
+      let digits = λ (j : ℕ) (inside : j < w). let e : is_one (f merged) j ≡ merge_of_values m (is_one a j) (is_one b j) = tracked.digit j inside ∙ ap (λ n. merge_of_values m (is_one n j) (is_one b j)) (sym still) in e in
       let same = λ (q j : ℕ) (le : k ≤ q) (below : q < k + 1) (inside : j < w). let here : k ≡ q = omega (arith, le, below) in let e : is_one b j ≡ other_at (map f os) q j = ap (λ i. is_one (get_or (map f os) i 0) j) here in e in
-      let one = stay_one m w f k a b (f merged) ys refl (numbers_below w f P ys law each k) (law merged noted.is_merged) digits in
+      let one = stay_one m w f k a b (f merged) ys refl (numbers_below w f P ys law each k) (law merged tracked.is_merged) digits in
       record {
         has = merged_same m w f P k (k + 1) (λ q j. is_one b j) (other_at (map f os)) ys zs same (merged_put m w f P k a b (f merged) ys zs within written all len refl digits);
-        of_block = noted.of_block;
+        of_block = tracked.of_block;
         none = (
-          λ none. let both = noted.none.0 none in (both.0, stay_same m w f k (k + 1) (λ q j. is_one b j) (other_at (map f os)) ys same (one.0 (still ∙ both.1))),
-          λ stays. noted.none.1 (stays.0, sym still ∙ one.1 (stay_same m w f k (k + 1) (other_at (map f os)) (λ q j. is_one b j) ys (λ q j le below inside. sym (same q j le below inside)) stays.1)),
+          λ none. let both = tracked.none.0 none in (both.0, stay_same m w f k (k + 1) (λ q j. is_one b j) (other_at (map f os)) ys same (one.0 (still ∙ both.1))),
+          λ stays. tracked.none.1 (stays.0, sym still ∙ one.1 (stay_same m w f k (k + 1) (other_at (map f os)) (λ q j. is_one b j) ys (λ q j le below inside. sym (same q j le below inside)) stays.1)),
         );
       }
 
@@ -93,8 +93,8 @@ module _ {X : Type 0} (m : Merge) (w : ℕ) (f : X → ℕ) (P : X → Type 0) w
   }
 
   -- some more of them
-  pub noted_more : (a b c p q : ℕ) (xs os ys zs : List X) (was one now : X) → a ≤ b → b ≤ c → p ≡ b → q ≡ c → IsNotedMerge m w f P a b xs os ys was one → IsNotedMerge m w f P p q ys os zs one now → IsNotedMerge m w f P a c xs os zs was now
-  noted_more a b c p q xs os ys zs was one now le also from to first second =
+  pub tracked_more : (a b c p q : ℕ) (xs os ys zs : List X) (was one now : X) → a ≤ b → b ≤ c → p ≡ b → q ≡ c → IsTrackedMerge m w f P a b xs os ys was one → IsTrackedMerge m w f P p q ys os zs one now → IsTrackedMerge m w f P a c xs os zs was now
+  tracked_more a b c p q xs os ys zs was one now le also from to first second =
       let other = other_at (map f os) in
       let next = rw (from, to) at second in
       let after = first.has.after in
@@ -114,16 +114,16 @@ module _ {X : Type 0} (m : Merge) (w : ℕ) (f : X → ℕ) (P : X → Type 0) w
       }
 
   -- one more
-  pub noted_next : (start k p q : ℕ) (xs os ys zs : List X) (merged was one now : X) → ((x : X) → P x → f x < 2 ^ w) → length os ≤ length xs → k < length os → start ≤ k → p ≡ k → q ≡ k + 1 → IsNotedMerge m w f P start p xs os ys was one → IsNotedBlock m w f P k xs os merged one now → map f zs ≡ set (map f ys) k (f merged) → All P zs → length zs ≡ length ys → IsNotedMerge m w f P start q xs os zs was now
-  noted_next start k p q xs os ys zs merged was one now law fewer within from here next before noted written all len =
+  pub tracked_next : (start k p q : ℕ) (xs os ys zs : List X) (merged was one now : X) → ((x : X) → P x → f x < 2 ^ w) → length os ≤ length xs → k < length os → start ≤ k → p ≡ k → q ≡ k + 1 → IsTrackedMerge m w f P start p xs os ys was one → IsTrackedBlock m w f P k xs os merged one now → map f zs ≡ set (map f ys) k (f merged) → All P zs → length zs ≡ length ys → IsTrackedMerge m w f P start q xs os zs was now
+  tracked_next start k p q xs os ys zs merged was one now law fewer within from here next before tracked written all len =
       let grows : k ≤ k + 1 = omega arith in
       let so_far = rw here at before in
-      let step = noted_put k xs os ys zs merged one now law so_far.has.each (omega (arith, so_far.has.len, fewer, within)) (so_far.has.after k (omega arith)) noted written all len in
-      rw next (noted_more start k (k + 1) k (k + 1) xs os ys zs was one now from grows refl refl so_far step)
+      let step = tracked_put k xs os ys zs merged one now law so_far.has.each (omega (arith, so_far.has.len, fewer, within)) (so_far.has.after k (omega arith)) tracked written all len in
+      rw next (tracked_more start k (k + 1) k (k + 1) xs os ys zs was one now from grows refl refl so_far step)
 
 -- what a test of the mismatches for 0 says
-pub told_same : (result : Bool) (a z : ℕ) (stays : Type 0) → result ≡ (a == z) → z ≡ 0 → ((a ≡ 0) ↔ stays) → (result ≡ true) ↔ stays
-told_same result a z stays is none tells =
+pub reported_same : (result : Bool) (a z : ℕ) (stays : Type 0) → result ≡ (a == z) → z ≡ 0 → ((a ≡ 0) ↔ stays) → (result ≡ true) ↔ stays
+reported_same result a z stays is none tells =
     let there : result ≡ true → a ≡ 0 = λ yes. grind (arith, nat_tests) in
     let back : a ≡ 0 → result ≡ true = λ zero. grind (arith, nat_tests) in
     (λ yes. tells.0 (there yes), λ all. back (tells.1 all))

@@ -96,8 +96,8 @@ module _ {X : Type 0} {w : ℕ} {number : X → ℕ} {is_block : X → Type 0} {
       ap length slice ∙ length-take-le stride (drop (r * stride) xs) (omega (arith, length-drop (r * stride) xs, within))
 
   -- whether the blocks of a row stay is whether the row does
-  pub told_by_blocks : (ys : List X) (q : ℕ) → q < length m.rows → IsCleanPast w stride columns (map number ys) → (law : (x : X) → is_block x → number x < 2 ^ w) → All is_block ys → (stays : Type 0) → (stays ↔ ((k : ℕ) → k < stride → get_or (map number ys) (q * stride + k) 0 ≡ get_or (map number xs) (q * stride + k) 0)) → stays ↔ (row_of (matrix_in w stride rows columns (map number ys)) q ≡ row_of m q)
-  told_by_blocks ys q write clean law each stays tells =
+  pub reported_by_blocks : (ys : List X) (q : ℕ) → q < length m.rows → IsCleanPast w stride columns (map number ys) → (law : (x : X) → is_block x → number x < 2 ^ w) → All is_block ys → (stays : Type 0) → (stays ↔ ((k : ℕ) → k < stride → get_or (map number ys) (q * stride + k) 0 ≡ get_or (map number xs) (q * stride + k) 0)) → stays ↔ (row_of (matrix_in w stride rows columns (map number ys)) q ≡ row_of m q)
+  reported_by_blocks ys q write clean law each stays tells =
       let inside : q < rows = omega (arith, seen_rows, write) in
       let now = get_or-rows_in w stride columns rows (map number ys) q inside in
       let was : row_of m q ≡ row_in w stride columns (map number xs) q = ap (λ s. row_of s q) (sym is) ∙ get_or-rows_in w stride columns rows (map number xs) q inside in (
@@ -128,15 +128,15 @@ with_same_row m n q row is within same =
 
 -- ---- what tests tell of two rows
 
-pub told_subset : (result : Bool) (w : ℕ) (ms ns s t : List ℕ) → (IsTrue result ↔ MergesToFalse Difference w ms ns) → ((c : ℕ) → value_at w ms c ≡ has s c) → ((c : ℕ) → value_at w ns c ≡ has t c) → result ≡ is_subset s t
-told_subset result w ms ns s t tells first second =
+pub reported_subset : (result : Bool) (w : ℕ) (ms ns s t : List ℕ) → (IsTrue result ↔ MergesToFalse Difference w ms ns) → ((c : ℕ) → value_at w ms c ≡ has s c) → ((c : ℕ) → value_at w ns c ≡ has t c) → result ≡ is_subset s t
+reported_subset result w ms ns s t tells first second =
     let members = is_subset-members s t in
     let there = λ (yes : result ≡ true). members.1 (λ c is_in. let no = (tells.0 yes).value c in let a = first c in let b = second c in grind (arith, nat_tests)) in
     let back = λ (yes : is_subset s t ≡ true). tells.1 (record { value = λ c. let sub = members.0 yes c in let a = first c in let b = second c in grind (arith, nat_tests) }) in
     grind (arith, there, back)
 
-pub told_disjoint : (result : Bool) (w : ℕ) (ms ns s t : List ℕ) → (IsTrue result ↔ MergesToFalse Intersection w ms ns) → ((c : ℕ) → value_at w ms c ≡ has s c) → ((c : ℕ) → value_at w ns c ≡ has t c) → result ≡ is_disjoint s t
-told_disjoint result w ms ns s t tells first second =
+pub reported_disjoint : (result : Bool) (w : ℕ) (ms ns s t : List ℕ) → (IsTrue result ↔ MergesToFalse Intersection w ms ns) → ((c : ℕ) → value_at w ms c ≡ has s c) → ((c : ℕ) → value_at w ns c ≡ has t c) → result ≡ is_disjoint s t
+reported_disjoint result w ms ns s t tells first second =
     let members = is_disjoint-members s t in
     let there = λ (yes : result ≡ true). members.1 (λ c is_in also. let no = (tells.0 yes).value c in let a = first c in let b = second c in grind (arith, nat_tests)) in
     let back = λ (yes : is_disjoint s t ≡ true). tells.1 (record { value = λ c. let apart = members.0 yes c in let a = first c in let b = second c in grind (arith, nat_tests) }) in

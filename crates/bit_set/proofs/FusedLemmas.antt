@@ -3,7 +3,7 @@ use Rattle.std.proofs.Common.{◌≡◌, ℕ, ◌-◌, ◌++◌, ◌&&◌, ◌||
 use Rattle.std.proofs.lemmas.{Bool.{cases_lt}, List.{get_or_past, length-replicate}}
 use Rattle.bit_blocks.{specs.{Merges.merge_of, declared.block.merge.Merge.TheVariants.{Difference, Intersection, Union}}, proofs.MergeLemmas.{get_or-merged, length-merged}}
 use Rattle.bit_set.specs.{Members.{IsDifference, IsUnionWithIntersection}, Sets.{difference, elements, has, intersection, union}}
-use Rattle.bit_set.proofs.{AlgebraLemmas.{elements-lengthened, has-difference, has-intersection, has-union}, NotedLemmas.elements-except, SetLaws.IsAscending-put_all, SetLemmas.{AscendsFrom-filter, IsAscending-elements, elements-by_members, has-elements, same_members}}
+use Rattle.bit_set.proofs.{AlgebraLemmas.{elements-lengthened, has-difference, has-intersection, has-union}, ReportedLemmas.elements-except, SetLaws.IsAscending-put_all, SetLemmas.{AscendsFrom-filter, IsAscending-elements, elements-by_members, has-elements, same_members}}
 
 -- ---- a union with an intersection
 

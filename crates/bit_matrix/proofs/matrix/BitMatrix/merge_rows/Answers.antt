@@ -1,6 +1,6 @@
 use Rattle.std.proofs.{Common.{◌≡◌, ◌*◌, ◌↔◌, false, drop, length, map, arith}, lemmas.{List.{take_at}}}
 use Rattle.bit_matrix.specs.{Matrices.{row_of}, Merges.{IsMergedPart}, Tables.{matrix_in}}
-use Rattle.bit_matrix.proofs.{MergeLemmas.tells_change, PartLemmas.{rows_apart}, SeenLemmas.{merged_table, row_within, seen_merged, told_by_blocks, with_same_row}, matrix.BitMatrix.merge_rows.Goals.{After-merge_within}}
+use Rattle.bit_matrix.proofs.{MergeLemmas.tells_change, PartLemmas.{rows_apart}, SeenLemmas.{merged_table, row_within, seen_merged, reported_by_blocks, with_same_row}, matrix.BitMatrix.merge_rows.Goals.{After-merge_within}}
 use Rattle.bit_matrix.proofs.matrix.BitMatrix.merge_rows.Goals as goal
 
 pub overflow_mul-read : goal.overflow_mul-read
@@ -31,7 +31,7 @@ told : (g : _) (c : After-merge_within g) → (c.merge_within.result ≡ false) 
 told g c =
     let pos = g.met.B.BitBlock.width_law.positive in
     let clean = (merged_table pos c.self.invariant c.self.view_is g.O.Operation.merge c.merge_within.new.blocks c.args.read c.args.write c.requires.read c.requires.write (merged g c) c.merge_within.ensures.each (omega (arith, c.merge_within.ensures.len, c.as_mut_slice.ensures.len))).clean in
-    told_by_blocks pos c.self.invariant c.self.view_is c.merge_within.new.blocks c.args.write c.requires.write clean (λ x is. (g.met.B.BitBlock.number_law x is).0) c.merge_within.ensures.each _ (rw c.as_mut_slice.ensures.value at c.merge_within.ensures.unchanged)
+    reported_by_blocks pos c.self.invariant c.self.view_is c.merge_within.new.blocks c.args.write c.requires.write clean (λ x is. (g.met.B.BitBlock.number_law x is).0) c.merge_within.ensures.each _ (rw c.as_mut_slice.ensures.value at c.merge_within.ensures.unchanged)
 
 pub invariant_of-self : goal.invariant_of-self
 invariant_of-self g c =

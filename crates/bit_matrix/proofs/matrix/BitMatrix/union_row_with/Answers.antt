@@ -3,7 +3,7 @@ use Rattle.bit_blocks.specs.declared.block.merge.Merge.TheVariants.{Union}
 use Rattle.bit_set.specs.Sets.{elements}
 use Rattle.bit_set.proofs.AlgebraLemmas.{has-union}
 use Rattle.bit_matrix.specs.{Matrices.{row_of}, Merges.{IsMergedPart}, Tables.{matrix_in}}
-use Rattle.bit_matrix.proofs.{MergeLemmas.tells_change, SeenLemmas.{row_within, told_by_blocks, with_same_row}, SetLemmas.{becomes_united, set_table, stays_at_all}, TableLemmas.{changes_row}, matrix.BitMatrix.union_row_with.Goals.{After-merge_others}}
+use Rattle.bit_matrix.proofs.{MergeLemmas.tells_change, SeenLemmas.{row_within, reported_by_blocks, with_same_row}, SetLemmas.{becomes_united, set_table, stays_at_all}, TableLemmas.{changes_row}, matrix.BitMatrix.union_row_with.Goals.{After-merge_others}}
 use Rattle.bit_matrix.proofs.matrix.BitMatrix.union_row_with.Goals as goal
 
 pub overflow_mul-row : goal.overflow_mul-row
@@ -22,7 +22,7 @@ told : (g : _) (c : After-merge_others g) → (c.merge_others.result ≡ false) 
 told g c =
     let pos = g.met.B.BitBlock.width_law.positive in
     let table = set_table g.met.B.BitBlock.width_law.positive c.self.invariant c.self.view_is c.merge_others.new.blocks c.storage-blocks.result.now c.split_at.result.0.now c.args.set.now.values c.min.result c.args.row c.requires.row (rw c.get_ref.ensures at c.storage-blocks.ensures.numbers) c.min.ensures c.split_at.ensures.front c.split_at.ensures.front_len c.requires.columns (merged g c) c.merge_others.ensures.each (omega (arith, c.merge_others.ensures.len, c.as_mut_slice.ensures.len)) in
-    told_by_blocks g.met.B.BitBlock.width_law.positive c.self.invariant c.self.view_is c.merge_others.new.blocks c.args.row c.requires.row table.clean (λ x is. (g.met.B.BitBlock.number_law x is).0) c.merge_others.ensures.each _ (stays_at_all g.met.B.BitBlock.width_law.positive c.self.invariant c.self.view_is c.merge_others.new.blocks c.storage-blocks.result.now c.split_at.result.0.now c.args.set.now.values c.min.result c.args.row c.requires.row (rw c.get_ref.ensures at c.storage-blocks.ensures.numbers) c.min.ensures c.split_at.ensures.front c.split_at.ensures.front_len c.requires.columns (merged g c) _ (rw c.as_mut_slice.ensures.value at c.merge_others.ensures.unchanged))
+    reported_by_blocks g.met.B.BitBlock.width_law.positive c.self.invariant c.self.view_is c.merge_others.new.blocks c.args.row c.requires.row table.clean (λ x is. (g.met.B.BitBlock.number_law x is).0) c.merge_others.ensures.each _ (stays_at_all g.met.B.BitBlock.width_law.positive c.self.invariant c.self.view_is c.merge_others.new.blocks c.storage-blocks.result.now c.split_at.result.0.now c.args.set.now.values c.min.result c.args.row c.requires.row (rw c.get_ref.ensures at c.storage-blocks.ensures.numbers) c.min.ensures c.split_at.ensures.front c.split_at.ensures.front_len c.requires.columns (merged g c) _ (rw c.as_mut_slice.ensures.value at c.merge_others.ensures.unchanged))
 
 pub invariant_of-self : goal.invariant_of-self
 invariant_of-self g c =

@@ -1,0 +1,165 @@
+// Calls that make a set, in place, what it and others become, and tell whether that changed it. They write no block before
+// the first that change.
+ghost use Rattle.std.specs.Prelude.{◌≡◌, ◌+◌, ◌≤◌, max, not, if◌then◌else◌, IfOk, OnOk, length, false};
+ghost use Rattle.bit_words.specs.Growth.{Grows};
+ghost use Rattle.bit_set.specs.Members.{IsCounted, IsDifference, IsIntersection, IsMerged, IsSymmetricDifference, IsUnion, IsUnionWithDifference};
+ghost use Rattle.bit_set.specs.Sets.{elements, union, intersection, difference, symmetric_difference, merge_of_sets, is_subset};
+ghost use Rattle.bit_set.specs.{Changes.{Change, Changes, outcome_of_flag}, Order.same_sets};
+
+use crate::bit_vec::Merge;
+use crate::{BitBlock, BitSet};
+use std::alloc::AllocError;
+
+impl<B: BitBlock> BitSet<B> {
+    // Each value becomes its merge with that of `other`, and whether that changed the set is returned. It goes into its
+    // caller, which knows the merge.
+    #[inline(always)]
+    fn merge_changes(&mut self, other: &Self, merge: Merge) -> Result<bool, AllocError>
+        ensures elements { OnOk result (elements self.new.values
+            ≡ merge_of_sets merge (elements self.old.values) (elements other.now.values)) }
+        ensures members { OnOk result (IsMerged merge (elements self.old.values) (elements other.now.values)
+            (elements self.new.values)) }
+        ensures changed { IfOk result (λ changed. changed
+            ≡ not (same_sets (elements self.old.values) (elements self.new.values))) }
+        ensures unchanged { IfOk result (λ changed. changed ≡ false
+            → elements self.new.values ≡ elements self.old.values) }
+        ensures counted { OnOk result (IsCounted self.new.values) }
+        ensures length { OnOk result (length self.new.values ≡ max (length self.old.values) (length other.now.values)) }
+        ensures grows { Grows (length other.now.values) result self.old self.new }
+        ensures changes { Changes (Change.MergeChanges merge (elements other.now.values))
+            self.old.values (outcome_of_flag result) self.new.values }
+    {
+        self.lengthen(other.bits.len())?;
+        let changed = self.bits.merge_changes(&other.bits, merge);
+        prove!(self.bits.len() <= usize::MAX);
+        Ok(changed)
+    }
+
+    /// Puts in what is in `other`, as [`BitSet::union_with`] does, and returns whether some of it was not in. The length
+    /// becomes the greater of both. One pass over the blocks. Fails only where the length of `other` passes the capacity
+    /// and no memory is found; elements, length and capacity then stay.
+    ///
+    /// ```
+    /// assert!(set.union_changes(&other)?);
+    /// assert!(!set.union_changes(&other)?);
+    /// ```
+    pub fn union_changes(&mut self, other: &Self) -> Result<bool, AllocError>
+        ensures elements { OnOk result (elements self.new.values
+            ≡ union (elements self.old.values) (elements other.now.values)) }
+        ensures members { OnOk result (IsUnion (elements self.old.values) (elements other.now.values)
+            (elements self.new.values)) }
+        ensures changed { IfOk result (λ changed. changed
+            ≡ not (same_sets (elements self.old.values) (elements self.new.values))) }
+        ensures unchanged { IfOk result (λ changed. changed ≡ false
+            → elements self.new.values ≡ elements self.old.values) }
+        ensures were_in { IfOk result (λ changed. changed
+            ≡ not (is_subset (elements other.now.values) (elements self.old.values))) }
+        ensures count { IfOk result (λ changed. length (elements self.old.values) + (if changed then 1 else 0)
+            ≤ length (elements self.new.values)) }
+        ensures counted { OnOk result (IsCounted self.new.values) }
+        ensures length { OnOk result (length self.new.values ≡ max (length self.old.values) (length other.now.values)) }
+        ensures grows { Grows (length other.now.values) result self.old self.new }
+        ensures changes { Changes (Change.MergeChanges Merge.Union (elements other.now.values))
+            self.old.values (outcome_of_flag result) self.new.values }
+    {
+        self.merge_changes(other, Merge::Union)
+    }
+
+    /// Keeps what is in `other` too, as [`BitSet::intersect_with`] does, and returns whether something was not. The length
+    /// becomes the greater of both. One pass over the blocks. Fails only where the length of `other` passes the capacity
+    /// and no memory is found; elements, length and capacity then stay.
+    pub fn intersection_changes(&mut self, other: &Self) -> Result<bool, AllocError>
+        ensures elements { OnOk result (elements self.new.values
+            ≡ intersection (elements self.old.values) (elements other.now.values)) }
+        ensures members { OnOk result (IsIntersection (elements self.old.values) (elements other.now.values)
+            (elements self.new.values)) }
+        ensures changed { IfOk result (λ changed. changed
+            ≡ not (same_sets (elements self.old.values) (elements self.new.values))) }
+        ensures unchanged { IfOk result (λ changed. changed ≡ false
+            → elements self.new.values ≡ elements self.old.values) }
+        ensures count { IfOk result (λ changed. length (elements self.new.values) + (if changed then 1 else 0)
+            ≤ length (elements self.old.values)) }
+        ensures length { OnOk result (length self.new.values ≡ max (length self.old.values) (length other.now.values)) }
+        ensures grows { Grows (length other.now.values) result self.old self.new }
+        ensures changes { Changes (Change.MergeChanges Merge.Intersection (elements other.now.values))
+            self.old.values (outcome_of_flag result) self.new.values }
+    {
+        self.merge_changes(other, Merge::Intersection)
+    }
+
+    /// Takes out what is in `other`, as [`BitSet::difference_with`] does, and returns whether some of it was in. The
+    /// length becomes the greater of both. One pass over the blocks. Fails only where the length of `other` passes the
+    /// capacity and no memory is found; elements, length and capacity then stay.
+    pub fn difference_changes(&mut self, other: &Self) -> Result<bool, AllocError>
+        ensures elements { OnOk result (elements self.new.values
+            ≡ difference (elements self.old.values) (elements other.now.values)) }
+        ensures members { OnOk result (IsDifference (elements self.old.values) (elements other.now.values)
+            (elements self.new.values)) }
+        ensures changed { IfOk result (λ changed. changed
+            ≡ not (same_sets (elements self.old.values) (elements self.new.values))) }
+        ensures unchanged { IfOk result (λ changed. changed ≡ false
+            → elements self.new.values ≡ elements self.old.values) }
+        ensures count { IfOk result (λ changed. length (elements self.new.values) + (if changed then 1 else 0)
+            ≤ length (elements self.old.values)) }
+        ensures length { OnOk result (length self.new.values ≡ max (length self.old.values) (length other.now.values)) }
+        ensures grows { Grows (length other.now.values) result self.old self.new }
+        ensures changes { Changes (Change.MergeChanges Merge.Difference (elements other.now.values))
+            self.old.values (outcome_of_flag result) self.new.values }
+    {
+        self.merge_changes(other, Merge::Difference)
+    }
+
+    /// Takes out what is in `other` too, and puts in the rest of it, as [`BitSet::symmetric_difference_with`] does, and
+    /// returns whether that changed the set, which is so unless `other` is empty. The length becomes the greater of
+    /// both. One pass over the blocks. Fails only where the length of `other` passes the capacity and no memory is found;
+    /// elements, length and capacity then stay.
+    pub fn symmetric_difference_changes(&mut self, other: &Self) -> Result<bool, AllocError>
+        ensures elements { OnOk result (elements self.new.values
+            ≡ symmetric_difference (elements self.old.values) (elements other.now.values)) }
+        ensures members { OnOk result (IsSymmetricDifference (elements self.old.values) (elements other.now.values)
+            (elements self.new.values)) }
+        ensures changed { IfOk result (λ changed. changed
+            ≡ not (same_sets (elements self.old.values) (elements self.new.values))) }
+        ensures unchanged { IfOk result (λ changed. changed ≡ false
+            → elements self.new.values ≡ elements self.old.values) }
+        ensures length { OnOk result (length self.new.values ≡ max (length self.old.values) (length other.now.values)) }
+        ensures grows { Grows (length other.now.values) result self.old self.new }
+        ensures changes { Changes (Change.MergeChanges Merge.Symmetric (elements other.now.values))
+            self.old.values (outcome_of_flag result) self.new.values }
+    {
+        self.merge_changes(other, Merge::Symmetric)
+    }
+
+    /// Puts in what is in `other` and not in `except`, and returns whether some of it was not in. The length becomes the
+    /// greater of the set's own and that of `other`. One pass over the blocks of all three sets, and no memory within the
+    /// capacity. Fails only where the length of `other` passes the capacity and no memory is found; elements, length and
+    /// capacity then stay.
+    ///
+    /// ```
+    /// // What flows into a block of code from one after it, in an analysis that goes backward.
+    /// let grew = live.union_with_difference(&live_after, &assigned)?;
+    /// ```
+    pub fn union_with_difference(&mut self, other: &Self, except: &Self) -> Result<bool, AllocError>
+        ensures elements { OnOk result (elements self.new.values ≡ union (elements self.old.values)
+            (difference (elements other.now.values) (elements except.now.values))) }
+        ensures members { OnOk result (IsUnionWithDifference (elements self.old.values) (elements other.now.values)
+            (elements except.now.values) (elements self.new.values)) }
+        ensures changed { IfOk result (λ changed. changed
+            ≡ not (same_sets (elements self.old.values) (elements self.new.values))) }
+        ensures unchanged { IfOk result (λ changed. changed ≡ false
+            → elements self.new.values ≡ elements self.old.values) }
+        ensures count { IfOk result (λ changed. length (elements self.old.values) + (if changed then 1 else 0)
+            ≤ length (elements self.new.values)) }
+        ensures counted { OnOk result (IsCounted self.new.values) }
+        ensures length { OnOk result (length self.new.values ≡ max (length self.old.values) (length other.now.values)) }
+        ensures grows { Grows (length other.now.values) result self.old self.new }
+        ensures changes { Changes (Change.MergeChanges Merge.Union
+            (difference (elements other.now.values) (elements except.now.values)))
+            self.old.values (outcome_of_flag result) self.new.values }
+    {
+        self.lengthen(other.bits.len())?;
+        let changed = self.bits.unite_difference(&other.bits, &except.bits);
+        prove!(self.bits.len() <= usize::MAX);
+        Ok(changed)
+    }
+}

@@ -1,0 +1,219 @@
+// Calls that make a set, in place, what it and others become, and say whether that changed it: 1 where it did, 0 where not,
+// -1 where there is no memory. The set that is changed must be none of the others.
+ghost use Rattle.std.specs.Prelude.{◌≡◌, ◌+◌, ◌≤◌, max, not, if◌then◌else◌, IfOk, OnOk, length, false};
+ghost use Rattle.bit_words.specs.Growth.{Grows};
+ghost use Rattle.bit_set.specs.Members.{IsDifference, IsIntersection, IsSymmetricDifference, IsUnion, IsUnionWithDifference, IsUnionWithIntersection};
+ghost use Rattle.bit_set.specs.{Order.same_sets, Sets.{elements, union, intersection, difference, symmetric_difference, is_subset}};
+ghost use Rattle.bit_set_c.specs.{Answers.{changed, spelled}, Handed.IsAt};
+
+use crate::handed::{Exclusive, Shared};
+use std::alloc::AllocError;
+
+// What C gets of a merge that may find no memory.
+fn answer_of(outcome: Result<bool, AllocError>) -> i32
+    ensures outcome { changed result ≡ outcome }
+    ensures exact { result ≡ spelled (changed result) }
+{
+    match outcome {
+        Ok(true) => 1,
+        Ok(false) => 0,
+        Err(_) => -1,
+    }
+}
+
+/// Puts in what is in the other set, and says whether some of it was not in.
+#[unsafe(no_mangle)]
+pub extern "C" fn bit_set_union_changes(set: &mut Exclusive, other: &mut Shared) -> i32
+    requires here { IsAt set.ref_ptr set.old.at }
+    requires there { IsAt other.ref_ptr other.old.at }
+    ensures elements { OnOk (changed result) (elements set.new.bits.values
+        ≡ union (elements set.old.bits.values) (elements other.old.bits.values)) }
+    ensures members { OnOk (changed result) (IsUnion (elements set.old.bits.values)
+        (elements other.old.bits.values) (elements set.new.bits.values)) }
+    ensures changed { IfOk (changed result) (λ changed. changed
+        ≡ not (same_sets (elements set.old.bits.values) (elements set.new.bits.values))) }
+    ensures unchanged { IfOk (changed result) (λ changed. changed ≡ false
+        → elements set.new.bits.values ≡ elements set.old.bits.values) }
+    ensures were_in { IfOk (changed result) (λ changed. changed
+        ≡ not (is_subset (elements other.old.bits.values) (elements set.old.bits.values))) }
+    ensures count { IfOk (changed result) (λ changed. length (elements set.old.bits.values)
+        + (if changed then 1 else 0) ≤ length (elements set.new.bits.values)) }
+    ensures length { OnOk (changed result) (length set.new.bits.values
+        ≡ max (length set.old.bits.values) (length other.old.bits.values)) }
+    ensures grows { Grows (length other.old.bits.values) (changed result) set.old.bits set.new.bits }
+    ensures exact { result ≡ spelled (changed result) }
+    ensures place { set.new.at ≡ set.old.at }
+    ensures other_kept { other.new ≡ other.old }
+{
+    answer_of(set.get().union_changes(other.get()))
+}
+
+/// Keeps what is in the other set too, and says whether something was not.
+#[unsafe(no_mangle)]
+pub extern "C" fn bit_set_intersection_changes(set: &mut Exclusive, other: &mut Shared) -> i32
+    requires here { IsAt set.ref_ptr set.old.at }
+    requires there { IsAt other.ref_ptr other.old.at }
+    ensures elements { OnOk (changed result) (elements set.new.bits.values
+        ≡ intersection (elements set.old.bits.values) (elements other.old.bits.values)) }
+    ensures members { OnOk (changed result) (IsIntersection (elements set.old.bits.values)
+        (elements other.old.bits.values) (elements set.new.bits.values)) }
+    ensures changed { IfOk (changed result) (λ changed. changed
+        ≡ not (same_sets (elements set.old.bits.values) (elements set.new.bits.values))) }
+    ensures unchanged { IfOk (changed result) (λ changed. changed ≡ false
+        → elements set.new.bits.values ≡ elements set.old.bits.values) }
+    ensures count { IfOk (changed result) (λ changed. length (elements set.new.bits.values)
+        + (if changed then 1 else 0) ≤ length (elements set.old.bits.values)) }
+    ensures length { OnOk (changed result) (length set.new.bits.values
+        ≡ max (length set.old.bits.values) (length other.old.bits.values)) }
+    ensures grows { Grows (length other.old.bits.values) (changed result) set.old.bits set.new.bits }
+    ensures exact { result ≡ spelled (changed result) }
+    ensures place { set.new.at ≡ set.old.at }
+    ensures other_kept { other.new ≡ other.old }
+{
+    answer_of(set.get().intersection_changes(other.get()))
+}
+
+/// Takes out what is in the other set, and says whether some of it was in.
+#[unsafe(no_mangle)]
+pub extern "C" fn bit_set_difference_changes(set: &mut Exclusive, other: &mut Shared) -> i32
+    requires here { IsAt set.ref_ptr set.old.at }
+    requires there { IsAt other.ref_ptr other.old.at }
+    ensures elements { OnOk (changed result) (elements set.new.bits.values
+        ≡ difference (elements set.old.bits.values) (elements other.old.bits.values)) }
+    ensures members { OnOk (changed result) (IsDifference (elements set.old.bits.values)
+        (elements other.old.bits.values) (elements set.new.bits.values)) }
+    ensures changed { IfOk (changed result) (λ changed. changed
+        ≡ not (same_sets (elements set.old.bits.values) (elements set.new.bits.values))) }
+    ensures unchanged { IfOk (changed result) (λ changed. changed ≡ false
+        → elements set.new.bits.values ≡ elements set.old.bits.values) }
+    ensures count { IfOk (changed result) (λ changed. length (elements set.new.bits.values)
+        + (if changed then 1 else 0) ≤ length (elements set.old.bits.values)) }
+    ensures length { OnOk (changed result) (length set.new.bits.values
+        ≡ max (length set.old.bits.values) (length other.old.bits.values)) }
+    ensures grows { Grows (length other.old.bits.values) (changed result) set.old.bits set.new.bits }
+    ensures exact { result ≡ spelled (changed result) }
+    ensures place { set.new.at ≡ set.old.at }
+    ensures other_kept { other.new ≡ other.old }
+{
+    answer_of(set.get().difference_changes(other.get()))
+}
+
+/// Keeps what is in just one of both sets, and says whether that changed the set.
+#[unsafe(no_mangle)]
+pub extern "C" fn bit_set_symmetric_difference_changes(
+    set: &mut Exclusive,
+    other: &mut Shared,
+) -> i32
+    requires here { IsAt set.ref_ptr set.old.at }
+    requires there { IsAt other.ref_ptr other.old.at }
+    ensures elements { OnOk (changed result) (elements set.new.bits.values
+        ≡ symmetric_difference (elements set.old.bits.values) (elements other.old.bits.values)) }
+    ensures members { OnOk (changed result) (IsSymmetricDifference (elements set.old.bits.values)
+        (elements other.old.bits.values) (elements set.new.bits.values)) }
+    ensures changed { IfOk (changed result) (λ changed. changed
+        ≡ not (same_sets (elements set.old.bits.values) (elements set.new.bits.values))) }
+    ensures unchanged { IfOk (changed result) (λ changed. changed ≡ false
+        → elements set.new.bits.values ≡ elements set.old.bits.values) }
+    ensures length { OnOk (changed result) (length set.new.bits.values
+        ≡ max (length set.old.bits.values) (length other.old.bits.values)) }
+    ensures grows { Grows (length other.old.bits.values) (changed result) set.old.bits set.new.bits }
+    ensures exact { result ≡ spelled (changed result) }
+    ensures place { set.new.at ≡ set.old.at }
+    ensures other_kept { other.new ≡ other.old }
+{
+    answer_of(set.get().symmetric_difference_changes(other.get()))
+}
+
+/// Puts in what is in the other set and not in `except`, and says whether some of it was not in.
+#[unsafe(no_mangle)]
+pub extern "C" fn bit_set_union_with_difference(
+    set: &mut Exclusive,
+    other: &mut Shared,
+    except: &mut Shared,
+) -> i32
+    requires here { IsAt set.ref_ptr set.old.at }
+    requires there { IsAt other.ref_ptr other.old.at }
+    requires beyond { IsAt except.ref_ptr except.old.at }
+    ensures elements { OnOk (changed result) (elements set.new.bits.values ≡ union (elements set.old.bits.values)
+        (difference (elements other.old.bits.values) (elements except.old.bits.values))) }
+    ensures members { OnOk (changed result) (IsUnionWithDifference (elements set.old.bits.values)
+        (elements other.old.bits.values) (elements except.old.bits.values) (elements set.new.bits.values)) }
+    ensures changed { IfOk (changed result) (λ changed. changed
+        ≡ not (same_sets (elements set.old.bits.values) (elements set.new.bits.values))) }
+    ensures unchanged { IfOk (changed result) (λ changed. changed ≡ false
+        → elements set.new.bits.values ≡ elements set.old.bits.values) }
+    ensures count { IfOk (changed result) (λ changed. length (elements set.old.bits.values)
+        + (if changed then 1 else 0) ≤ length (elements set.new.bits.values)) }
+    ensures length { OnOk (changed result) (length set.new.bits.values
+        ≡ max (length set.old.bits.values) (length other.old.bits.values)) }
+    ensures grows { Grows (length other.old.bits.values) (changed result) set.old.bits set.new.bits }
+    ensures exact { result ≡ spelled (changed result) }
+    ensures place { set.new.at ≡ set.old.at }
+    ensures other_kept { other.new ≡ other.old }
+    ensures except_kept { except.new ≡ except.old }
+{
+    answer_of(set.get().union_with_difference(other.get(), except.get()))
+}
+
+/// Puts in what is both in the other set and in `also`, and says whether some of it was not in.
+#[unsafe(no_mangle)]
+pub extern "C" fn bit_set_union_with_intersection(
+    set: &mut Exclusive,
+    other: &mut Shared,
+    also: &mut Shared,
+) -> i32
+    requires here { IsAt set.ref_ptr set.old.at }
+    requires there { IsAt other.ref_ptr other.old.at }
+    requires beyond { IsAt also.ref_ptr also.old.at }
+    ensures elements { OnOk (changed result) (elements set.new.bits.values ≡ union (elements set.old.bits.values)
+        (intersection (elements other.old.bits.values) (elements also.old.bits.values))) }
+    ensures members { OnOk (changed result) (IsUnionWithIntersection (elements set.old.bits.values)
+        (elements other.old.bits.values) (elements also.old.bits.values) (elements set.new.bits.values)) }
+    ensures changed { IfOk (changed result) (λ changed. changed
+        ≡ not (same_sets (elements set.old.bits.values) (elements set.new.bits.values))) }
+    ensures unchanged { IfOk (changed result) (λ changed. changed ≡ false
+        → elements set.new.bits.values ≡ elements set.old.bits.values) }
+    ensures were_in { IfOk (changed result) (λ changed. changed
+        ≡ not (is_subset (intersection (elements other.old.bits.values) (elements also.old.bits.values))
+        (elements set.old.bits.values))) }
+    ensures count { IfOk (changed result) (λ changed. length (elements set.old.bits.values)
+        + (if changed then 1 else 0) ≤ length (elements set.new.bits.values)) }
+    ensures length { OnOk (changed result) (length set.new.bits.values
+        ≡ max (length set.old.bits.values) (length other.old.bits.values)) }
+    ensures grows { Grows (length other.old.bits.values) (changed result) set.old.bits set.new.bits }
+    ensures exact { result ≡ spelled (changed result) }
+    ensures place { set.new.at ≡ set.old.at }
+    ensures other_kept { other.new ≡ other.old }
+    ensures also_kept { also.new ≡ also.old }
+{
+    answer_of(set.get().union_with_intersection(other.get(), also.get()))
+}
+
+/// Makes the members those of the other set that are not in `except`, and says whether they were others before.
+#[unsafe(no_mangle)]
+pub extern "C" fn bit_set_become_difference(
+    set: &mut Exclusive,
+    other: &mut Shared,
+    except: &mut Shared,
+) -> i32
+    requires here { IsAt set.ref_ptr set.old.at }
+    requires there { IsAt other.ref_ptr other.old.at }
+    requires beyond { IsAt except.ref_ptr except.old.at }
+    ensures elements { OnOk (changed result) (elements set.new.bits.values
+        ≡ difference (elements other.old.bits.values) (elements except.old.bits.values)) }
+    ensures members { OnOk (changed result) (IsDifference (elements other.old.bits.values)
+        (elements except.old.bits.values) (elements set.new.bits.values)) }
+    ensures changed { IfOk (changed result) (λ changed. changed
+        ≡ not (same_sets (elements set.old.bits.values) (elements set.new.bits.values))) }
+    ensures unchanged { IfOk (changed result) (λ changed. changed ≡ false
+        → elements set.new.bits.values ≡ elements set.old.bits.values) }
+    ensures length { OnOk (changed result) (length set.new.bits.values
+        ≡ max (length set.old.bits.values) (length other.old.bits.values)) }
+    ensures grows { Grows (length other.old.bits.values) (changed result) set.old.bits set.new.bits }
+    ensures exact { result ≡ spelled (changed result) }
+    ensures place { set.new.at ≡ set.old.at }
+    ensures other_kept { other.new ≡ other.old }
+    ensures except_kept { except.new ≡ except.old }
+{
+    answer_of(set.get().copy_difference(other.get(), except.get()))
+}
