@@ -99,11 +99,6 @@ module _ {X : Type 0} (m : Merge) (w : ℕ) (f : X → ℕ) (P : X → Type 0) w
   pub merged_past_others : (start end : ℕ) (other : ℕ → ℕ → Bool) (xs ys : List X) → ((k j : ℕ) → start ≤ k → other k j ≡ false) → HasMerged m w f P start end (λ k j. false) xs ys → HasMerged m w f P start end other xs ys
   merged_past_others start end other xs ys past is = merged_same start end (λ k j. false) other xs ys (λ k j from below index. sym (past k j from)) is
 
-  -- the same of a list
-  pub merged_with_none : (start end : ℕ) (xs os ys : List X) → length os ≤ start → HasMerged m w f P start end (λ k j. false) xs ys → HasMerged m w f P start end (other_at (map f os)) xs ys
-  merged_with_none start end xs os ys short is =
-      merged_past_others start end (other_at (map f os)) xs ys (λ k j from. grind (arith, get_or_past (map f os) k 0, length-map, is_one-zero)) is
-
   -- the value at each index, once all of them are merged
   pub merges_of_values : (xs os ys : List X) → 0 < w → length os ≤ length xs → HasMerged m w f P 0 (length xs) (other_at (map f os)) xs ys → (i : ℕ) → value_at w (map f ys) i ≡ merge_of_values m (value_at w (map f xs) i) (value_at w (map f os) i)
   merges_of_values xs os ys pos short is i =

@@ -1,6 +1,6 @@
 -- What blocks hold whose bits move up or down.
-use Rattle.std.proofs.Common.{⊎_elim, ◌≡◌, ◌≢◌, ℕ, ◌+◌, ◌-◌, ◌*◌, ◌/◌, ◌%◌, ◌^◌, ◌<◌, ◌≤◌, Bool, false, ◌&&◌, nat_le, nat_lt, List, map, length, get_or, set, All, sym, ap, ◌∙◌, subst, arith, inl, inr, div-add-mod', mod-lt, get_or-set_same, get_or-set_other}
-use Rattle.std.proofs.lemmas.{Bool.{Decides.nat_tests, cases_eq, cases_lt}, Nat.{div-mul-add}}
+use Rattle.std.proofs.Common.{⊎_elim, ◌≡◌, ◌≢◌, ℕ, ◌+◌, ◌-◌, ◌*◌, ◌/◌, ◌%◌, ◌<◌, ◌≤◌, ◌&&◌, nat_le, nat_lt, List, map, length, get_or, set, All, sym, ap, ◌∙◌, subst, arith, inl, inr, div-add-mod', mod-lt, get_or-set_same, get_or-set_other}
+use Rattle.std.proofs.lemmas.{Bool.{Decides.nat_tests, cases_eq, cases_lt}, Nat.div-mul-add}
 use Rattle.bit_blocks.specs.{Bits.blocks_for, Digits.{IsEither, IsShiftedLeft, IsShiftedRight, is_one}, Shifts.{IsMovedDown, IsMovedUp}, Storage.{value_at, IsPacked}}
 use Rattle.bit_blocks.proofs.{BitsLemmas.{block_past, blocks_for-above}, ChangeLemmas.div_le, Masks.is_one-either, StorageLemmas.{value_at-index, value_at-is, value_at-past}}
 
@@ -34,15 +34,6 @@ joined w ms k low j a b r small within right left either =
     (λ (past : w ≤ low + j). joined_high w ms k low j a b r small within past right left either)
     (cases_lt (low + j) w)
 
--- where it begins in the list
-pub moved_whole : (w : ℕ) (ms : List ℕ) (k d q p m : ℕ) → d ≤ k * w → q ≡ (k * w - d) / w → p ≡ (k * w - d) % w → ((j : ℕ) → j < w → is_one m j ≡ value_at w ms (q * w + (p + j))) → IsMovedUp w ms d k m
-moved_whole w ms k d q p m before block bit digits j within =
-    let parts = div-add-mod' (k * w - d) w in
-    let product = ap (λ n. n * w) block in
-    let index = ap (value_at w ms) (let e : q * w + (p + j) ≡ k * w + j - d = omega (arith, parts, product) in e) in
-    let digit = digits j within in
-    grind (arith, nat_tests)
-
 -- where it begins below the list, by less than a block
 pub moved_first : (w : ℕ) (ms : List ℕ) (k d p m n : ℕ) → k * w < d → p ≡ d - k * w → p < w → n ≡ get_or ms 0 0 → IsShiftedLeft w n p m → IsMovedUp w ms d k m
 moved_first w ms k d p m n before bit small read left j within =
@@ -56,10 +47,6 @@ moved_first w ms k d p m n before bit small read left j within =
     let index = ap (value_at w ms) (let e : 0 * w + (j - p) ≡ k * w + j - d = omega arith in e) in
     grind (arith, nat_tests))
     (cases_lt j p)
-
--- by more
-pub moved_none : (w : ℕ) (ms : List ℕ) (k d p m : ℕ) → p ≡ d - k * w → w ≤ p → ((j : ℕ) → is_one m j ≡ false) → IsMovedUp w ms d k m
-moved_none w ms k d p m bit past zero j within = let digit = zero j in grind (arith, nat_tests)
 
 pub moved_from : (w : ℕ) (ms : List ℕ) (k d q p m : ℕ) → q ≡ d / w → p ≡ d % w → ((j : ℕ) → j < w → is_one m j ≡ value_at w ms ((k + q) * w + (p + j))) → IsMovedDown w ms d k m
 moved_from w ms k d q p m block bit digits j within =
@@ -119,12 +106,4 @@ down_packed w len d f P xs ys packed each long values = record {
   count = long ∙ packed.count;
   tail = record { zero_tail = λ i past. values i ∙ packed.tail.zero_tail (i + d) (omega arith) };
   fits = packed.fits;
-}
-
-pub up_packed : {X : Type 0} (w len d : ℕ) (f : X → ℕ) (P : X → Type 0) (ys : List X) (b : ℕ → Bool) → len < 2 ^ 64 → All P ys → length ys ≡ blocks_for w len → ((i : ℕ) → value_at w (map f ys) i ≡ (nat_lt i len && b i)) → IsPacked w f P ys len
-up_packed w len d f P ys b fits each long values = record {
-  each = each;
-  count = long;
-  tail = record { zero_tail = λ i past. let is = values i in grind (arith, nat_tests) };
-  fits = fits;
 }

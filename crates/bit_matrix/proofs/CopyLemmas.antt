@@ -1,6 +1,6 @@
 -- Matrices made of others.
 use Rattle.std.proofs.Common.{◌≡◌, ℕ, ◌+◌, ◌*◌, ◌<◌, ◌≤◌, ◌⊎◌, Bool, nat_le, nat_lt, ◌==◌, true, false, ◌&&◌, ◌||◌, List, ◌∷◌, refl, sym, ap, ◌∙◌, arith, inl, inr}
-use Rattle.std.proofs.lemmas.Bool.{cases_eq, cases_lt, eq-eqb, le-leb, le-ltb, lt-leb, lt-ltb, ne_eqb, true≢false, Decides.nat_tests}
+use Rattle.std.proofs.lemmas.Bool.{cases_eq, cases_lt, eq-eqb, le-ltb, lt-ltb, ne_eqb, true≢false, Decides.nat_tests}
 use Rattle.std.proofs.Math.Nat.{add-mul}
 use Rattle.bit_set.specs.Sets.{has}
 use Rattle.bit_matrix.specs.Matrices.{ChangesRow, Matrix, has_at}
@@ -46,13 +46,6 @@ strip_more old now m w k before inside others r c =
         | inr late ↦ others r c (inr late) ∙ before r c ∙ (ap (λ b. b && has_at m r c) (le-ltb c (k * w) from ∙ sym (le-ltb c ((k + 1) * w) late)))
       ]
     ]
-
--- the columns before one and those from it on are all
-pub both_parts : (a b : Bool) (n c : ℕ) → a ≡ (nat_lt c n && b) → (a || (nat_le n c && b)) ≡ b
-both_parts a b n c is = elim (cases_lt c n) [
-  | inl below ↦ let low = lt-ltb c n below in let high = lt-leb n c below in grind (arith, is, low, high)
-  | inr from ↦ let low = le-ltb c n from in let high = le-leb n c from in grind (arith, is, low, high)
-]
 
 -- one row more is put in
 pub row_more : (old before now m : Matrix) (from row : ℕ) → ((r c : ℕ) → has_at before c r ≡ (has_at old c r || (nat_lt r row && (nat_le from c && has_at m r c)))) → ((r c : ℕ) → has_at now c r ≡ (has_at before c r || (r == row && (nat_le from c && has_at m row c)))) → (r c : ℕ) → has_at now c r ≡ (has_at old c r || (nat_lt r (row + 1) && (nat_le from c && has_at m r c)))

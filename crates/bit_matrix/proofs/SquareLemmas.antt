@@ -39,9 +39,6 @@ module _ (w d left right m n : ℕ) (raised lowered up down not_right not_left a
 
 -- ---- two rows
 
-pub none_exchanged : (w d left right upper lower : ℕ) (ms : List ℕ) → AreExchanged w d left right upper lower 0 ms ms
-none_exchanged w d left right upper lower ms = record { each = λ g below. absurd (omega arith); others = λ q up low. refl }
-
 module _ (w d left right upper lower count p q : ℕ) (ms ns os rs : List ℕ) (apart : upper + count < lower) (inside : lower + count < length ns) (before : AreExchanged w d left right upper lower count ms ns)
     (one : IsExchanged w d left right (get_or ns (upper + count) 0) (get_or ns (lower + count) 0) p q) (first : os ≡ set ns (upper + count) p) (second : rs ≡ set os (lower + count) q) where
   above_is : get_or rs (upper + count) 0 ≡ p

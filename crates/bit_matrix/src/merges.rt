@@ -1,6 +1,6 @@
 // Merges of blocks with others of one list, or of another list, each by the digits of every block. Each keeps, in one
 // block, whether one of them changed: the compiler takes it out where nothing reads it.
-ghost use Rattle.std.specs.Prelude.{◌≡◌, ℕ, ◌+◌, ◌*◌, ◌<◌, ◌≤◌, ◌⊎◌, ◌↔◌, All, IsTrue, false, get_or, length, map};
+ghost use Rattle.std.specs.Prelude.{◌≡◌, ℕ, ◌+◌, ◌*◌, ◌<◌, ◌≤◌, ◌↔◌, All, false, get_or, length, map};
 ghost use Rattle.bit_blocks.specs.BlockMerges.{other_at, AreKept, CanMerge, HasMerged};
 ghost use Rattle.bit_matrix.specs.Merges.{IsMergedPart, IsTrackedBlock, IsTrackedMerge, AreApart};
 

@@ -1,7 +1,7 @@
-use Rattle.std.proofs.{Common.{◌≡◌, [], length, map, sym, ap, ◌∙◌, arith}, lemmas.List.{drop_all}}
+use Rattle.std.proofs.{Common.{◌≡◌, [], length, map, sym, ap, ◌∙◌, arith}, lemmas.List.drop_all}
 use Rattle.bit_set.specs.Indexes.{values_in}
 use Rattle.bit_set.proofs.WalkLemmas.{indexes-ended}
-use Rattle.bit_matrix.proofs.{WalkLemmas.{row_next, row_taken}, walk.IterIterator.next.Goals.{After-split_first, After-take_lowest_one}}
+use Rattle.bit_matrix.proofs.{WalkLemmas.{row_next, row_taken}, walk.IterIterator.next.Goals.After-split_first}
 use Rattle.bit_matrix.proofs.walk.IterIterator.next.Goals as goal
 
 -- the block in hand is used up where the loop goes on

@@ -1,7 +1,7 @@
 use Rattle.std.proofs.{Common.{◌≡◌, ℕ, ◌∙◌, sym, ap, ap₂, ◌++◌, map, drop, length, take, arith}, lemmas.List.take_at}
 use Rattle.bit_blocks.specs.{Merges.{merge_of, merge_of_values}, Storage.{value_at, IsPacked}}
 use Rattle.bit_blocks.proofs.{BitsLemmas.blocks_for-le, MergeLemmas.{merged_lists, merged_zero_tail}}
-use Rattle.bit_blocks.proofs.{BlockMergeLemmas.{kept_lists, merges_of_values}, VectorLemmas.length_from_view}
+use Rattle.bit_blocks.proofs.BlockMergeLemmas.{kept_lists, merges_of_values}
 use Rattle.bit_blocks.proofs.VectorLemmas.{no_longer_from_views, numbers_below}
 use Rattle.bit_words.proofs.bit_vec.BitVec.merge_changes.{Given.Over, Goals.After-change_named}
 use Rattle.bit_words.proofs.StartLemmas.{false_before_none}

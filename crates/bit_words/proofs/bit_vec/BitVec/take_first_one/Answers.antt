@@ -3,7 +3,7 @@ use Rattle.bit_blocks.{specs.Storage.value_at, proofs.{BitsLemmas.blocks_for-abo
 use Rattle.bit_words.specs.Summary.{short_count}
 use Rattle.bit_blocks.proofs.StorageLemmas.{values_of-set}
 use Rattle.bit_words.proofs.{SameCapacity.same_capacity, StartLemmas.{false_before_chunk, false_before_written, first_chunk, no_chunk, true_within}, SummaryLemmas.{keeps_all, keeps_none}}
-use Rattle.bit_words.proofs.bit_vec.BitVec.take_first_one.{Given.Over, Goals.{After-self, Else-is_short}}
+use Rattle.bit_words.proofs.bit_vec.BitVec.take_first_one.{Given.Over, Goals.Else-is_short}
 use Rattle.bit_words.proofs.bit_vec.BitVec.take_first_one.Goals as goal
 
 -- where the list is not short a summary is stored

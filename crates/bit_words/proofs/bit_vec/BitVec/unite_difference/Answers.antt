@@ -3,7 +3,6 @@ use Rattle.bit_blocks.specs.{declared.block.merge.Merge.TheVariants.{Difference,
 use Rattle.bit_blocks.specs.{BlockMerges.{except_at, HasMerged}, Storage.IsPacked}
 use Rattle.bit_blocks.proofs.BitsLemmas.{blocks_for-le}
 use Rattle.bit_blocks.proofs.BlockMergeLemmas.{kept_lists, lists_merged_except, packed_merged, values_merged_except}
-use Rattle.bit_blocks.proofs.VectorLemmas.{length_from_view}
 use Rattle.bit_blocks.proofs.VectorLemmas.{no_longer_from_views, numbers_below}
 use Rattle.bit_words.proofs.bit_vec.BitVec.unite_difference.{Given.Over, Goals.After-unite_difference}
 use Rattle.bit_words.proofs.StartLemmas.{false_before_none}

@@ -1,7 +1,7 @@
 use Rattle.std.proofs.{Common.{◌≡◌, ◌≤◌, ◌∙◌, sym, ap, ap₂, ◌++◌, map, drop, length, take, arith}, lemmas.List.take_at}
 use Rattle.bit_blocks.specs.{declared.block.merge.Merge.TheVariants.{Intersection, Union}, Merges.merge_of}
 use Rattle.bit_blocks.specs.{BlockMerges.{both_at, HasMerged}, Storage.IsPacked}
-use Rattle.bit_blocks.proofs.{BitsLemmas.blocks_for-le, BlockMergeLemmas.kept_lists, VectorLemmas.length_from_view}
+use Rattle.bit_blocks.proofs.{BitsLemmas.blocks_for-le, BlockMergeLemmas.kept_lists}
 use Rattle.bit_blocks.proofs.VectorLemmas.{no_longer_from_views, numbers_below}
 use Rattle.bit_words.proofs.bit_vec.BitVec.unite_intersection.{Given.Over, Goals.After-unite_common}
 use Rattle.bit_words.proofs.FusedLemmas.{lists_with_common, packed_with_common, values_with_common}

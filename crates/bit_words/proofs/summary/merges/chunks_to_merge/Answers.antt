@@ -1,4 +1,4 @@
-use Rattle.std.proofs.Common.{◌≡◌, ◌*◌, ◌∙◌, false, get_or, map, length, sym, ap, arith}
+use Rattle.std.proofs.Common.{◌≡◌, ◌*◌, ◌∙◌, get_or, map, length, sym, ap, arith}
 use Rattle.bit_blocks.{specs.{Bits.blocks_for, Digits.is_one, Merges.merge_of_values}, proofs.{BitsLemmas.{blocks_for-enough, blocks_for-le}, BlockMergeLemmas.stay_none}}
 use Rattle.bit_words.proofs.summary.merges.chunks_to_merge.Goals as goal
 

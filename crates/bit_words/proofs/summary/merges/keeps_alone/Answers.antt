@@ -1,4 +1,4 @@
-use Rattle.std.proofs.Common.{◌≡◌, ◌==◌, ◌∙◌, true, not, sym, ap}
+use Rattle.std.proofs.Common.{◌∙◌, sym, ap}
 use Rattle.bit_blocks.{specs.Digits.is_one, proofs.Masks.is_one-zero}
 use Rattle.bit_words.proofs.TouchedLemmas.{kept_alone}
 use Rattle.bit_words.proofs.summary.merges.keeps_alone.Goals as goal

@@ -1,6 +1,6 @@
-use Rattle.std.proofs.Common.{◌≡◌, ℕ, ◌+◌, ◌-◌, ◌*◌, ◌<◌, ◌≤◌, ◌∙◌, get_or, map, sym, ap, subst, arith}
-use Rattle.bit_blocks.{specs.{Digits.is_one, Merges.merge_of_values}, proofs.{BlockMergeLemmas.merged_stay, Masks.is_one-zero, StorageLemmas.value_at-index}}
-use Rattle.bit_words.proofs.{ChunkLemmas.{chunk_summary}, TouchedLemmas.stay_untouched}
+use Rattle.std.proofs.Common.{◌≡◌, ◌+◌, ◌-◌, ◌*◌, ◌∙◌, map, sym, ap, arith}
+use Rattle.bit_blocks.{specs.Digits.is_one, proofs.{BlockMergeLemmas.merged_stay, StorageLemmas.value_at-index}}
+use Rattle.bit_words.proofs.{ChunkLemmas.chunk_summary, TouchedLemmas.stay_untouched}
 use Rattle.bit_words.proofs.summary.merges.merge_chunk_at.Goals as goal
 
 pub merge_chunk-digits-requires-clause-says : goal.merge_chunk-digits-requires-clause-says

@@ -1,4 +1,4 @@
-use Rattle.std.proofs.Common.{◌≡◌, ◌+◌, ◌*◌, ◌/◌, ◌≤◌, ◌∙◌, length, refl, arith, div-mul-le_self, mul-le-mul_right}
+use Rattle.std.proofs.Common.{◌+◌, ◌*◌, ◌/◌, ◌≤◌, ◌∙◌, refl, arith, div-mul-le_self, mul-le-mul_right}
 use Rattle.bit_blocks.proofs.BlockMergeLemmas.{merged_more}
 use Rattle.bit_words.proofs.TouchedLemmas.{merged_through}
 use Rattle.bit_words.proofs.summary.merges.merge_long.Goals as goal

@@ -1,5 +1,5 @@
 use Rattle.std.proofs.Common.{◌≡◌, ℕ, ◌+◌, ◌*◌, ◌^◌, ◌<◌, ◌∙◌, false, not, ◌&&◌, get_or, map, sym, ap, arith}
-use Rattle.bit_blocks.specs.{BlockMerges.HasMerged, Digits.is_one, declared.block.merge.Merge.TheVariants.Union}
+use Rattle.bit_blocks.specs.{BlockMerges.HasMerged, Digits.is_one}
 use Rattle.bit_blocks.proofs.{Masks.is_one-zero, VectorLemmas.numbers_below}
 use Rattle.bit_words.proofs.TouchedLemmas.{united_use}
 use Rattle.bit_words.proofs.summary.merges.unite_whole.{Given.Over, Goals.After-merge_between}

@@ -2,7 +2,7 @@ use Rattle.std.proofs.Common.{◌≡◌, ◌+◌, ◌++◌, count_ones, length, 
 use Rattle.std.proofs.{lemmas.List.{length-append, Sums.sum_by-append}, Math.Seq.{drop-append_seam, take-append_seam}}
 use Rattle.bit_blocks.specs.Storage.{ones_in}
 use Rattle.bit_words.specs.{Nonzero.ones_left, Pending.{left_from, next_at}}
-use Rattle.bit_words.proofs.{SkipLemmas.{IsPastChunk, past_chunk}, bit_vec.nonzero.Nonzero.skip_chunk.{Given.Over, Goals.{After-first_blocks, After-pass_chunk}}}
+use Rattle.bit_words.proofs.{SkipLemmas.{IsPastChunk, past_chunk}, bit_vec.nonzero.Nonzero.skip_chunk.{Given.Over, Goals.After-first_blocks}}
 use Rattle.bit_words.proofs.bit_vec.nonzero.Nonzero.skip_chunk.Goals as goal
 
 -- the chunk, and what is past it

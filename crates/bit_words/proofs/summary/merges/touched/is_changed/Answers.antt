@@ -1,4 +1,4 @@
-use Rattle.std.proofs.{Common.{◌≡◌, ◌<◌, ◌==◌, ◌∙◌, ◌↔◌, false, not, map, ap, ap₂, sym, get_or, arith}, lemmas.Bool.Decides.nat_tests}
+use Rattle.std.proofs.{Common.{◌≡◌, ◌∙◌, ◌↔◌, false, not, ap, ap₂, arith}, lemmas.Bool.Decides.nat_tests}
 use Rattle.bit_blocks.specs.{BlockMerges.merge_at, Digits.is_one, Merges.merge_of_values}
 use Rattle.bit_blocks.proofs.BlockMergeLemmas.{same_one}
 use Rattle.bit_words.proofs.summary.merges.touched.is_changed.Goals as goal

@@ -1,4 +1,4 @@
-use Rattle.std.proofs.Common.{◌≡◌, ◌+◌, ◌*◌, ◌<◌, ◌∙◌, ◌==◌, true, not, sym, ap, arith}
+use Rattle.std.proofs.Common.{◌≡◌, ◌∙◌, ◌==◌, not, ap, arith}
 use Rattle.bit_words.proofs.TouchedLemmas.{fewer_ones, partly_all, partly_more, partly_none}
 use Rattle.bit_words.proofs.summary.merges.touched.merge_touched.Goals as goal
 
