@@ -81,5 +81,6 @@ pub list_of_difference : (w : ℕ) (os es ns : List ℕ) (len short third : ℕ)
     → values_of w ns len ≡ merge_of Union (replicate len false) (merge_of Difference (values_of w os short) (take (length (values_of w os short)) (values_of w es third)))
 list_of_difference w os es ns len short third shorter also more each =
     let none : (i : ℕ) → value_at w [] i ≡ false = λ i. value_at-past w [] i (omega arith) in
-    lists_merged_except Union w [] os es ns len short third shorter (record { zero_tail = λ i past. none i }) also more (λ i. each i ∙ ap (λ b. merge_of_values Union b (value_at w os i && not (value_at w es i))) (sym (none i)))
+    lists_merged_except Union w [] os es ns len short third shorter (record { zero_tail = λ i past. none i }) also more
+    (λ i. each i ∙ ap (λ b. merge_of_values Union b (value_at w os i && not (value_at w es i))) (sym (none i)))
     ∙ ap (λ xs. merge_of Union xs (merge_of Difference (values_of w os short) (take (length (values_of w os short)) (values_of w es third)))) (values_of-replicate w [] len false (λ i below. none i))

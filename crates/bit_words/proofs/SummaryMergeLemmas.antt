@@ -44,6 +44,8 @@ pub used_with_others : {X : Type 0} (w : ℕ) (f : X → ℕ) (P : X → Type 0)
     → is_used (map f ys) k ≡ (is_used (map f xs) k || is_used (map f os) k)
 used_with_others w f P es xs os ys below each others fewer is k none =
     ⊎_elim
-    (λ inside. used_with w (get_or (map f xs) k 0) (get_or (map f os) k 0) (get_or es k 0) (get_or (map f ys) k 0) (numbers_below w f P xs below each k) (numbers_below w f P os below others k) (numbers_below w f P ys below is.each k) (λ j index. is.digit k j (omega arith) inside index) none)
+    (λ inside. used_with w (get_or (map f xs) k 0) (get_or (map f os) k 0) (get_or es k 0) (get_or (map f ys) k 0)
+    (numbers_below w f P xs below each k) (numbers_below w f P os below others k) (numbers_below w f P ys below is.each k)
+    (λ j index. is.digit k j (omega arith) inside index) none)
     (λ past. grind (arith, is.after k past, used_past (map f os) k, length-map))
     (cases_lt k (length xs))

@@ -5,7 +5,10 @@ use Rattle.bit_matrix.proofs.{PartLemmas.{tracked_more, of_not, stay_kept, repor
 use Rattle.bit_matrix.proofs.merges.merge_blocks.Goals as goal
 
 -- all of the blocks, by the groups
-merged : (g : _) (c : After-merge_each-mismatch g) → IsTrackedMerge g.O.Operation.merge g.B.BitBlock.width g.B.BitBlock.number g.B.BitBlock.is_block 0 (length c.args.others.now) c.args.blocks.now c.args.others.now c.merge_each-mismatch.new.blocks c.zero.result c.merge_each-mismatch.result
+merged : (g : _) (c : After-merge_each-mismatch g)
+    → IsTrackedMerge g.O.Operation.merge g.B.BitBlock.width g.B.BitBlock.number g.B.BitBlock.is_block 0
+    (length c.args.others.now) c.args.blocks.now c.args.others.now c.merge_each-mismatch.new.blocks c.zero.result
+    c.merge_each-mismatch.result
 merged g c =
     let n = length c.args.others.now in
     let most : n / 16 * 16 + n % 16 / 4 * 4 ≡ n / 4 * 4 = omega arith in

@@ -13,5 +13,7 @@ loop-k-preserved g c =
     let early : c.args.start ≤ at = omega arith in
     let late : at ≤ c.args.start + (c.loop-k.k + 1) = omega arith in
     let before = c.loop-k.invariant in
-    let one = tracked_put _ _ _ _ at c.loop-k.blocks c.args.others.now c.loop-k.blocks _ _ _ _ law before.has.each (omega (arith, before.has.len, c.requires.can.fewer, c.requires.within)) refl c.merged_at-merged.ensures c.put_in.ensures.numbers c.put_in.ensures.each c.put_in.ensures.len in
+    let one = tracked_put _ _ _ _ at c.loop-k.blocks c.args.others.now c.loop-k.blocks _ _ _ _ law before.has.each
+    (omega (arith, before.has.len, c.requires.can.fewer, c.requires.within)) refl c.merged_at-merged.ensures
+    c.put_in.ensures.numbers c.put_in.ensures.each c.put_in.ensures.len in
     tracked_more _ _ _ _ c.args.start at _ at (at + 1) _ _ _ _ _ _ _ early late refl next before one

@@ -1,7 +1,9 @@
 use Rattle.std.proofs.{Common.{◌∙◌, ◌-◌, ap, length, not, take}}
 use Rattle.bit_blocks.specs.{declared.block.merge.Merge.TheVariants.{Difference, Union}, Merges.merge_of}
 use Rattle.bit_set.proofs.{AlgebraLemmas.elements-lengthened, MemberLemmas.counted_within}
-use Rattle.bit_set.proofs.{ReportedLemmas.{elements-except, length-lengthened-except, members-except, reported_of_lengthened, reported_unchanged, union_count, union_kept}, SetLemmas.IsAscending-elements}
+use Rattle.bit_set.proofs.ReportedLemmas.{elements-except, length-lengthened-except, members-except, reported_of_lengthened}
+use Rattle.bit_set.proofs.ReportedLemmas.{reported_unchanged, union_count, union_kept}
+use Rattle.bit_set.proofs.SetLemmas.{IsAscending-elements}
 use Rattle.bit_set.specs.{Changes.{Changes, Outcome.Returned}, Order.same_sets, Sets.{difference, elements, union}}
 use Rattle.bit_set.proofs.set.BitSet.union_with_difference.Goals as goal
 

@@ -14,7 +14,9 @@ pub returns-in_err-i-clause-first : goal.returns-in_err-i-clause-first
 returns-in_err-i-clause-first g c =
     let ms = map g.B.BitBlock.number c.self.inside.blocks.items in
     rw c.from_residual.ensures
-    (finds_from_same (value_at g.B.BitBlock.width ms) (λ i. get_or c.args.self.now.values i false) 0 None (λ i. sym (value_in_view _ _ _ ms _ c.self.view_is c.self.invariant.packed.tail i)) (rw c.deref.ensures.value at c.in_err-i.ensures))
+    (finds_from_same (value_at g.B.BitBlock.width ms) (λ i. get_or c.args.self.now.values i false) 0 None
+    (λ i. sym (value_in_view _ _ _ ms _ c.self.view_is c.self.invariant.packed.tail i))
+    (rw c.deref.ensures.value at c.in_err-i.ensures))
 
 pub returns-in_err-i-clause-values : goal.returns-in_err-i-clause-values
 returns-in_err-i-clause-values g c = rw c.from_residual.ensures refl
