@@ -1,24 +1,18 @@
 -- What merges of blocks do to the rows.
-use Rattle.std.proofs.Common.{◌≡◌, ◌≢◌, ℕ, ◌+◌, ◌*◌, ◌/◌, ◌%◌, ◌^◌, ◌<◌, ◌≤◌, ◌↔◌, Bool, false, not, List, get_or, refl, sym, ap, ap₂, ◌∙◌, arith, inl, inr, mod-lt}
+use Rattle.std.proofs.Common.{◌≡◌, ◌≢◌, ℕ, ◌+◌, ◌*◌, ◌/◌, ◌%◌, ◌^◌, ◌<◌, ◌≤◌, ◌↔◌, Bool, false, not, List, get_or, sym, ap, ap₂, ◌∙◌, arith, inl, inr, mod-lt}
 use Rattle.std.proofs.lemmas.{Bool.{cases_eq, cases_lt}, Nat.{div_below, mul-add-lt, same_from_place}}
 use Rattle.std.specs.Cmp.Lexicographic.{bytes_decides}
-use Rattle.bit_blocks.specs.{Digits.is_one, Merges.merge_of_values, Storage.value_at, declared.block.merge.Merge.{Merge, TheVariants.{Union, Intersection, Difference, Symmetric}}}
-use Rattle.bit_blocks.proofs.StorageLemmas.{value_at-index}
+use Rattle.bit_blocks.specs.{Digits.is_one, Merges.merge_of_values, Storage.value_at, declared.block.merge.Merge.Merge}
+use Rattle.bit_blocks.proofs.{MergeLemmas.merge_of_values-none, StorageLemmas.value_at-index}
 use Rattle.bit_set.specs.{Order.same_sets, Sets.{has, merge_of_sets}}
 use Rattle.bit_set.proofs.AlgebraLemmas.{IsAscending-merge_of_sets, has-merge_of_sets}
-use Rattle.bit_matrix.specs.{Matrices.{row_of, with_row}, Merges.{IsMergedPart}, Tables.{IsCleanPast, bit_of, matrix_in, row_in}}
+use Rattle.bit_matrix.specs.{Matrices.{row_of, with_row}, Merges.IsMergedPart, Tables.{IsCleanPast, bit_of, matrix_in, row_in}}
 use Rattle.bit_matrix.proofs.{RowLemmas.{bit_of-digit, same_block}, TableLemmas.{becomes, has-row_in_below, has_at-below, has_at-past, is_matrix}}
 
 -- ---- row by row
 
 bit_in_row : (w stride k j : ℕ) → k < stride → j < w → k * w + j < stride * w
 bit_in_row w stride k j within inside = omega (arith, mul-add-lt k w j stride within inside)
-
-pub merge_of_falses : (m : Merge) → merge_of_values m false false ≡ false
-merge_of_falses Union = refl
-merge_of_falses Intersection = refl
-merge_of_falses Difference = refl
-merge_of_falses Symmetric = refl
 
 module _ (w stride : ℕ) (pos : 0 < w) where
   -- a row that is not written
@@ -67,7 +61,7 @@ module _ (w stride : ℕ) (pos : 0 < w) where
     merged_clean m r q ms ns merged clean = record {
       tail = λ p c past below. elim (cases_eq p q) [
         | inl here ↦ ap (λ n. bit_of w stride ns n c) here ∙ merged_row m r q ms ms ns merged c below
-            ∙ ap₂ (merge_of_values m) (clean.tail q c past below) (clean.tail r c past below) ∙ merge_of_falses m
+            ∙ ap₂ (merge_of_values m) (clean.tail q c past below) (clean.tail r c past below) ∙ merge_of_values-none m
         | inr other ↦ other_row m (r * stride) stride q ms ms ns merged (omega arith) p c other below ∙ clean.tail p c past below
       ];
     }
@@ -82,7 +76,9 @@ module _ (w stride : ℕ) (pos : 0 < w) where
         (λ c below. merged_row m r q ms ms ns merged c (omega (arith, enough, below))
         ∙ ap₂ (merge_of_values m) (sym (has_at-below w stride columns rows ms q c write below))
         (sym (has_at-below w stride columns rows ms r c read below)) ∙ sym (has-merge_of_sets m (row q) (row r) c))
-        (λ c past. has-merge_of_sets m (row q) (row r) c ∙ ap₂ (merge_of_values m) (has_at-past w stride columns rows ms q c past) (has_at-past w stride columns rows ms r c past) ∙ merge_of_falses m)
+        (λ c past. has-merge_of_sets m (row q) (row r) c
+        ∙ ap₂ (merge_of_values m) (has_at-past w stride columns rows ms q c past)
+        (has_at-past w stride columns rows ms r c past) ∙ merge_of_values-none m)
         (λ p c other below. other_row m (r * stride) stride q ms ms ns merged (omega arith) p c other (omega (arith, enough, below)))
 
 -- ---- whether a row changed

@@ -5,24 +5,21 @@ use Rattle.std.proofs.Common.{zero, suc, mod-lt, subst}
 use Rattle.std.proofs.iter.runs.Sources.{from_front, as_is}
 use Rattle.std.proofs.lemmas.{Bool.{cases_lt, true≢false, Decides.nat_tests}, Nat.{div-add-mod', le-div}}
 use Rattle.std.proofs.lemmas.List.{get_or-drop, length-drop, length-map, drop_all}
-use Rattle.std.proofs.lemmas.List.Elements.{All-cons, All-drop, All-head, All-nil, All-tail}
-use Rattle.std.specs.Iterator.{YieldsFirst, Runs.{YieldsInOrder}}
+use Rattle.std.proofs.lemmas.List.Elements.{All-drop, All-head, All-nil, All-tail}
+use Rattle.std.specs.Iterator.{YieldsFirst, Runs.YieldsInOrder}
 use Rattle.bit_blocks.specs.{Digits.is_one, Lowest.{IsCleared, IsLowest}, Storage.value_at}
 use Rattle.bit_blocks.proofs.{BitsLemmas.block_past, StorageLemmas.{value_at-index, value_at-past}}
 use Rattle.bit_set.specs.{Indexes.{digits_from, indexes, values_in}, Sets.{IsAscending, has}}
 use Rattle.bit_set.proofs.IndexLemmas.{AscendsFrom-indexes, indexes-lowest, indexes-none, length-indexes-le}
 use Rattle.bit_set.proofs.IndexLemmas.{length-values_in, value_in}
-use Rattle.bit_set.proofs.SetLemmas.{AscendsFrom-lower, has-below, has-elements_from, has-first}
+use Rattle.bit_set.proofs.RetainLemmas.{below_by_members}
+use Rattle.bit_set.proofs.SetLemmas.{AscendsFrom-lower, has-below, has-elements_from}
 use Rattle.bit_set.proofs.WalkLemmas.{CanWalk-moved, CanWalk-taken, indexes-pulled, pulled_along}
 use Rattle.bit_matrix.specs.Walks.{IsRowWalk}
 
 -- each call gives the first of what is left
 pub runs_of_row : YieldsInOrder (YieldsFirst (λ (left : List ℕ). left)) (λ (left : List ℕ). left)
 runs_of_row p s = as_is p p.from (from_front (YieldsFirst (λ (left : List ℕ). left)) (λ x. x) (λ (left : List ℕ). left) (λ s t h. ap length h.0) (λ s x t h. h) p s)
-
-all_below : (bound : ℕ) (xs : List ℕ) → ((n : ℕ) → has xs n ≡ true → n < bound) → All (λ n. n < bound) xs
-all_below bound [] below = All-nil (λ n. n < bound)
-all_below bound (x ∷ xs) below = All-cons (λ n. n < bound) x xs (below x (has-first x xs)) (all_below bound xs (λ n is_in. below n (let is = is_in in grind (arith, nat_tests))))
 
 -- the maps of what is past some
 map-dropped : {X : Type 0} (f : X → ℕ) (n : ℕ) (xs : List X) → map f (drop n xs) ≡ drop n (map f xs)
@@ -107,7 +104,7 @@ begun w number is_block xs rest from first block pos at within fits each lawful 
         can = record {
           long = long;
           fits = omega (arith, room, fits);
-          below = all_below (2 ^ 64 - 1) left (λ n is_in. below_end w ms n (length xs) pos (length-map xs number) fits (let both = members n in grind (arith, nat_tests)));
+          below = below_by_members (2 ^ 64 - 1) left (λ n is_in. below_end w ms n (length xs) pos (length-map xs number) fits (let both = members n in grind (arith, nat_tests)));
           count_fits = omega (arith, length-indexes-le w (first * w) (number block) (values_in w (map number rest)), long, room, fits);
         };
       },

@@ -15,7 +15,7 @@ use Rattle.bit_set.specs.{Members.IsSameSet, Order.order_of_sets, Ranges.span}
 use Rattle.bit_set.specs.Sets.{AscendsFrom, IsAscending, bound_of, elements, has, put_all, those_below}
 use Rattle.bit_set.specs.Walk.{Walk, Advances}
 use Rattle.bit_set.proofs.PlaceLemmas.{all_by_places, any_by_places, at_place, has_place, in_order}
-use Rattle.bit_set.proofs.RangeLemmas.{IsAscending-span, has-range_with_len, has-span, length-span}
+use Rattle.bit_set.proofs.RangeLemmas.{IsAscending-span, filtered_apart, has-range_with_len, has-span, length-span}
 use Rattle.bit_set.proofs.SetLemmas.{AscendsFrom-filter, IsAscending-elements, has-filter, has-first, same_members}
 use Rattle.bit_set.proofs.TestLemmas.{filter_all, filter_none}
 
@@ -108,9 +108,6 @@ pub ascends_pushed : (s : List ℕ) (x : ℕ) → IsAscending s → (s ++ x ∷ 
 ascends_pushed s x up = (refl, ascends_pushed_from 0 s x (omega arith) up)
 
 -- a set of two parts has as many members as they have
-filtered_parts : (p : ℕ → Bool) (s : List ℕ) → length (filter (λ x. not (p x)) s) + length (filter p s) ≡ length s
-filtered_parts p [] = refl
-filtered_parts p (x ∷ xs) = let rest = filtered_parts p xs in grind (arith, nat_tests)
 
 pub length_of_parts : (whole a b : List ℕ) → IsAscending whole → IsAscending a → IsAscending b
     → ((x : ℕ) → has a x ≡ (has whole x && not (has b x))) → ((x : ℕ) → IsTrue (has b x) → IsTrue (has whole x)) → length a + length b ≡ length whole
@@ -119,7 +116,7 @@ length_of_parts whole a b up up_a up_b others within =
     (λ x. let kept = has-filter (λ x. not (has b x)) whole x in let is = others x in grind (arith, nat_tests)) in
     let second : b ≡ filter (has b) whole = same_members b (filter (has b) whole) up_b (AscendsFrom-filter 0 _ whole up)
     (λ x. let kept = has-filter (has b) whole x in let is = within x in grind (arith, nat_tests)) in
-    omega (arith, filtered_parts (has b) whole, ap length first, ap length second)
+    omega (arith, filtered_apart (has b) whole, ap length first, ap length second)
 
 -- what is below n and not in a set, with what is in it below n, is n
 pub count_complement : (n : ℕ) (rest set : List Bool) → ((x : ℕ) → has (elements rest) x ≡ (ltb x n && not (has (elements set) x)))

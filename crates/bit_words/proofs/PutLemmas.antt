@@ -6,7 +6,7 @@ use Rattle.std.proofs.lemmas.{Bool.{Decides.nat_tests, cases_lt}, List.{get_or_a
 use borrow.Rule.Slice.PartMut.{put_mid}
 use Rattle.bit_blocks.specs.{Bits.{Bits, blocks_for}, Digits.is_one, Ranges.in_range, Storage.{value_at, values_of, IsPacked, IsZeroFrom, WritesInPlace}}
 use Rattle.bit_words.specs.{Kept.{IsPut, PutsBlocks}, Summary.IsFalseBefore}
-use Rattle.bit_blocks.proofs.{BitsLemmas.blocks_for-enough, ChangeLemmas.div_le, StorageLemmas.{get_or-values_of_zero_tail, length-values_of, value_at-index, value_at-is}}
+use Rattle.bit_blocks.proofs.{BitsLemmas.blocks_for-enough, ChangeLemmas.div_lt, StorageLemmas.{get_or-values_of_zero_tail, length-values_of, value_at-index, value_at-is}}
 
 -- ---- the blocks
 
@@ -47,10 +47,6 @@ each_put P k n xs ps each more =
 
 -- ---- the list that they hold
 
--- a block of a chunk before that of block k is before it
-lt_from_div : (w q k : ℕ) → 0 < w → q / w < k / w → q < k
-lt_from_div w q k pos low = ⊎_elim (λ (less : q < k). less) (λ (more : k ≤ q). let later = div_le w k q pos more in absurd (omega (arith, low, later))) (cases_lt q k)
-
 module _ (w k : ℕ) (ps ms ns : List ℕ) (pos : 0 < w) (put : IsPut k ps ms ns) where
   value_inside : (q j : ℕ) → q < length ps → j < w → value_at w ns ((k + q) * w + j) ≡ is_one (get_or ps q 0) j
   value_inside q j below index = value_at-index w ns (k + q) j index ∙ ap (λ m. is_one m j) (put.inside q below)
@@ -72,7 +68,7 @@ module _ (w k : ℕ) (ps ms ns : List ℕ) (pos : 0 < w) (put : IsPut k ps ms ns
   pub put_start : (start : ℕ) → IsFalseBefore w ms start → IsFalseBefore w ns (min start (k / w))
   put_start start before = record {
     falses = λ i low.
-        let early : i / w < k = lt_from_div w (i / w) k pos (omega (arith, low)) in
+        let early : i / w < k = div_lt w (i / w) k pos (omega (arith, low)) in
         value_other i (grind (arith, nat_tests)) ∙ before.falses i (omega (arith, low));
   }
 
