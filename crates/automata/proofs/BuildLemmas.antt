@@ -1,5 +1,6 @@
 -- A table on its way to the deterministic automaton, and what it comes to.
-use Rattle.std.proofs.Common.{◌≡◌, ℕ, ◌+◌, ◌*◌, ◌/◌, ◌%◌, ◌<◌, ◌≤◌, Bool, true, false, cond, inl, inr, List, [], ◌∷◌, ◌++◌, length, zero, suc, get_or, slice_index, refl, sym, ap, subst, ◌∙◌, ◌↔◌, arith}
+use Rattle.std.proofs.Common.{◌≡◌, ℕ, ◌+◌, ◌*◌, ◌/◌, ◌%◌, ◌<◌, ◌≤◌, Bool, true, false, cond, inl, inr, List, [], ◌∷◌, ◌++◌}
+use Rattle.std.proofs.Common.{length, zero, suc, get_or, slice_index, refl, sym, ap, subst, ◌∙◌, ◌↔◌, arith}
 use Rattle.std.proofs.lemmas.Bool.{true≢false, cases_eq, cases_lt, eq-eqb, ne_eqb}
 use Rattle.std.proofs.lemmas.List.{get_or_append_left, get_or_past, get_or_push, length_push}
 use Rattle.std.proofs.lemmas.Nat.{div-add-mod', div-mul-add, mod-mul-add, mod_below, row_fits}
@@ -49,12 +50,16 @@ one_place k i j a b lt_a lt_b is = (
 
 module _ (nfa : Automaton) (sets : List (List ℕ)) (next : List ℕ) (b : Builds nfa sets next) where
   -- what a symbol makes of a set that a word reaches
-  pub reached_on : (i symbol : ℕ) (set : List ℕ) → i < length sets → symbol < length nfa.moves → IsImage (row_of nfa.moves symbol) (set_of sets i) set → (word : List ℕ) × IsWordOver (length nfa.moves) word × IsReach nfa word set
+  pub reached_on : (i symbol : ℕ) (set : List ℕ) → i < length sets → symbol < length nfa.moves
+      → IsImage (row_of nfa.moves symbol) (set_of sets i) set
+      → (word : List ℕ) × IsWordOver (length nfa.moves) word × IsReach nfa word set
   reached_on i symbol set lt inside image =
       let p = b.reached i lt in
       (p.0 ++ symbol ∷ [], over_push (length nfa.moves) p.0 symbol p.1 inside, end_on nfa.moves nfa.starts (set_of sets i) set p.0 symbol p.2 image)
 
-  module _ (set : List ℕ) (up : IsAscending set) (reach : (word : List ℕ) × IsWordOver (length nfa.moves) word × IsReach nfa word set) (new : IsNew sets set) (one_list : (s t : List ℕ) → IsAscending s → IsAscending t → ((n : ℕ) → has s n ≡ has t n) → s ≡ t) where
+  module _ (set : List ℕ) (up : IsAscending set)
+      (reach : (word : List ℕ) × IsWordOver (length nfa.moves) word × IsReach nfa word set) (new : IsNew sets set)
+      (one_list : (s t : List ℕ) → IsAscending s → IsAscending t → ((n : ℕ) → has s n ≡ has t n) → s ≡ t) where
     reached_with : AreReached nfa (sets ++ set ∷ [])
     reached_with i lt = elim (before_or_last sets set i lt) [
       | inl below ↦ rw (set_before sets set i below) (b.reached i below)
@@ -101,14 +106,19 @@ module _ (nfa : Automaton) (sets : List (List ℕ)) (next : List ℕ) (b : Build
           };
     }
 
-  pub builds_numbered : (set : List ℕ) (number : ℕ) (after : List (List ℕ)) → IsAscending set → ((word : List ℕ) × IsWordOver (length nfa.moves) word × IsReach nfa word set) → ((s t : List ℕ) → IsAscending s → IsAscending t → ((n : ℕ) → has s n ≡ has t n) → s ≡ t) → Numbers sets set number after → Builds nfa after next
+  pub builds_numbered : (set : List ℕ) (number : ℕ) (after : List (List ℕ)) → IsAscending set
+      → ((word : List ℕ) × IsWordOver (length nfa.moves) word × IsReach nfa word set)
+      → ((s t : List ℕ) → IsAscending s → IsAscending t → ((n : ℕ) → has s n ≡ has t n) → s ≡ t)
+      → Numbers sets set number after → Builds nfa after next
   builds_numbered set number after up reach one_list n = elim n.grows [
     | inl same ↦ rw same b
     | inr more ↦ rw more.0 (builds_with set up reach more.1 one_list)
   ]
 
   -- the entry at the end
-  pub builds_entry : (i symbol to : ℕ) → length next ≡ i * length nfa.moves + symbol → symbol < length nfa.moves → i < length sets → to < length sets → IsImage (row_of nfa.moves symbol) (set_of sets i) (set_of sets to) → Builds nfa sets (next ++ to ∷ [])
+  pub builds_entry : (i symbol to : ℕ) → length next ≡ i * length nfa.moves + symbol → symbol < length nfa.moves
+      → i < length sets → to < length sets → IsImage (row_of nfa.moves symbol) (set_of sets i) (set_of sets to)
+      → Builds nfa sets (next ++ to ∷ [])
   builds_entry i symbol to is inside from lt image = record {
     some = b.some;
     start = b.start;
@@ -142,11 +152,17 @@ as_many old set number new n = elim n.grows [
 ]
 
 -- the set to which a symbol leads, with its number at the end of the table
-pub row_on : (nfa : Automaton) (sets : List (List ℕ)) (next : List ℕ) (i symbol : ℕ) (set : List ℕ) (number : ℕ) (new : List (List ℕ)) → Builds nfa sets next → IsAscending set → ((s t : List ℕ) → IsAscending s → IsAscending t → ((n : ℕ) → has s n ≡ has t n) → s ≡ t) → length next ≡ i * length nfa.moves + symbol → symbol < length nfa.moves → i < length sets → IsImage (row_of nfa.moves symbol) (set_of sets i) set → Numbers sets set number new → Builds nfa new (next ++ number ∷ [])
+pub row_on : (nfa : Automaton) (sets : List (List ℕ)) (next : List ℕ) (i symbol : ℕ) (set : List ℕ) (number : ℕ)
+    (new : List (List ℕ)) → Builds nfa sets next → IsAscending set
+    → ((s t : List ℕ) → IsAscending s → IsAscending t → ((n : ℕ) → has s n ≡ has t n) → s ≡ t)
+    → length next ≡ i * length nfa.moves + symbol → symbol < length nfa.moves → i < length sets
+    → IsImage (row_of nfa.moves symbol) (set_of sets i) set → Numbers sets set number new → Builds nfa new (next ++ number ∷ [])
 row_on nfa sets next i symbol set number new b up one_list is inside from image n =
     let more = as_many sets set number new n in
     let same = number_kept sets set number i new n from in
-    builds_entry nfa new next (builds_numbered nfa sets next b set number new up (reached_on nfa sets next b i symbol set from inside image) one_list n) i symbol number is inside (omega (arith, more, from)) n.inside (rw (same, n.named) image)
+    builds_entry nfa new next (builds_numbered nfa sets next b set number new up
+    (reached_on nfa sets next b i symbol set from inside image) one_list n) i symbol number is
+    inside (omega (arith, more, from)) n.inside (rw (same, n.named) image)
 
 -- ---- the starts
 
@@ -214,7 +230,9 @@ module _ (nfa : Automaton) (sets : List (List ℕ)) (next : List ℕ) (b : Build
       let fits : i * length nfa.moves + length nfa.moves ≤ length sets * length nfa.moves = row_fits i (length nfa.moves) (length sets) (length nfa.moves) lt (omega arith) in
       b.entries i symbol inside (omega (arith, fits, inside, whole))
 
-  ends : (i : ℕ) (word : List ℕ) → i < length sets → IsWordOver (length nfa.moves) word → (end_from (length nfa.moves) next i word < length sets) × IsEnd nfa.moves (set_of sets i) word (set_of sets (end_from (length nfa.moves) next i word))
+  ends : (i : ℕ) (word : List ℕ) → i < length sets → IsWordOver (length nfa.moves) word
+      → (end_from (length nfa.moves) next i word < length sets) × IsEnd nfa.moves (set_of sets i) word
+      (set_of sets (end_from (length nfa.moves) next i word))
   ends i [] lt over = (lt, end_none nfa.moves (set_of sets i))
   ends i (symbol ∷ word) lt over =
       let e = entry i symbol lt over.0 in
@@ -238,7 +256,10 @@ module _ (nfa : Automaton) (sets : List (List ℕ)) (next : List ℕ) (b : Build
     pub is_subset_table : IsSubsetTable nfa (record { states = length sets; symbols = length nfa.moves; next = next; accepting = accepting }) sets
     is_subset_table = record { symbols = refl; states = refl; leads = leads; reached = is_led_to; apart = b.apart }
 
-    pub same_words : ((i : ℕ) → (has accepting i ≡ true) ↔ ((i < length sets) × Meets (set_of sets i) nfa.accepting)) → (word : List ℕ) → IsAcceptedBy (record { states = length sets; symbols = length nfa.moves; next = next; accepting = accepting }) word ↔ Accepts nfa word
+    pub same_words : ((i : ℕ) → (has accepting i ≡ true) ↔ ((i < length sets) × Meets (set_of sets i) nfa.accepting))
+        → (word : List ℕ)
+        → IsAcceptedBy (record { states = length sets; symbols = length nfa.moves; next = next; accepting = accepting }) word
+        ↔ Accepts nfa word
     same_words accept word = (
       (λ p. let m = ((accept (end_from (length nfa.moves) next 0 word)).0 p.1).1 in (m.0, ((leads word p.0).1 m.0).0 m.1, m.2)),
       (λ p.

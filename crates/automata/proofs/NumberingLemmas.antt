@@ -36,7 +36,9 @@ before_or_last sets set i lt = elim (cases_lt i (length sets)) [ inl below ↦ i
 
 -- a copy of the set at the end of the list
 pub pushed : (sets mid after : List Bits) (copy : Bits) (set : List ℕ) → after ≡ mid ++ copy ∷ [] → mid ≡ sets → elements copy.values ≡ set → row_of_sets after ≡ row_of_sets sets ++ set ∷ []
-pushed sets mid after copy set is same copied = ap row_of_sets (is ∙ ap (λ l. l ++ copy ∷ []) same) ∙ map_push (λ (bits : Bits). elements bits.values) sets copy ∙ ap (λ last. row_of_sets sets ++ last ∷ []) copied
+pushed sets mid after copy set is same copied =
+    ap row_of_sets (is ∙ ap (λ l. l ++ copy ∷ []) same) ∙ map_push (λ (bits : Bits). elements bits.values) sets copy
+    ∙ ap (λ last. row_of_sets sets ++ last ∷ []) copied
 
 module _ (find : Bits → Option ℕ) (sets : List (List ℕ)) (f : Finds find sets) where
   pub numbers_found : (set : Bits) (number : ℕ) → find set ≡ Some number → Numbers sets (elements set.values) number sets
@@ -68,7 +70,8 @@ module _ (find : Bits → Option ℕ) (sets : List (List ℕ)) (f : Finds find s
     same_place : (s t : List ℕ) → s ≡ t → is_eq (order_of_sets s t) ≡ true
     same_place s t h = ap is_eq ((equal s t).1 ((same s t).1 h))
 
-    module _ (set : Bits) (number : ℕ) (is : number ≡ length sets) (none : find set ≡ None) (after : Bits → Option ℕ) (updates : (q : Bits) → after q ≡ cond (is_eq (order_of_sets (elements set.values) (elements q.values))) (Some number) (find q)) where
+    module _ (set : Bits) (number : ℕ) (is : number ≡ length sets) (none : find set ≡ None) (after : Bits → Option ℕ)
+        (updates : (q : Bits) → after q ≡ cond (is_eq (order_of_sets (elements set.values) (elements q.values))) (Some number) (find q)) where
       x : List ℕ
       x = elements set.values
 
@@ -83,15 +86,17 @@ module _ (find : Bits → Option ℕ) (sets : List (List ℕ)) (f : Finds find s
       pub finds_on : Finds after (sets ++ elements set.values ∷ [])
       unfolding x
       finds_on = record {
-        listed = λ q i at. elim (is_eq (order_of_sets (elements set.values) (elements q.values))) as (λ b. is_eq (order_of_sets (elements set.values) (elements q.values)) ≡ b → (i < length (sets ++ elements set.values ∷ [])) × (set_of (sets ++ elements set.values ∷ []) i ≡ elements q.values)) [
-          | true ↦ λ e.
-              let here : elements set.values ≡ elements q.values = same_list _ _ e in
-              let last : number ≡ i = some_is number i (sym (at_set q here) ∙ at) in
-              (omega (arith, is, last, length_push sets (elements set.values)), set_last sets (elements set.values) i (sym last ∙ is) ∙ here)
-          | false ↦ λ e.
-              let before = f.listed q i (sym (elsewhere q e) ∙ at) in
-              (omega (arith, before.0, length_push sets (elements set.values)), set_before sets (elements set.values) i before.0 ∙ before.1)
-        ] refl;
+        listed = λ q i at. elim (is_eq (order_of_sets (elements set.values) (elements q.values))) as (λ b.
+            is_eq (order_of_sets (elements set.values) (elements q.values)) ≡ b → (i < length (sets ++ elements set.values ∷ []))
+            × (set_of (sets ++ elements set.values ∷ []) i ≡ elements q.values)) [
+              | true ↦ λ e.
+                  let here : elements set.values ≡ elements q.values = same_list _ _ e in
+                  let last : number ≡ i = some_is number i (sym (at_set q here) ∙ at) in
+                  (omega (arith, is, last, length_push sets (elements set.values)), set_last sets (elements set.values) i (sym last ∙ is) ∙ here)
+              | false ↦ λ e.
+                  let before = f.listed q i (sym (elsewhere q e) ∙ at) in
+                  (omega (arith, before.0, length_push sets (elements set.values)), set_before sets (elements set.values) i before.0 ∙ before.1)
+            ] refl;
         found = λ q i lt at. elim (before_or_last sets (elements set.values) i lt) [
           | inl below ↦
               let old : set_of sets i ≡ elements q.values = sym (set_before sets (elements set.values) i below) ∙ at in

@@ -1,5 +1,7 @@
 -- Pairs of states that one word reaches in two tables.
-use Rattle.std.proofs.Common.{◌≡◌, ℕ, ◌+◌, ◌*◌, ◌<◌, ◌≤◌, Bool, not, true, false, cond, ◌&&◌, ◌||◌, eqb, ltb, ◌⊎◌, inl, inr, List, [], ◌∷◌, ◌++◌, length, append_assoc, get_or, reverse, refl, sym, ap, subst, ◌∙◌, ◌↔◌, arith}
+use Rattle.std.proofs.Common.{◌≡◌, ℕ, ◌+◌, ◌*◌, ◌<◌, ◌≤◌, Bool, not, true, false, cond, ◌&&◌, ◌||◌, eqb, ltb, ◌⊎◌, inl, inr}
+use Rattle.std.proofs.Common.{List, [], ◌∷◌, ◌++◌, length, append_assoc, get_or, reverse, refl, sym, ap, subst, ◌∙◌, ◌↔◌}
+use Rattle.std.proofs.Common.{arith}
 use mathlib.Core.Bool.{beq}
 use Rattle.std.proofs.lemmas.Bool.{true≢false, cases_eq, cases_lt, eq-eqb, eqb-true, lt-ltb, le-ltb, or_cases, or_left, or_right}
 use Rattle.std.proofs.lemmas.List.{get_or_append_left, get_or_default, get_or_push, length_push, reverse-append}
@@ -49,7 +51,9 @@ within_accepts t state lt = ap (λ b. b && has t.accepting state) (lt-ltb state 
 
 -- ---- what a table accepts
 
-accepted_from : (t : Table) (table : IsTable t.states t.symbols t.next) (word : List ℕ) (state : ℕ) → state < t.states → (does_accept t (walk_from t state word) ≡ true) ↔ (IsWordOver t.symbols word × (has t.accepting (end_from t.symbols t.next state word) ≡ true))
+accepted_from : (t : Table) (table : IsTable t.states t.symbols t.next) (word : List ℕ) (state : ℕ) → state < t.states
+    → (does_accept t (walk_from t state word) ≡ true)
+    ↔ (IsWordOver t.symbols word × (has t.accepting (end_from t.symbols t.next state word) ≡ true))
 accepted_from t table [] state lt = ((λ h. (tt, sym (within_accepts t state lt) ∙ h)), (λ p. within_accepts t state lt ∙ p.1))
 accepted_from t table (symbol ∷ word) state lt = elim (cases_lt symbol t.symbols) [
   | inl in_symbols ↦
@@ -81,7 +85,8 @@ before_or_last : (queue : List Pair) (p : Pair) (i : ℕ) → i < length (queue 
 before_or_last queue p i lt = elim (cases_lt i (length queue)) [ inl below ↦ inl below | inr above ↦ inr (omega (arith, lt, above, length_push queue p)) ]
 
 -- what is met after one pair more was met: that pair, or one of those before
-met_before : (met new : Matrix) (p : Pair) (l r : ℕ) → ChangesRow met new p.left (λ c. eqb p.right c || has_at met p.left c) → has_at new l r ≡ true → ((p.left ≡ l) × (p.right ≡ r)) ⊎ (has_at met l r ≡ true)
+met_before : (met new : Matrix) (p : Pair) (l r : ℕ) → ChangesRow met new p.left (λ c. eqb p.right c || has_at met p.left c)
+    → has_at new l r ≡ true → ((p.left ≡ l) × (p.right ≡ r)) ⊎ (has_at met l r ≡ true)
 met_before met new p l r change h = elim (cases_eq l p.left) [
   | inl is ↦ elim (or_cases (eqb p.right r) (has_at met p.left r) (sym (change.row r) ∙ ap (λ k. has_at new k r) (sym is) ∙ h)) [
     | inl same ↦ inl (sym is, eqb-true p.right r same)
@@ -99,7 +104,8 @@ still_met met new p l r change h = elim (cases_eq l p.left) [
 now_met : (met new : Matrix) (p : Pair) → ChangesRow met new p.left (λ c. eqb p.right c || has_at met p.left c) → has_at new p.left p.right ≡ true
 now_met met new p change = change.row p.right ∙ or_left (eqb p.right p.right) _ (eq-eqb p.right p.right refl)
 
-module _ (a b : Table) (queue : List Pair) (met : Matrix) (place : ℕ) (e : Explores a b queue met place) (new : Matrix) (p : Pair) (change : ChangesRow met new p.left (λ c. eqb p.right c || has_at met p.left c)) where
+module _ (a b : Table) (queue : List Pair) (met : Matrix) (place : ℕ) (e : Explores a b queue met place) (new : Matrix)
+    (p : Pair) (change : ChangesRow met new p.left (λ c. eqb p.right c || has_at met p.left c)) where
   -- a pair that was met before
   explores_old : has_at met p.left p.right ≡ true → Explores a b queue new place
   explores_old is_in = record {
@@ -114,7 +120,9 @@ module _ (a b : Table) (queue : List Pair) (met : Matrix) (place : ℕ) (e : Exp
     closed = λ i symbol lt inside before. still_met met new p _ _ change (e.closed i symbol lt inside before);
   }
 
-  module _ (fits : place ≤ length queue * symbols_of a b) (parent : p.parent < length queue) (left_is : p.left ≡ step_of a (pair_at queue p.parent).left p.symbol) (right_is : p.right ≡ step_of b (pair_at queue p.parent).right p.symbol) where
+  module _ (fits : place ≤ length queue * symbols_of a b) (parent : p.parent < length queue)
+      (left_is : p.left ≡ step_of a (pair_at queue p.parent).left p.symbol)
+      (right_is : p.right ≡ step_of b (pair_at queue p.parent).right p.symbol) where
     linked_on : (i : ℕ) → 0 < i → i < length (queue ++ p ∷ []) → IsLinked a b (queue ++ p ∷ []) i
     linked_on i some lt = elim (before_or_last queue p i lt) [
       | inl below ↦
@@ -159,7 +167,9 @@ module _ (a b : Table) (queue : List Pair) (met : Matrix) (place : ℕ) (e : Exp
           }
     ]
 
-    closed_on : (i symbol : ℕ) → i < length (queue ++ p ∷ []) → symbol < symbols_of a b → i * symbols_of a b + symbol < place → has_at new (step_of a (pair_at (queue ++ p ∷ []) i).left symbol) (step_of b (pair_at (queue ++ p ∷ []) i).right symbol) ≡ true
+    closed_on : (i symbol : ℕ) → i < length (queue ++ p ∷ []) → symbol < symbols_of a b → i * symbols_of a b + symbol < place
+        → has_at new (step_of a (pair_at (queue ++ p ∷ []) i).left symbol)
+        (step_of b (pair_at (queue ++ p ∷ []) i).right symbol) ≡ true
     closed_on i symbol lt inside before = elim (before_or_last queue p i lt) [
       | inl below ↦ rw (pair_before queue p i below) (still_met met new p _ _ change (e.closed i symbol below inside before))
       | inr last ↦
@@ -201,7 +211,10 @@ same_pair queue after p true i is lt = ap (λ q. pair_at q i) is
 same_pair queue after p false i is lt = ap (λ q. pair_at q i) is ∙ pair_before queue p i lt
 
 -- one symbol more was followed
-one_symbol_on : (a b : Table) (queue : List Pair) (met : Matrix) (at symbol : ℕ) → Explores a b queue met (at * symbols_of a b + symbol) → symbol < symbols_of a b → has_at met (step_of a (pair_at queue at).left symbol) (step_of b (pair_at queue at).right symbol) ≡ true → Explores a b queue met (at * symbols_of a b + (symbol + 1))
+one_symbol_on : (a b : Table) (queue : List Pair) (met : Matrix) (at symbol : ℕ)
+    → Explores a b queue met (at * symbols_of a b + symbol) → symbol < symbols_of a b
+    → has_at met (step_of a (pair_at queue at).left symbol) (step_of b (pair_at queue at).right symbol) ≡ true
+    → Explores a b queue met (at * symbols_of a b + (symbol + 1))
 one_symbol_on a b queue met at symbol e inside here = record {
   some = e.some;
   left_first = e.left_first;
@@ -218,7 +231,13 @@ one_symbol_on a b queue met at symbol e inside here = record {
 }
 
 -- the pair to which one symbol leads
-pub pair_on : (a b : Table) (queue : List Pair) (met : Matrix) (at symbol : ℕ) (from : Pair) (left right : ℕ) (new : Matrix) (after : List Pair) → Explores a b queue met (at * symbols_of a b + symbol) → symbol < symbols_of a b → at < length queue → pair_at queue at ≡ from → left ≡ step_of a from.left symbol → right ≡ step_of b from.right symbol → ChangesRow met new left (λ c. eqb right c || has_at met left c) → after ≡ cond (has_at met left right) queue (queue ++ record { parent = at; symbol = symbol; left = left; right = right } ∷ []) → Explores a b after new (at * symbols_of a b + (symbol + 1))
+pub pair_on : (a b : Table) (queue : List Pair) (met : Matrix) (at symbol : ℕ) (from : Pair) (left right : ℕ) (new : Matrix)
+    (after : List Pair) → Explores a b queue met (at * symbols_of a b + symbol) → symbol < symbols_of a b → at < length queue
+    → pair_at queue at ≡ from → left ≡ step_of a from.left symbol → right ≡ step_of b from.right symbol
+    → ChangesRow met new left (λ c. eqb right c || has_at met left c)
+    → after ≡ cond (has_at met left right) queue
+    (queue ++ record { parent = at; symbol = symbol; left = left; right = right } ∷ [])
+    → Explores a b after new (at * symbols_of a b + (symbol + 1))
 pair_on a b queue met at symbol from left right new after e inside lt from_is left_is right_is change is =
     let p : Pair = record { parent = at; symbol = symbol; left = left; right = right } in
     let row : at * symbols_of a b + symbols_of a b ≤ length queue * symbols_of a b = row_fits at (symbols_of a b) (length queue) (symbols_of a b) lt (omega arith) in
@@ -251,7 +270,9 @@ module _ (a b : Table) (queue : List Pair) (met : Matrix) (place : ℕ) (e : Exp
         walk_push b 0 before (pair_at queue j).symbol ∙ ap (λ s. step_of b s (pair_at queue j).symbol) rest.1 ∙ sym link.right_is,
       )
 
-  module _ (whole : place ≡ length queue * symbols_of a b) (table_a : IsTable a.states a.symbols a.next) (table_b : IsTable b.states b.symbols b.next) (agree : (i : ℕ) → i < length queue → does_accept a (pair_at queue i).left ≡ does_accept b (pair_at queue i).right) where
+  module _ (whole : place ≡ length queue * symbols_of a b) (table_a : IsTable a.states a.symbols a.next)
+      (table_b : IsTable b.states b.symbols b.next)
+      (agree : (i : ℕ) → i < length queue → does_accept a (pair_at queue i).left ≡ does_accept b (pair_at queue i).right) where
     same_from : (word : List ℕ) (i : ℕ) → i < length queue → does_accept a (walk_from a (pair_at queue i).left word) ≡ does_accept b (walk_from b (pair_at queue i).right word)
     same_from [] i lt = agree i lt
     same_from (symbol ∷ word) i lt = elim (cases_lt symbol (symbols_of a b)) [
@@ -268,7 +289,9 @@ module _ (a b : Table) (queue : List Pair) (met : Matrix) (place : ℕ) (e : Exp
 
     pub all_the_same : AcceptTheSame a b
     all_the_same word =
-        let same : does_accept a (walk_from a 0 word) ≡ does_accept b (walk_from b 0 word) = ap (λ s. does_accept a (walk_from a s word)) (sym e.left_first) ∙ same_from word 0 e.some ∙ ap (λ s. does_accept b (walk_from b s word)) e.right_first in
+        let same : does_accept a (walk_from a 0 word) ≡ does_accept b (walk_from b 0 word) =
+        ap (λ s. does_accept a (walk_from a s word)) (sym e.left_first) ∙ same_from word 0 e.some
+        ∙ ap (λ s. does_accept b (walk_from b s word)) e.right_first in
         let in_a = accepted a word table_a in
         let in_b = accepted b word table_b in
         ((λ h. in_b.0 (sym same ∙ in_a.1 h)), (λ h. in_a.0 (same ∙ in_b.1 h)))
@@ -286,11 +309,16 @@ one_of false true f g differ = inr (g.0 refl, λ h. true≢false (sym (f.1 h)))
 one_of false false f g differ = absurd (true≢false (sym differ))
 
 -- the test of the pair that was read, where it found that both accept or neither does
-pub agree_at : (a b : Table) (queue : List Pair) (i : ℕ) (p : Pair) (x y : Bool) → i < length queue → p ≡ get_or queue i p → x ≡ does_accept a p.left → y ≡ does_accept b p.right → not (beq x y) ≡ false → does_accept a (pair_at queue i).left ≡ does_accept b (pair_at queue i).right
+pub agree_at : (a b : Table) (queue : List Pair) (i : ℕ) (p : Pair) (x y : Bool) → i < length queue → p ≡ get_or queue i p
+    → x ≡ does_accept a p.left → y ≡ does_accept b p.right → not (beq x y) ≡ false
+    → does_accept a (pair_at queue i).left ≡ does_accept b (pair_at queue i).right
 agree_at a b queue i p x y lt is x_is y_is same = rw (← read queue i p lt is) (sym x_is ∙ are_same x y same ∙ y_is)
 
 -- and where it found that one does
-pub differ_at : (a b : Table) (queue : List Pair) (met : Matrix) (place : ℕ) → Explores a b queue met place → (i : ℕ) (p : Pair) (x y : Bool) (word : List ℕ) → i < length queue → p ≡ get_or queue i p → x ≡ does_accept a p.left → y ≡ does_accept b p.right → not (beq x y) ≡ true → Spells queue i word → IsTable a.states a.symbols a.next → IsTable b.states b.symbols b.next → IsAcceptedByOne a b word
+pub differ_at : (a b : Table) (queue : List Pair) (met : Matrix) (place : ℕ) → Explores a b queue met place
+    → (i : ℕ) (p : Pair) (x y : Bool) (word : List ℕ) → i < length queue → p ≡ get_or queue i p → x ≡ does_accept a p.left
+    → y ≡ does_accept b p.right → not (beq x y) ≡ true → Spells queue i word → IsTable a.states a.symbols a.next
+    → IsTable b.states b.symbols b.next → IsAcceptedByOne a b word
 differ_at a b queue met place e i p x y word lt is x_is y_is differ spells table_a table_b =
     let ends = follows a b queue met place e i word lt spells in
     let pair_is = read queue i p lt is in

@@ -123,6 +123,7 @@ shared (x ∷ xs) t h = elim (has t x) as (λ b. has t x ≡ b → (not b && is_
 pub not_disjoint : (s t : List ℕ) (v : ℕ) → has s v ≡ true → has t v ≡ true → IsDisjoint s t → ⊥
 not_disjoint s t v in_s in_t apart = true≢false (sym in_t ∙ apart v in_s)
 
-pub accepted : (nfa : Automaton) (word s : List ℕ) (apart : Bool) → IsEnd nfa.moves nfa.starts word s → apart ≡ is_disjoint s nfa.accepting → ((apart ≡ true) ↔ IsDisjoint s nfa.accepting) → (not apart ≡ true) ↔ Accepts nfa word
+pub accepted : (nfa : Automaton) (word s : List ℕ) (apart : Bool) → IsEnd nfa.moves nfa.starts word s
+    → apart ≡ is_disjoint s nfa.accepting → ((apart ≡ true) ↔ IsDisjoint s nfa.accepting) → (not apart ≡ true) ↔ Accepts nfa word
 accepted nfa word s true end value members = (λ h. absurd (true≢false (sym h)), λ p. absurd (not_disjoint s nfa.accepting p.0 ((end p.0).1 p.1) p.2 (members.0 refl)))
 accepted nfa word s false end value members = (λ h. let p = shared s nfa.accepting (sym value) in (p.0, (end p.0).0 p.1, p.2), λ p. refl)

@@ -1,6 +1,6 @@
 // Automata without determinism.
 ghost use Rattle.std.specs.Prelude.{◌≡◌, ◌≤◌, ◌↔◌, ℕ, IfOk, IsOk, IsTrue, OnOk, length};
-ghost use Rattle.bit_set.specs.Sets.{elements, has};
+ghost use Rattle.bit_set.specs.Sets.{elements};
 ghost use Rattle.automata.specs.Bounds.{AreWithin, IsLongest, IsRowWithin};
 ghost use Rattle.automata.specs.Runs.{Accepts, IsEnd, IsImage, row_of, rows_of_sets};
 

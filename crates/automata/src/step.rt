@@ -1,5 +1,5 @@
 // Sets of states, from one symbol to the next.
-ghost use Rattle.std.specs.Prelude.{◌≡◌, ◌≤◌, ℕ, OnOk, IsOk, length};
+ghost use Rattle.std.specs.Prelude.{◌≡◌, OnOk, IsOk};
 ghost use Rattle.bit_set.specs.Sets.{elements};
 ghost use Rattle.automata.specs.Bounds.{AreWithin, IsRowWithin};
 ghost use Rattle.automata.specs.Runs.{IsImage, row_of, row_of_sets, rows_of_sets};

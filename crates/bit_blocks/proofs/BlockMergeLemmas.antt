@@ -1,9 +1,22 @@
 -- What a merge that says whether a block changed does, some blocks at a time, which blocks stay, and what that says of the
 -- list.
-use Rattle.std.proofs.{Math.Bool.or-false, Common.{◌≡◌, ℕ, ◌+◌, ◌*◌, ◌/◌, ◌%◌, ◌^◌, ◌<◌, ◌≤◌, ◌↔◌, Bool, false, true, not, ◌==◌, ◌&&◌, ◌||◌, List, map, length, get_or, set, take, All, refl, sym, ap, ◌∙◌, arith, ⊎_elim, mod-lt, length-take, get_or-take, get_or-set_same, get_or-set_other}, lemmas.{Bool.{cases_eq, cases_lt, false≢true, Decides.nat_tests}, List.{get_or_past, length-map}, Nat.Bits.same_from_bits_below}}
+use Rattle.std.proofs.Math.Bool.{or-false}
+use Rattle.std.proofs.Common.{◌≡◌, ℕ, ◌+◌, ◌*◌, ◌/◌, ◌%◌, ◌^◌, ◌<◌, ◌≤◌, ◌↔◌, Bool, false, true, not, ◌==◌, ◌&&◌, ◌||◌, List}
+use Rattle.std.proofs.Common.{map, length, get_or, set, take, All, refl, sym, ap, ◌∙◌, arith, ⊎_elim, mod-lt, length-take}
+use Rattle.std.proofs.Common.{get_or-take, get_or-set_same, get_or-set_other}
+use Rattle.std.proofs.lemmas.{Bool.{cases_eq, cases_lt, false≢true, Decides.nat_tests}, List.{get_or_past, length-map}}
+use Rattle.std.proofs.lemmas.Nat.Bits.{same_from_bits_below}
 use Rattle.std.specs.{Prelude.{MatchOption, Option, None, Some, is_some}, Option.unwrap_or}
-use Rattle.bit_blocks.specs.{declared.block.merge.Merge.{Merge, TheVariants.{Difference, Union}}, Merges.{merge_of_values, merge_of}, Digits.is_one, BlockMerges.{apart_at, except_at, merge_at, other_at, AreKept, AreOthers, FindsDifference, HasMerged, Stay}, Storage.{value_at, values_of, IsPacked, IsZeroFrom, is_used}}
-use Rattle.bit_blocks.proofs.{CompareLemmas.zero_from_digits, Masks.is_one-zero, MergeLemmas.{get_or-merged, length-merged, merge_of_values-none}, StorageLemmas.{get_or-values_of, get_or-values_of_zero_tail, same_digit, length-values_of, value_at-is, value_at-past, values_of-same}, UseLemmas.same_block, VectorLemmas.numbers_below}
+use Rattle.bit_blocks.specs.declared.block.merge.Merge.{Merge, TheVariants.{Difference, Union}}
+use Rattle.bit_blocks.specs.{Merges.{merge_of_values, merge_of}, Digits.is_one}
+use Rattle.bit_blocks.specs.BlockMerges.{apart_at, except_at, merge_at, other_at, AreKept, AreOthers, FindsDifference}
+use Rattle.bit_blocks.specs.BlockMerges.{HasMerged, Stay}
+use Rattle.bit_blocks.specs.Storage.{value_at, values_of, IsPacked, IsZeroFrom, is_used}
+use Rattle.bit_blocks.proofs.{CompareLemmas.zero_from_digits, Masks.is_one-zero}
+use Rattle.bit_blocks.proofs.MergeLemmas.{get_or-merged, length-merged, merge_of_values-none}
+use Rattle.bit_blocks.proofs.StorageLemmas.{get_or-values_of, get_or-values_of_zero_tail, same_digit, length-values_of}
+use Rattle.bit_blocks.proofs.StorageLemmas.{value_at-is, value_at-past, values_of-same}
+use Rattle.bit_blocks.proofs.{UseLemmas.same_block, VectorLemmas.numbers_below}
 
 -- ---- the other digits
 
@@ -48,7 +61,8 @@ module _ {X : Type 0} (m : Merge) (w : ℕ) (f : X → ℕ) (P : X → Type 0) w
   }
 
   -- some more of them
-  pub merged_more : (a b c p q : ℕ) (other : ℕ → ℕ → Bool) (xs ys zs : List X) → a ≤ b → b ≤ c → p ≡ b → q ≡ c → HasMerged m w f P a b other xs ys → HasMerged m w f P p q other ys zs → HasMerged m w f P a c other xs zs
+  pub merged_more : (a b c p q : ℕ) (other : ℕ → ℕ → Bool) (xs ys zs : List X) → a ≤ b → b ≤ c → p ≡ b → q ≡ c
+      → HasMerged m w f P a b other xs ys → HasMerged m w f P p q other ys zs → HasMerged m w f P a c other xs zs
   merged_more a b c p q other xs ys zs le also from to one second =
       let two = rw (from, to) at second in
       record {
@@ -64,7 +78,9 @@ module _ {X : Type 0} (m : Merge) (w : ℕ) (f : X → ℕ) (P : X → Type 0) w
       }
 
   -- with the same other digits
-  pub merged_same : (start end : ℕ) (d e : ℕ → ℕ → Bool) (xs ys : List X) → ((k j : ℕ) → start ≤ k → k < end → j < w → d k j ≡ e k j) → HasMerged m w f P start end d xs ys → HasMerged m w f P start end e xs ys
+  pub merged_same : (start end : ℕ) (d e : ℕ → ℕ → Bool) (xs ys : List X)
+      → ((k j : ℕ) → start ≤ k → k < end → j < w → d k j ≡ e k j) → HasMerged m w f P start end d xs ys
+      → HasMerged m w f P start end e xs ys
   merged_same start end d e xs ys same is = record {
     digit = λ k j from below index. is.digit k j from below index ∙ ap (merge_of_values m (is_one (get_or (map f xs) k 0) j)) (same k j from below index);
     before = is.before;
@@ -78,7 +94,10 @@ module _ {X : Type 0} (m : Merge) (w : ℕ) (f : X → ℕ) (P : X → Type 0) w
   merged_at p q a b other xs ys from to is = rw (sym from, sym to) is
 
   -- one of them
-  pub merged_put : (k a b n : ℕ) (xs ys : List X) → k < length xs → map f ys ≡ set (map f xs) k n → All P ys → length ys ≡ length xs → a ≡ get_or (map f xs) k 0 → ((j : ℕ) → j < w → is_one n j ≡ merge_of_values m (is_one a j) (is_one b j)) → HasMerged m w f P k (k + 1) (λ q j. is_one b j) xs ys
+  pub merged_put : (k a b n : ℕ) (xs ys : List X) → k < length xs → map f ys ≡ set (map f xs) k n → All P ys
+      → length ys ≡ length xs → a ≡ get_or (map f xs) k 0
+      → ((j : ℕ) → j < w → is_one n j ≡ merge_of_values m (is_one a j) (is_one b j))
+      → HasMerged m w f P k (k + 1) (λ q j. is_one b j) xs ys
   merged_put k a b n xs ys within e each len read digits =
       let written : get_or (map f ys) k 0 ≡ n = ap (λ ns. get_or ns k 0) e ∙ get_or-set_same (map f xs) k n 0 (rw length-map within) in
       let others : (q : ℕ) → (q ≡ k → ⊥) → get_or (map f ys) q 0 ≡ get_or (map f xs) q 0 = λ q there. ap (λ ns. get_or ns q 0) e ∙ get_or-set_other (map f xs) k q n 0 there in
@@ -96,25 +115,28 @@ module _ {X : Type 0} (m : Merge) (w : ℕ) (f : X → ℕ) (P : X → Type 0) w
       }
 
   -- past the end of the others, a merge with them is one with none
-  pub merged_past_others : (start end : ℕ) (other : ℕ → ℕ → Bool) (xs ys : List X) → ((k j : ℕ) → start ≤ k → other k j ≡ false) → HasMerged m w f P start end (λ k j. false) xs ys → HasMerged m w f P start end other xs ys
+  pub merged_past_others : (start end : ℕ) (other : ℕ → ℕ → Bool) (xs ys : List X)
+      → ((k j : ℕ) → start ≤ k → other k j ≡ false) → HasMerged m w f P start end (λ k j. false) xs ys
+      → HasMerged m w f P start end other xs ys
   merged_past_others start end other xs ys past is = merged_same start end (λ k j. false) other xs ys (λ k j from below index. sym (past k j from)) is
 
-  -- the same of a list
-  pub merged_with_none : (start end : ℕ) (xs os ys : List X) → length os ≤ start → HasMerged m w f P start end (λ k j. false) xs ys → HasMerged m w f P start end (other_at (map f os)) xs ys
-  merged_with_none start end xs os ys short is =
-      merged_past_others start end (other_at (map f os)) xs ys (λ k j from. grind (arith, get_or_past (map f os) k 0, length-map, is_one-zero)) is
-
   -- the value at each index, once all of them are merged
-  pub merges_of_values : (xs os ys : List X) → 0 < w → length os ≤ length xs → HasMerged m w f P 0 (length xs) (other_at (map f os)) xs ys → (i : ℕ) → value_at w (map f ys) i ≡ merge_of_values m (value_at w (map f xs) i) (value_at w (map f os) i)
+  pub merges_of_values : (xs os ys : List X) → 0 < w → length os ≤ length xs
+      → HasMerged m w f P 0 (length xs) (other_at (map f os)) xs ys → (i : ℕ)
+      → value_at w (map f ys) i ≡ merge_of_values m (value_at w (map f xs) i) (value_at w (map f os) i)
   merges_of_values xs os ys pos short is i =
       grind (arith, value_at-is, value_at-past, is.digit (i / w) (i % w), mod-lt i pos, length-map, is.len, merge_of_values-none)
 
-  pub values_merged_except : (xs os ys : List X) (es : List ℕ) → 0 < w → length os ≤ length xs → HasMerged m w f P 0 (length xs) (except_at (map f os) es) xs ys → (i : ℕ) → value_at w (map f ys) i ≡ merge_of_values m (value_at w (map f xs) i) (value_at w (map f os) i && not (value_at w es i))
+  pub values_merged_except : (xs os ys : List X) (es : List ℕ) → 0 < w → length os ≤ length xs
+      → HasMerged m w f P 0 (length xs) (except_at (map f os) es) xs ys → (i : ℕ)
+      → value_at w (map f ys) i ≡ merge_of_values m (value_at w (map f xs) i) (value_at w (map f os) i && not (value_at w es i))
   values_merged_except xs os ys es pos short is i =
       grind (arith, value_at-is, value_at-past, is.digit (i / w) (i % w), mod-lt i pos, length-map, is.len, merge_of_values-none)
 
   -- the blocks hold a list of the same length
-  pub packed_merged : (xs os ys : List X) (es : List ℕ) (len short : ℕ) → 0 < w → length os ≤ length xs → short ≤ len → IsPacked w f P xs len → IsZeroFrom w (map f os) short → HasMerged m w f P 0 (length xs) (except_at (map f os) es) xs ys → IsPacked w f P ys len
+  pub packed_merged : (xs os ys : List X) (es : List ℕ) (len short : ℕ) → 0 < w → length os ≤ length xs → short ≤ len
+      → IsPacked w f P xs len → IsZeroFrom w (map f os) short
+      → HasMerged m w f P 0 (length xs) (except_at (map f os) es) xs ys → IsPacked w f P ys len
   packed_merged xs os ys es len short pos fewer shorter packed also is = record {
     each = is.each;
     count = is.len ∙ packed.count;
@@ -125,7 +147,9 @@ module _ {X : Type 0} (m : Merge) (w : ℕ) (f : X → ℕ) (P : X → Type 0) w
   }
 
 -- past the end of the others a union changes nothing
-pub merged_rest : {X : Type 0} (w : ℕ) (f : X → ℕ) (P : X → Type 0) (a b c : ℕ) (os es : List ℕ) (xs ys : List X) → b ≤ c → ((k : ℕ) → b ≤ k → k < c → length os ≤ k) → HasMerged Union w f P a b (except_at os es) xs ys → HasMerged Union w f P a c (except_at os es) xs ys
+pub merged_rest : {X : Type 0} (w : ℕ) (f : X → ℕ) (P : X → Type 0) (a b c : ℕ) (os es : List ℕ) (xs ys : List X) → b ≤ c
+    → ((k : ℕ) → b ≤ k → k < c → length os ≤ k) → HasMerged Union w f P a b (except_at os es) xs ys
+    → HasMerged Union w f P a c (except_at os es) xs ys
 merged_rest w f P a b c os es xs ys le past is = record {
   digit = λ k j from below index.
       ⊎_elim
@@ -306,7 +330,8 @@ module _ {X : Type 0} (m : Merge) (w : ℕ) (f : X → ℕ) where
 
 module _ {X : Type 0} (m : Merge) (w : ℕ) (f : X → ℕ) (P : X → Type 0) where
   -- the blocks after some that stay are merged, and so all are
-  pub merged_past_stay : (start end : ℕ) (other : ℕ → ℕ → Bool) (xs ys : List X) → start ≤ end → Stay m w f 0 start other xs → HasMerged m w f P start end other xs ys → HasMerged m w f P 0 end other xs ys
+  pub merged_past_stay : (start end : ℕ) (other : ℕ → ℕ → Bool) (xs ys : List X) → start ≤ end → Stay m w f 0 start other xs
+      → HasMerged m w f P start end other xs ys → HasMerged m w f P 0 end other xs ys
   merged_past_stay start end other xs ys le stay is = record {
     digit = λ k j from below index.
         ⊎_elim
@@ -330,7 +355,11 @@ stay_past_others w f b c os es xs past = record {
 -- ---- lists
 
 -- the list that the blocks hold then
-pub lists_merged_except : (m : Merge) (w : ℕ) (ms os es ns : List ℕ) (len short third : ℕ) → short ≤ len → IsZeroFrom w ms len → IsZeroFrom w os short → IsZeroFrom w es third → ((i : ℕ) → value_at w ns i ≡ merge_of_values m (value_at w ms i) (value_at w os i && not (value_at w es i))) → values_of w ns len ≡ merge_of m (values_of w ms len) (merge_of Difference (values_of w os short) (take (length (values_of w os short)) (values_of w es third)))
+pub lists_merged_except : (m : Merge) (w : ℕ) (ms os es ns : List ℕ) (len short third : ℕ) → short ≤ len
+    → IsZeroFrom w ms len → IsZeroFrom w os short → IsZeroFrom w es third
+    → ((i : ℕ) → value_at w ns i ≡ merge_of_values m (value_at w ms i) (value_at w os i && not (value_at w es i)))
+    → values_of w ns len ≡ merge_of m (values_of w ms len)
+    (merge_of Difference (values_of w os short) (take (length (values_of w os short)) (values_of w es third)))
 lists_merged_except m w ms os es ns len short third shorter zero_tail also more each =
     let xs = values_of w ms len in
     let ys = values_of w os short in
@@ -349,7 +378,8 @@ lists_merged_except m w ms os es ns len short third shorter zero_tail also more 
     ∙ ap (λ n. merge_of m xs (merge_of Difference ys (take n (values_of w es third)))) (sym (length-values_of w os short))
 
 -- it stays just where the blocks do
-pub kept_lists : (w : ℕ) (ms ns : List ℕ) (len : ℕ) → ((k : ℕ) → get_or ms k 0 < 2 ^ w) → ((k : ℕ) → get_or ns k 0 < 2 ^ w) → IsZeroFrom w ms len → IsZeroFrom w ns len → AreKept ms ns ↔ (values_of w ns len ≡ values_of w ms len)
+pub kept_lists : (w : ℕ) (ms ns : List ℕ) (len : ℕ) → ((k : ℕ) → get_or ms k 0 < 2 ^ w) → ((k : ℕ) → get_or ns k 0 < 2 ^ w)
+    → IsZeroFrom w ms len → IsZeroFrom w ns len → AreKept ms ns ↔ (values_of w ns len ≡ values_of w ms len)
 kept_lists w ms ns len small also zero_tail more = (
   λ kept. values_of-same w ns len (values_of w ms len) (length-values_of w ms len) (λ i below.
       value_at-is w ns i ∙ ap (λ n. is_one n (i % w)) (kept (i / w)) ∙ sym (value_at-is w ms i) ∙ sym (get_or-values_of w ms len i false below)),
@@ -360,7 +390,9 @@ kept_lists w ms ns len small also zero_tail more = (
 -- ---- the summary of a union
 
 -- whether a block is not 0 stays as it was where the others have nothing, or it was not 0 before
-used_kept : (w m o e n : ℕ) → m < 2 ^ w → n < 2 ^ w → ((j : ℕ) → j < w → is_one n j ≡ (is_one m j || (is_one o j && not (is_one e j)))) → (not (o == 0) ≡ true → not (m == 0) ≡ true) → not (n == 0) ≡ not (m == 0)
+used_kept : (w m o e n : ℕ) → m < 2 ^ w → n < 2 ^ w
+    → ((j : ℕ) → j < w → is_one n j ≡ (is_one m j || (is_one o j && not (is_one e j))))
+    → (not (o == 0) ≡ true → not (m == 0) ≡ true) → not (n == 0) ≡ not (m == 0)
 used_kept w m o e n small also digits kept =
     ⊎_elim
     (λ zero.
@@ -372,9 +404,13 @@ used_kept w m o e n small also digits kept =
     grind (arith, still))
     (cases_eq m 0)
 
-pub used_of_union : {X : Type 0} (w : ℕ) (f : X → ℕ) (P : X → Type 0) (end : ℕ) (os es : List ℕ) (xs ys : List X) → ((x : X) → P x → f x < 2 ^ w) → All P xs → HasMerged Union w f P 0 end (except_at os es) xs ys → (k : ℕ) → (is_used os k ≡ true → is_used (map f xs) k ≡ true) → is_used (map f ys) k ≡ is_used (map f xs) k
+pub used_of_union : {X : Type 0} (w : ℕ) (f : X → ℕ) (P : X → Type 0) (end : ℕ) (os es : List ℕ) (xs ys : List X)
+    → ((x : X) → P x → f x < 2 ^ w) → All P xs → HasMerged Union w f P 0 end (except_at os es) xs ys → (k : ℕ)
+    → (is_used os k ≡ true → is_used (map f xs) k ≡ true) → is_used (map f ys) k ≡ is_used (map f xs) k
 used_of_union w f P end os es xs ys below each is k kept =
     ⊎_elim
-    (λ inside. used_kept w (get_or (map f xs) k 0) (get_or os k 0) (get_or es k 0) (get_or (map f ys) k 0) (numbers_below w f P xs below each k) (numbers_below w f P ys below is.each k) (λ j index. is.digit k j (omega arith) inside index) kept)
+    (λ inside. used_kept w (get_or (map f xs) k 0) (get_or os k 0) (get_or es k 0) (get_or (map f ys) k 0)
+    (numbers_below w f P xs below each k) (numbers_below w f P ys below is.each k)
+    (λ j index. is.digit k j (omega arith) inside index) kept)
     (λ past. ap (λ n. not (n == 0)) (is.after k past))
     (cases_lt k end)

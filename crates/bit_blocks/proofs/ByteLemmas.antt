@@ -1,9 +1,20 @@
 -- The values of bytes: a byte turned round, one moved into its place in a block, and the list of all.
-use Rattle.std.proofs.Common.{Bool, ◌≡◌, ℕ, zero, suc, ◌+◌, ◌-◌, ◌*◌, ◌/◌, ◌%◌, ◌^◌, ◌<◌, ◌≤◌, false, ◌&&◌, ◌||◌, ◌==◌, nat_lt, List, [], ◌∷◌, ◌++◌, length, get_or, refl, sym, ap, ap₂, ◌∙◌, arith, mod-lt, div-add-mod', div-mul-le_self, mul-le-mul_right, w8, min, slice_range, get_or-take, get_or-drop, length-take, length-append, replicate, ⊎_elim}
-use Rattle.std.{proofs.lemmas.{Nat.Bits.{bit_at-suc, bit_at_lowest, bit_at_above}, List.{ext_get_or, get_or_past, get_or_append_left, get_or-append_right, get_or-replicate, length-replicate, FromFn.get_or-map-range_with_len}, Bool.{cases_lt, Decides.nat_tests}}, specs.Int.bit_at}
+use Rattle.std.proofs.Common.{Bool, ◌≡◌, ℕ, zero, suc, ◌+◌, ◌-◌, ◌*◌, ◌/◌, ◌%◌, ◌^◌, ◌<◌, ◌≤◌, false, ◌&&◌, ◌||◌, ◌==◌}
+use Rattle.std.proofs.Common.{nat_lt, List, [], ◌∷◌, ◌++◌, length, get_or, refl, sym, ap, ap₂, ◌∙◌, arith, mod-lt}
+use Rattle.std.proofs.Common.{div-add-mod', div-mul-le_self, mul-le-mul_right, w8, min, slice_range, get_or-take}
+use Rattle.std.proofs.Common.{get_or-drop, length-take, length-append, replicate, ⊎_elim}
+use Rattle.std.proofs.lemmas.Nat.Bits.{bit_at-suc, bit_at_lowest, bit_at_above}
+use Rattle.std.proofs.lemmas.List.{ext_get_or, get_or_past, get_or_append_left, get_or-append_right, get_or-replicate}
+use Rattle.std.proofs.lemmas.List.{length-replicate, FromFn.get_or-map-range_with_len}
+use Rattle.std.proofs.lemmas.Bool.{cases_lt, Decides.nat_tests}
+use Rattle.std.specs.Int.{bit_at}
 use Rattle.std.specs.{Int.{reverse_bits, reverse_bits_onto}, Prelude.{IfOk, Result, Ok, Err}}
-use Rattle.bit_blocks.{specs.{Bits.{Bits, blocks_for, values_of_byte, values_of_bytes}, Digits.{IsWidth, IsEither, IsShiftedLeft, IsShiftedRight, is_one}, Bytes.{byte_value, placed_value}, Storage.{value_at, values_of, IsZeroFrom}}, proofs.BitsLemmas.{blocks_for-enough, blocks_for-least}}
-use Rattle.bit_blocks.proofs.{BitsLemmas.blocks_for-below, StorageLemmas.{value_at-index, value_at-is, value_at-past}, Masks.{is_one-either, is_one-zero}, CompareLemmas.value_in_view, VectorLemmas.length_from_view}
+use Rattle.bit_blocks.specs.Bits.{Bits, blocks_for, values_of_byte, values_of_bytes}
+use Rattle.bit_blocks.specs.Digits.{IsWidth, IsEither, IsShiftedLeft, IsShiftedRight, is_one}
+use Rattle.bit_blocks.specs.{Bytes.{byte_value, placed_value}, Storage.{value_at, values_of, IsZeroFrom}}
+use Rattle.bit_blocks.proofs.BitsLemmas.{blocks_for-enough, blocks_for-least}
+use Rattle.bit_blocks.proofs.{BitsLemmas.blocks_for-below, StorageLemmas.{value_at-index, value_at-is, value_at-past}}
+use Rattle.bit_blocks.proofs.{Masks.{is_one-either, is_one-zero}, CompareLemmas.value_in_view, VectorLemmas.length_from_view}
 
 -- ---- a byte turned round
 
@@ -51,17 +62,23 @@ placed-lowest bytes i = placed-is (λ j. j) bytes i _ _ refl refl ∙ sym (value
 moved_from : (w n d r j : ℕ) → IsShiftedLeft w n d r → d ≤ j → j < w → is_one r j ≡ is_one n (j - d)
 moved_from w n d r j is h k = grind (arith, is.moved (j - d))
 
-byte_step : (j p : ℕ) (q m n v : Bool) → q ≡ (m || n) → m ≡ (nat_lt j (8 * p) && v) → (j < 8 * p → n ≡ false) → (8 * p ≤ j → j < 8 * (p + 1) → n ≡ v) → (8 * (p + 1) ≤ j → n ≡ false) → q ≡ (nat_lt j (8 * (p + 1)) && v)
+byte_step : (j p : ℕ) (q m n v : Bool) → q ≡ (m || n) → m ≡ (nat_lt j (8 * p) && v) → (j < 8 * p → n ≡ false)
+    → (8 * p ≤ j → j < 8 * (p + 1) → n ≡ v) → (8 * (p + 1) ≤ j → n ≡ false) → q ≡ (nat_lt j (8 * (p + 1)) && v)
 byte_step j p q m n v or old below inside past = grind (arith, nat_tests)
 
-pub byte_added : (w m n d r q p : ℕ) (place : ℕ → ℕ) (bytes : List ℕ) → ((j : ℕ) → j < w → is_one m j ≡ (nat_lt j (8 * p) && placed_value place bytes j)) → ((i : ℕ) → i < 8 → is_one n i ≡ is_one (get_or bytes p 0) (place i)) → n < 2 ^ 8 → d ≡ 8 * p → IsShiftedLeft w n d r → IsEither w m r q → (j : ℕ) → j < w → is_one q j ≡ (nat_lt j (8 * (p + 1)) && placed_value place bytes j)
+pub byte_added : (w m n d r q p : ℕ) (place : ℕ → ℕ) (bytes : List ℕ)
+    → ((j : ℕ) → j < w → is_one m j ≡ (nat_lt j (8 * p) && placed_value place bytes j))
+    → ((i : ℕ) → i < 8 → is_one n i ≡ is_one (get_or bytes p 0) (place i)) → n < 2 ^ 8 → d ≡ 8 * p → IsShiftedLeft w n d r
+    → IsEither w m r q → (j : ℕ) → j < w → is_one q j ≡ (nat_lt j (8 * (p + 1)) && placed_value place bytes j)
 byte_added w m n d r q p place bytes old ordered small index moved either j within =
     byte_step j p _ _ _ _ (is_one-either w m r q j either within) (old j within) (λ before. ap (λ x. x == 1) (moved.zeros j (omega arith)))
     (λ from inside. moved_from w n d r j moved (omega arith) within ∙ ordered (j - d) (omega arith)
     ∙ sym (placed-is place bytes j p (j - d) (omega arith) (omega arith)))
     (λ past. moved_from w n d r j moved (omega arith) within ∙ ap (λ x. x == 1) (bit_at_above n 8 (j - d) small (omega arith)))
 
-pub bytes_ended : (w m n : ℕ) (place : ℕ → ℕ) (bytes : List ℕ) → length bytes ≤ n → ((j : ℕ) → j < w → is_one m j ≡ (nat_lt j (8 * n) && placed_value place bytes j)) → (j : ℕ) → j < w → is_one m j ≡ placed_value place bytes j
+pub bytes_ended : (w m n : ℕ) (place : ℕ → ℕ) (bytes : List ℕ) → length bytes ≤ n
+    → ((j : ℕ) → j < w → is_one m j ≡ (nat_lt j (8 * n) && placed_value place bytes j)) → (j : ℕ) → j < w
+    → is_one m j ≡ placed_value place bytes j
 bytes_ended w m n place bytes h digits j within = grind (arith, nat_tests, digits j within, placed-past place bytes j)
 
 -- ---- the bytes of one block: w is the width, s bytes, and there are n bytes in all
@@ -78,7 +95,9 @@ first_byte_below w b k n width e h =
 part_at : (bytes : List ℕ) (a b s q : ℕ) → b ≡ min (a + s) (length bytes) → a < length bytes → q < s → get_or (slice_range bytes a b) q 0 ≡ get_or bytes (a + q) 0
 part_at bytes a b s q be below h = grind (arith, get_or-take, get_or-drop, get_or_past, length-take)
 
-pub part-values : (w s k : ℕ) (place : ℕ → ℕ) (bytes : List ℕ) (a b : ℕ) → w ≡ 8 * s → a ≡ k * s → b ≡ min (a + s) (length bytes) → a < length bytes → (j : ℕ) → j < w → placed_value place (slice_range bytes a b) j ≡ placed_value place bytes (k * w + j)
+pub part-values : (w s k : ℕ) (place : ℕ → ℕ) (bytes : List ℕ) (a b : ℕ) → w ≡ 8 * s → a ≡ k * s
+    → b ≡ min (a + s) (length bytes) → a < length bytes → (j : ℕ) → j < w
+    → placed_value place (slice_range bytes a b) j ≡ placed_value place bytes (k * w + j)
 part-values w s k place bytes a b e ae be below j within =
     let first : k * w ≡ 8 * a = rw (e, ae) (omega arith) in
     placed-is place (slice_range bytes a b) j (j / 8) (j % 8) refl refl
@@ -110,8 +129,12 @@ get_or-values_of_bytes (byte ∷ bytes) i =
 
 -- ---- the blocks
 
-pub blocks-placed : (w : ℕ) (ms : List ℕ) (place : ℕ → ℕ) (bytes : List ℕ) → 0 < w → length ms ≡ blocks_for w (8 * length bytes) → ((q j : ℕ) → q < length ms → j < w → is_one (get_or ms q 0) j ≡ placed_value place bytes (q * w + j)) → (i : ℕ) → value_at w ms i ≡ placed_value place bytes i
-blocks-placed w ms place bytes pos count digits i = grind (arith, value_at-is, value_at-past, digits (i / w) (i % w), mod-lt i pos, div-add-mod' i w, placed-past place bytes i, blocks_for-below w (8 * length bytes) i pos)
+pub blocks-placed : (w : ℕ) (ms : List ℕ) (place : ℕ → ℕ) (bytes : List ℕ) → 0 < w
+    → length ms ≡ blocks_for w (8 * length bytes)
+    → ((q j : ℕ) → q < length ms → j < w → is_one (get_or ms q 0) j ≡ placed_value place bytes (q * w + j)) → (i : ℕ)
+    → value_at w ms i ≡ placed_value place bytes i
+blocks-placed w ms place bytes pos count digits i =
+    grind (arith, value_at-is, value_at-past, digits (i / w) (i % w), mod-lt i pos, div-add-mod' i w, placed-past place bytes i, blocks_for-below w (8 * length bytes) i pos)
 
 -- ---- the bytes of a list
 
@@ -167,10 +190,13 @@ bytes_more w b k n c m ms bs ns place width wide few first read kept here before
     (cases_lt q n)
 
 -- all of them
-pub bytes_values : (w len : ℕ) (ms bs : List ℕ) → length bs ≡ blocks_for 8 len → IsZeroFrom w ms len → ((k j : ℕ) → k < length bs → j < 8 → is_one (get_or bs k 0) (7 - j) ≡ value_at w ms (8 * k + j)) → (i : ℕ) → byte_value bs i ≡ value_at w ms i
+pub bytes_values : (w len : ℕ) (ms bs : List ℕ) → length bs ≡ blocks_for 8 len → IsZeroFrom w ms len
+    → ((k j : ℕ) → k < length bs → j < 8 → is_one (get_or bs k 0) (7 - j) ≡ value_at w ms (8 * k + j)) → (i : ℕ)
+    → byte_value bs i ≡ value_at w ms i
 bytes_values w len ms bs long tail digits i =
     ⊎_elim
-    (λ (within : i / 8 < length bs). byte_value-is bs i (i / 8) (i % 8) refl refl ∙ digits (i / 8) (i % 8) within (omega arith) ∙ ap (value_at w ms) (let e : 8 * (i / 8) + i % 8 ≡ i = omega arith in e))
+    (λ (within : i / 8 < length bs). byte_value-is bs i (i / 8) (i % 8) refl refl
+    ∙ digits (i / 8) (i % 8) within (omega arith) ∙ ap (value_at w ms) (let e : 8 * (i / 8) + i % 8 ≡ i = omega arith in e))
     (λ (past : length bs ≤ i / 8). byte_value-past bs i (omega (arith, past)) ∙ sym (tail.zero_tail i (omega (arith, past, long, blocks_for-enough 8 len (omega arith)))))
     (cases_lt (i / 8) (length bs))
 
@@ -189,7 +215,10 @@ bytes_values_lsb w len ms bs long tail digits i =
     (cases_lt (i / 8) (length bs))
 
 -- the list that they spell goes on with false values up to a whole byte
-pub values_of_bytes_are : (w len r : ℕ) (ms bs : List ℕ) (v : Bits) → record { values = values_of w ms len; capacity = r } ≡ v → IsZeroFrom w ms len → length bs ≡ blocks_for 8 len → ((i : ℕ) → byte_value bs i ≡ value_at w ms i) → values_of_bytes bs ≡ v.values ++ replicate (8 * length bs - length v.values) false
+pub values_of_bytes_are : (w len r : ℕ) (ms bs : List ℕ) (v : Bits)
+    → record { values = values_of w ms len; capacity = r } ≡ v → IsZeroFrom w ms len → length bs ≡ blocks_for 8 len
+    → ((i : ℕ) → byte_value bs i ≡ value_at w ms i)
+    → values_of_bytes bs ≡ v.values ++ replicate (8 * length bs - length v.values) false
 values_of_bytes_are w len r ms bs v e tail long same =
     let more : ℕ = 8 * length bs - length v.values in
     let enough = blocks_for-enough 8 len (omega arith) in

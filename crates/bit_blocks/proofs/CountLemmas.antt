@@ -1,5 +1,7 @@
 -- How many ones blocks have, by a summary of them.
-use Rattle.std.proofs.{Common.{◌≡◌, ℕ, zero, suc, ◌+◌, ◌*◌, ◌<◌, Bool, List, [], ◌∷◌, map, take, drop, get_or, get_or-take, get_or-drop, length, length-take, count_ones, refl, sym, ap, ◌∙◌, ⊎_elim, arith}, lemmas.Bool.cases_lt}
+use Rattle.std.proofs.Common.{◌≡◌, ℕ, zero, suc, ◌+◌, ◌*◌, ◌<◌, Bool, List, [], ◌∷◌, map, take, drop, get_or, get_or-take}
+use Rattle.std.proofs.Common.{get_or-drop, length, length-take, count_ones, refl, sym, ap, ◌∙◌, ⊎_elim, arith}
+use Rattle.std.proofs.lemmas.Bool.{cases_lt}
 use Rattle.std.{proofs.{lemmas.{Bool.Decides.nat_tests, List.{take-map, drop-map, get_or_past, length-map, Sums.{sum_by-append, sum_by-cons}}}, Math.Seq.take-add}, specs.List.{sum_by, count_by}}
 use Rattle.bit_blocks.{specs.{Storage.{value_at, ones_in, is_used}, Bits.blocks_of}, proofs.{LowestLemmas.ones_zero, OnesLemmas.blocks_ones, Masks.is_one-zero, StorageLemmas.value_at-index}}
 
@@ -14,13 +16,16 @@ module _ {X : Type 0} (number : X → ℕ) where
   ones_in-none (x ∷ xs) zeros = grind (arith, ones_in-none xs (λ j. zeros (suc j)), zeros 0, ones_zero, sum_by-cons (λ y. count_ones (number y)) x xs)
 
   -- some slices of blocks more
-  pub chunks_counted : (w i n ones : ℕ) (xs back front : List X) → ones ≡ ones_in number (take (i * w) xs) → front ≡ take (n * w) back → back ≡ drop (i * w) xs → ones + ones_in number front ≡ ones_in number (take ((i + n) * w) xs)
+  pub chunks_counted : (w i n ones : ℕ) (xs back front : List X) → ones ≡ ones_in number (take (i * w) xs)
+      → front ≡ take (n * w) back → back ≡ drop (i * w) xs → ones + ones_in number front ≡ ones_in number (take ((i + n) * w) xs)
   chunks_counted w i n ones xs back front counted is from =
       let e : i * w + n * w ≡ (i + n) * w = omega arith in
       grind (arith, ones_in-more (i * w) (n * w) xs)
 
   -- a slice of blocks of which the summary has no bit
-  pub chunk_none : (w i : ℕ) (xs summary : List X) → ((k : ℕ) → k < length xs → value_at w (map number summary) k ≡ is_used (map number xs) k) → get_or (map number summary) i 0 ≡ 0 → ones_in number (take w (drop (i * w) xs)) ≡ 0
+  pub chunk_none : (w i : ℕ) (xs summary : List X)
+      → ((k : ℕ) → k < length xs → value_at w (map number summary) k ≡ is_used (map number xs) k)
+      → get_or (map number summary) i 0 ≡ 0 → ones_in number (take w (drop (i * w) xs)) ≡ 0
   chunk_none w i xs summary digit none = ones_in-none (take w (drop (i * w) xs)) (λ j.
       rw (sym (take-map number w (drop (i * w) xs)), sym (drop-map number (i * w) xs))
       (⊎_elim
@@ -29,7 +34,9 @@ module _ {X : Type 0} (number : X → ℕ) where
       (cases_lt j w)))
 
   -- slices of blocks of which the summary has no bit
-  pub chunks_none : (w i n : ℕ) (xs summary : List X) → ((k : ℕ) → k < length xs → value_at w (map number summary) k ≡ is_used (map number xs) k) → ((j : ℕ) → j < n → get_or (map number summary) (i + j) 0 ≡ 0)
+  pub chunks_none : (w i n : ℕ) (xs summary : List X)
+      → ((k : ℕ) → k < length xs → value_at w (map number summary) k ≡ is_used (map number xs) k)
+      → ((j : ℕ) → j < n → get_or (map number summary) (i + j) 0 ≡ 0)
       → ones_in number (take (i * w) xs) ≡ ones_in number (take ((i + n) * w) xs)
   chunks_none w i zero xs summary digit none = ap (λ m. ones_in number (take (m * w) xs)) (let e : i ≡ i + 0 = omega arith in e)
   chunks_none w i (suc n) xs summary digit none =

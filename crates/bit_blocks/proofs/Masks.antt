@@ -1,5 +1,7 @@
 -- A digit of a block that an operator gives, as a test. `masks.rt` names the set.
-use Rattle.std.proofs.{Common.{◌≡◌, ◌≢◌, ℕ, ◌-◌, ◌^◌, ◌<◌, true, false, not, ◌&&◌, ◌||◌, ◌==◌, nat_lt, nat_le, refl, ap, ◌∙◌, arith}, lemmas.{Bool.Decides.nat_tests, Nat.Bits.{bit_at-lt, bit_at-zero, bit_at-pow_same}}}
+use Rattle.std.proofs.Common.{◌≡◌, ◌≢◌, ℕ, ◌-◌, ◌^◌, ◌<◌, true, false, not, ◌&&◌, ◌||◌, ◌==◌, nat_lt, nat_le, refl, ap, ◌∙◌}
+use Rattle.std.proofs.Common.{arith}
+use Rattle.std.proofs.lemmas.{Bool.Decides.nat_tests, Nat.Bits.{bit_at-lt, bit_at-zero, bit_at-pow_same}}
 use Rattle.std.{proofs.lemmas.Nat.Bits.{bit_at-pow_other, bit_at_ones, bit_at_ones_above}, specs.Int.bit_at}
 use Rattle.bit_blocks.specs.Digits.{IsBoth, IsEither, IsDifferent, IsComplement, is_one}
 

@@ -23,10 +23,14 @@ get_or-merged m [] (y ∷ ys) (suc i) = get_or-merged m [] ys i
 get_or-merged m (x ∷ xs) (y ∷ ys) zero = refl
 get_or-merged m (x ∷ xs) (y ∷ ys) (suc i) = get_or-merged m xs ys i
 
-pub merged_lists : (m : Merge) (w : ℕ) (ms os ns : List ℕ) (len short : ℕ) → short ≤ len → IsZeroFrom w ms len → IsZeroFrom w os short → ((i : ℕ) → value_at w ns i ≡ merge_of_values m (value_at w ms i) (value_at w os i)) → values_of w ns len ≡ merge_of m (values_of w ms len) (values_of w os short)
+pub merged_lists : (m : Merge) (w : ℕ) (ms os ns : List ℕ) (len short : ℕ) → short ≤ len → IsZeroFrom w ms len
+    → IsZeroFrom w os short → ((i : ℕ) → value_at w ns i ≡ merge_of_values m (value_at w ms i) (value_at w os i))
+    → values_of w ns len ≡ merge_of m (values_of w ms len) (values_of w os short)
 merged_lists m w ms os ns len short shorter zero_tail also each =
     values_of-same w ns len _ (omega (arith, length-merged m (values_of w ms len) (values_of w os short), length-values_of w ms len, length-values_of w os short)) (λ i below.
     grind (arith, each i, get_or-values_of_zero_tail w ms len i, get_or-values_of_zero_tail w os short i, get_or-merged m (values_of w ms len) (values_of w os short) i))
 
-pub merged_zero_tail : (m : Merge) (w : ℕ) (ms os ns : List ℕ) (len short : ℕ) → short ≤ len → IsZeroFrom w ms len → IsZeroFrom w os short → ((i : ℕ) → value_at w ns i ≡ merge_of_values m (value_at w ms i) (value_at w os i)) → IsZeroFrom w ns len
+pub merged_zero_tail : (m : Merge) (w : ℕ) (ms os ns : List ℕ) (len short : ℕ) → short ≤ len → IsZeroFrom w ms len
+    → IsZeroFrom w os short → ((i : ℕ) → value_at w ns i ≡ merge_of_values m (value_at w ms i) (value_at w os i))
+    → IsZeroFrom w ns len
 merged_zero_tail m w ms os ns len short shorter zero_tail also each = grind (arith, each, zero_tail, also, merge_of_values-none)

@@ -1,5 +1,6 @@
 -- Where blocks differ, by their digits.
-use Rattle.std.proofs.{Common.{◌≡◌, ◌≢◌, ℕ, ◌+◌, ◌-◌, ◌^◌, ◌<◌, ◌≤◌, ◌↔◌, Bool, true, false, not, eqb, refl, sym, ◌∙◌, arith}, lemmas.Nat.{Bits.{bit_at-lt, bit_at-zero, bit_at_above, same_from_bits_below}, pow_pos}}
+use Rattle.std.proofs.Common.{◌≡◌, ◌≢◌, ℕ, ◌+◌, ◌-◌, ◌^◌, ◌<◌, ◌≤◌, ◌↔◌, Bool, true, false, not, eqb, refl, sym, ◌∙◌, arith}
+use Rattle.std.proofs.lemmas.Nat.{Bits.{bit_at-lt, bit_at-zero, bit_at_above, same_from_bits_below}, pow_pos}
 use Rattle.std.specs.{Bool.{OnTrue, OnFalse}, Int.bit_at}
 use borrow.Author.Tests.{eqb-true, eqb-false}
 use Rattle.bit_blocks.{specs.{Digits.{IsEither, IsDifferent, IsShiftedRight}, Lowest.IsLowest, Mismatches.IsLowestMismatch}, proofs.LowestLemmas.lowest_found}

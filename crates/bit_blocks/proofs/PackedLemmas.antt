@@ -1,8 +1,16 @@
 -- What appending, keeping and filling whole blocks does to the value at every index.
-use Rattle.std.proofs.Common.{◌≡◌, ℕ, ◌+◌, ◌-◌, ◌/◌, ◌%◌, ◌^◌, ◌<◌, ◌≤◌, Bool, false, ◌&&◌, ◌||◌, nat_lt, nat_le, List, [], ◌∷◌, ◌++◌, map, length, get_or, take, replicate, refl, ap, ◌∙◌, arith, append_assoc, mod-lt, get_or-take, set, ◌≢◌, get_or-set_same, get_or-set_other, ⊎_elim}
-use Rattle.std.proofs.lemmas.{Bool.{cases_lt, Decides.nat_tests}, List.{get_or_append_left, get_or-append_right, get_or_past, get_or-replicate, length-replicate, length-append, map-append, take_more}, Grind.replicate_next}
+use Rattle.std.proofs.Common.{◌≡◌, ℕ, ◌+◌, ◌-◌, ◌/◌, ◌%◌, ◌^◌, ◌<◌, ◌≤◌, Bool, false, ◌&&◌, ◌||◌, nat_lt, nat_le, List, []}
+use Rattle.std.proofs.Common.{◌∷◌, ◌++◌, map, length, get_or, take, replicate, refl, ap, ◌∙◌, arith, append_assoc, mod-lt}
+use Rattle.std.proofs.Common.{get_or-take, set, ◌≢◌, get_or-set_same, get_or-set_other, ⊎_elim}
+use Rattle.std.proofs.lemmas.Bool.{cases_lt, Decides.nat_tests}
+use Rattle.std.proofs.lemmas.List.{get_or_append_left, get_or-append_right, get_or_past, get_or-replicate, length-replicate}
+use Rattle.std.proofs.lemmas.List.{length-append, map-append, take_more}
+use Rattle.std.proofs.lemmas.Grind.{replicate_next}
 use Rattle.std.specs.Global.{Vec}
-use Rattle.bit_blocks.{specs.{Bits.blocks_for, Storage.{value_at, FillsFirst, IsPacked, IsZeroFrom, WritesInPlace, WritesValue}}, proofs.{Masks.{is_one-ones, is_one-zero}, BitsLemmas.blocks_for-above, StorageLemmas.{value_at-is, value_at-past}}}
+use Rattle.bit_blocks.specs.Bits.{blocks_for}
+use Rattle.bit_blocks.specs.Storage.{value_at, FillsFirst, IsPacked, IsZeroFrom, WritesInPlace, WritesValue}
+use Rattle.bit_blocks.proofs.{Masks.{is_one-ones, is_one-zero}, BitsLemmas.blocks_for-above}
+use Rattle.bit_blocks.proofs.StorageLemmas.{value_at-is, value_at-past}
 use Rattle.bit_blocks.proofs.ChangeLemmas.{div_lt, nat_lt-indexes}
 
 -- ---- whole blocks
@@ -17,7 +25,8 @@ pub map-pushed : {X : Type 0} (f : X → ℕ) (xs ys : List X) (x : X) → ys �
 map-pushed f xs ys x e = ap (map f) e ∙ map-append f xs (x ∷ [])
 
 -- one copy more, after k - len of them
-pub copy_pushed : {X : Type 0} (f : X → ℕ) (xs ys zs : List X) (len k : ℕ) (x : X) → len ≤ k → map f ys ≡ map f xs ++ replicate (k - len) (f x) → zs ≡ ys ++ x ∷ [] → map f zs ≡ map f xs ++ replicate (k + 1 - len) (f x)
+pub copy_pushed : {X : Type 0} (f : X → ℕ) (xs ys zs : List X) (len k : ℕ) (x : X) → len ≤ k
+    → map f ys ≡ map f xs ++ replicate (k - len) (f x) → zs ≡ ys ++ x ∷ [] → map f zs ≡ map f xs ++ replicate (k + 1 - len) (f x)
 copy_pushed f xs ys zs len k x h before e = grind (arith, map-pushed f ys zs x e, before, append_assoc, replicate_next)
 
 -- one block more of those of another list, after i of them
@@ -27,7 +36,9 @@ block_pushed old more xs ys i x within is before pushed = grind (arith, pushed, 
 -- ---- blocks of ones up to a length
 
 -- the whole blocks are ones, the block at which the values end has those below its place, and there are zeros past it
-ones_up_to : (w : ℕ) (rs : List ℕ) (len i : ℕ) → 0 < w → (i / w < len / w → get_or rs (i / w) 0 ≡ 2 ^ w - 1) → (i / w ≡ len / w → get_or rs (i / w) 0 ≡ 2 ^ (len % w) - 1) → (len / w < i / w → get_or rs (i / w) 0 ≡ 0) → value_at w rs i ≡ nat_lt i len
+ones_up_to : (w : ℕ) (rs : List ℕ) (len i : ℕ) → 0 < w → (i / w < len / w → get_or rs (i / w) 0 ≡ 2 ^ w - 1)
+    → (i / w ≡ len / w → get_or rs (i / w) 0 ≡ 2 ^ (len % w) - 1) → (len / w < i / w → get_or rs (i / w) 0 ≡ 0)
+    → value_at w rs i ≡ nat_lt i len
 ones_up_to w rs len i pos whole cut past =
     let ones = is_one-ones (2 ^ w - 1) w (i % w) refl in
     let cut_ones = is_one-ones (2 ^ (len % w) - 1) (len % w) (i % w) refl in
@@ -44,12 +55,15 @@ pushed_block ms rs count n q e past within = grind (arith, e, get_or-append_righ
 length-pushed : (ms rs : List ℕ) (count n : ℕ) → rs ≡ ms ++ replicate count n → length rs ≡ length ms + count
 length-pushed ms rs count n e = rw (e, length-append, length-replicate) refl
 
-pub whole_pushed : (w : ℕ) (ms rs : List ℕ) (len count n i : ℕ) → 0 < w → len % w ≡ 0 → length ms + count ≡ len / w → n ≡ 2 ^ w - 1 → rs ≡ ms ++ replicate count n → length ms ≤ i / w → value_at w rs i ≡ nat_lt i len
+pub whole_pushed : (w : ℕ) (ms rs : List ℕ) (len count n i : ℕ) → 0 < w → len % w ≡ 0 → length ms + count ≡ len / w
+    → n ≡ 2 ^ w - 1 → rs ≡ ms ++ replicate count n → length ms ≤ i / w → value_at w rs i ≡ nat_lt i len
 whole_pushed w ms rs len count n i pos z total ones e past =
     ones_up_to w rs len i pos (λ before. grind (arith, pushed_block ms rs count n (i / w) e past))
     (λ here. grind (arith, get_or_past, length-pushed ms rs count n e)) (λ beyond. grind (arith, get_or_past, length-pushed ms rs count n e))
 
-pub cut_pushed : (w : ℕ) (ms rs us : List ℕ) (len count m n i : ℕ) → 0 < w → length ms + count ≡ len / w → n ≡ 2 ^ w - 1 → rs ≡ ms ++ replicate count n → m ≡ 2 ^ (len % w) - 1 → us ≡ rs ++ m ∷ [] → length ms ≤ i / w → value_at w us i ≡ nat_lt i len
+pub cut_pushed : (w : ℕ) (ms rs us : List ℕ) (len count m n i : ℕ) → 0 < w → length ms + count ≡ len / w → n ≡ 2 ^ w - 1
+    → rs ≡ ms ++ replicate count n → m ≡ 2 ^ (len % w) - 1 → us ≡ rs ++ m ∷ [] → length ms ≤ i / w
+    → value_at w us i ≡ nat_lt i len
 cut_pushed w ms rs us len count m n i pos total ones e cut f past =
     let size = length-pushed ms rs count n e in
     let all = length-pushed rs us 1 m f in
@@ -63,10 +77,15 @@ kept_below w ms rs count n i e within = grind (arith, e, value_at-is, get_or_app
 
 -- ---- a longer list: its old last block raised, and blocks of ones after it
 
-pub ones_kept : (w : ℕ) (ms rs us : List ℕ) (old len size : ℕ) → 0 < w → size ≡ blocks_for w old → ((i : ℕ) → i / w < size → value_at w rs i ≡ (value_at w ms i || (nat_lt i len && nat_le old i))) → ((i : ℕ) → i / w < size → value_at w us i ≡ value_at w rs i) → (i : ℕ) → i < old → value_at w us i ≡ value_at w ms i
+pub ones_kept : (w : ℕ) (ms rs us : List ℕ) (old len size : ℕ) → 0 < w → size ≡ blocks_for w old
+    → ((i : ℕ) → i / w < size → value_at w rs i ≡ (value_at w ms i || (nat_lt i len && nat_le old i)))
+    → ((i : ℕ) → i / w < size → value_at w us i ≡ value_at w rs i) → (i : ℕ) → i < old → value_at w us i ≡ value_at w ms i
 ones_kept w ms rs us old len size pos count raised kept i below = grind (arith, nat_tests, blocks_for-above w old i pos below, kept i, raised i)
 
-pub ones_added : (w : ℕ) (ms rs us : List ℕ) (old len size : ℕ) → IsZeroFrom w ms old → ((i : ℕ) → i / w < size → value_at w rs i ≡ (value_at w ms i || (nat_lt i len && nat_le old i))) → ((i : ℕ) → i / w < size → value_at w us i ≡ value_at w rs i) → ((i : ℕ) → size ≤ i / w → value_at w us i ≡ nat_lt i len) → (i : ℕ) → old ≤ i → value_at w us i ≡ nat_lt i len
+pub ones_added : (w : ℕ) (ms rs us : List ℕ) (old len size : ℕ) → IsZeroFrom w ms old
+    → ((i : ℕ) → i / w < size → value_at w rs i ≡ (value_at w ms i || (nat_lt i len && nat_le old i)))
+    → ((i : ℕ) → i / w < size → value_at w us i ≡ value_at w rs i)
+    → ((i : ℕ) → size ≤ i / w → value_at w us i ≡ nat_lt i len) → (i : ℕ) → old ≤ i → value_at w us i ≡ nat_lt i len
 ones_added w ms rs us old len size tail raised kept added i after = grind (arith, nat_tests, kept i, raised i, added i, tail.zero_tail i)
 
 -- ---- appending zeros
@@ -79,7 +98,8 @@ zeros_added w ms rs old m n tail z e i after = grind (arith, e, kept_below w ms 
 
 -- ---- keeping the first blocks
 
-pub cut_kept : (w : ℕ) (ms rs us : List ℕ) (len c : ℕ) → 0 < w → c ≡ blocks_for w len → rs ≡ take c ms → ((i : ℕ) → value_at w us i ≡ (nat_lt i len && value_at w rs i)) → (i : ℕ) → i < len → value_at w us i ≡ value_at w ms i
+pub cut_kept : (w : ℕ) (ms rs us : List ℕ) (len c : ℕ) → 0 < w → c ≡ blocks_for w len → rs ≡ take c ms
+    → ((i : ℕ) → value_at w us i ≡ (nat_lt i len && value_at w rs i)) → (i : ℕ) → i < len → value_at w us i ≡ value_at w ms i
 cut_kept w ms rs us len c pos count e lowered i below = grind (arith, nat_tests, blocks_for-above w len i pos below, lowered i, value_at-take w c ms i, e)
 
 -- ---- every value written in place
@@ -102,9 +122,13 @@ fills_more ms ns rs i n within put is = record {
 
 pub whole_filled : (w : ℕ) (ms rs : List ℕ) (len n : ℕ) → 0 < w → length ms ≡ blocks_for w len → len % w ≡ 0 → n ≡ 2 ^ w - 1 → FillsFirst ms rs (len / w) n → (i : ℕ) → value_at w rs i ≡ nat_lt i len
 whole_filled w ms rs len n pos count z ones fills i =
-    ones_up_to w rs len i pos (λ before. fills.filled (i / w) before ∙ ones) (λ here. grind (arith, unwritten ms rs (len / w) n (i / w) fills)) (λ beyond. grind (arith, unwritten ms rs (len / w) n (i / w) fills))
+    ones_up_to w rs len i pos (λ before. fills.filled (i / w) before ∙ ones)
+    (λ here. grind (arith, unwritten ms rs (len / w) n (i / w) fills))
+    (λ beyond. grind (arith, unwritten ms rs (len / w) n (i / w) fills))
 
-pub cut_filled : (w : ℕ) (ms rs us : List ℕ) (len m n : ℕ) → 0 < w → length ms ≡ blocks_for w len → length rs ≡ length ms → len % w ≢ 0 → n ≡ 2 ^ w - 1 → FillsFirst ms rs (len / w) n → m ≡ 2 ^ (len % w) - 1 → us ≡ set rs (len / w) m → (i : ℕ) → value_at w us i ≡ nat_lt i len
+pub cut_filled : (w : ℕ) (ms rs us : List ℕ) (len m n : ℕ) → 0 < w → length ms ≡ blocks_for w len → length rs ≡ length ms
+    → len % w ≢ 0 → n ≡ 2 ^ w - 1 → FillsFirst ms rs (len / w) n → m ≡ 2 ^ (len % w) - 1 → us ≡ set rs (len / w) m → (i : ℕ)
+    → value_at w us i ≡ nat_lt i len
 cut_filled w ms rs us len m n pos count size nz ones fills cut e i =
     ones_up_to w us len i pos
     (λ before. grind (arith, e, get_or-set_other, fills.filled (i / w) before, ones))
@@ -115,7 +139,9 @@ pub zeros_filled : (w : ℕ) (ms rs : List ℕ) (n : ℕ) → n ≡ 0 → FillsF
 zeros_filled w ms rs n z fills i = grind (arith, value_at-is, is_one-zero, fills.filled (i / w), unwritten ms rs (length ms) n (i / w) fills)
 
 -- a list of which one value is written
-pub replaced_packed : {X : Type 0} (w n i : ℕ) (f : X → ℕ) (P : X → Type 0) (xs ys : Vec X) (b : Bool) → i < n → IsPacked w f P xs.items n → WritesValue w (map f xs.items) (map f ys.items) i b → WritesInPlace P xs ys → IsPacked w f P ys.items n
+pub replaced_packed : {X : Type 0} (w n i : ℕ) (f : X → ℕ) (P : X → Type 0) (xs ys : Vec X) (b : Bool) → i < n
+    → IsPacked w f P xs.items n → WritesValue w (map f xs.items) (map f ys.items) i b → WritesInPlace P xs ys
+    → IsPacked w f P ys.items n
 replaced_packed w n i f P xs ys b within packed value in_place = record {
   each = in_place.each;
   count = omega (arith, xs.ok.0, ys.ok.0, in_place.len, packed.count);

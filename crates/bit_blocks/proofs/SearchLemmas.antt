@@ -1,5 +1,7 @@
 -- Where a search of a list of blocks ends.
-use Rattle.std.proofs.Common.{◌≡◌, ℕ, ◌+◌, ◌-◌, ◌*◌, ◌/◌, ◌%◌, ◌≢◌, ◌^◌, ◌<◌, ◌≤◌, Bool, true, false, not, ◌&&◌, nat_lt, nat_le, ◌==◌, List, drop, take, min, length, map, get_or, length-drop, get_or-take, Option, Some, None, refl, sym, ap, ◌∙◌, arith, mod-lt, div-add-mod', mul-le-mul_right, subst, ⊎_elim}
+use Rattle.std.proofs.Common.{◌≡◌, ℕ, ◌+◌, ◌-◌, ◌*◌, ◌/◌, ◌%◌, ◌≢◌, ◌^◌, ◌<◌, ◌≤◌, Bool, true, false, not, ◌&&◌, nat_lt}
+use Rattle.std.proofs.Common.{nat_le, ◌==◌, List, drop, take, min, length, map, get_or, length-drop, get_or-take, Option}
+use Rattle.std.proofs.Common.{Some, None, refl, sym, ap, ◌∙◌, arith, mod-lt, div-add-mod', mul-le-mul_right, subst, ⊎_elim}
 use Rattle.std.{proofs.lemmas.{Bool.{cases_lt, eq-eqb, Decides.nat_tests}, List.{get_or_past, length-map, take-map}, Nat.div-mul-add}, specs.Int.bit_at}
 use Rattle.bit_blocks.specs.{Digits.{is_one, IsComplement}, Highest.IsHighest, Lowest.IsLowest, Searches.{FindsBefore, FindsFrom, IsFirstFrom, IsLastBefore}, Storage.{value_at, IsZeroFrom, is_used}}
 use Rattle.bit_blocks.proofs.{CompareLemmas.digit_from_zero, Masks.is_one-complement, StorageLemmas.value_at-index, UseLemmas.{false_from_unused, used_from_zero}, ZeroLemmas.dropped}
@@ -112,7 +114,8 @@ module _ (w : ℕ) (test digit : ℕ → Bool) (n k p m b : ℕ) (says : (j : �
 
   pub last_before : (i : ℕ) → b ≡ w → 0 < w → i < w → ((j : ℕ) → j < w → is_one m j ≡ (nat_lt j p && digit j)) → IsHighest m i → IsLastBefore test n (k * b + i)
   last_before i wide pos within digits high =
-      rw (wide, block) (subst (λ x. IsLastBefore test x (n / w * w + i)) (ap (λ x. n / w * w + x) place ∙ div-add-mod' n w) (last_in_block w (n / w) p m test digit says i within (omega (arith, place, mod-lt n pos)) digits high))
+      rw (wide, block) (subst (λ x. IsLastBefore test x (n / w * w + i)) (ap (λ x. n / w * w + x) place ∙ div-add-mod' n w)
+      (last_in_block w (n / w) p m test digit says i within (omega (arith, place, mod-lt n pos)) digits high))
 
   pub none_before : 0 < w → ((j : ℕ) → j < w → is_one m j ≡ (nat_lt j p && digit j)) → m ≡ 0 → (j : ℕ) → n / w * w ≤ j → j < n → test j ≡ false
   none_before pos digits none j from below =
@@ -147,7 +150,8 @@ module _ {X : Type 0} (number : X → ℕ) (xs : List X) (n count : ℕ) (zeros 
 
 -- ---- the last block that is not 0, before as many that are
 
-module _ {X : Type 0} (number : X → ℕ) (xs front : List X) (n m count : ℕ) (is : front ≡ take m xs) (most : m ≡ min n (length xs)) (zeros : (k : ℕ) → count ≤ k → get_or (map number front) k 0 ≡ 0) where
+module _ {X : Type 0} (number : X → ℕ) (xs front : List X) (n m count : ℕ) (is : front ≡ take m xs)
+    (most : m ≡ min n (length xs)) (zeros : (k : ℕ) → count ≤ k → get_or (map number front) k 0 ≡ 0) where
   in_front : (k : ℕ) → k < m → get_or (map number front) k 0 ≡ get_or (map number xs) k 0
   in_front k below = ap (λ ys. get_or (map number ys) k 0) is ∙ ap (λ ms. get_or ms k 0) (sym (take-map number m xs)) ∙ get_or-take m (map number xs) k 0 below
 
@@ -176,7 +180,8 @@ first_past_none n m i test le none first = record {
   between = λ j from before. ⊎_elim (λ (low : j < m). none j from low) (λ (past : m ≤ j). first.between j past before) (cases_lt j m);
 }
 
-pub none_more : (w n k b : ℕ) (test : ℕ → Bool) → 0 < w → b ≡ w → ((j : ℕ) → n ≤ j → j < k * w → test j ≡ false) → ((j : ℕ) → k * b ≤ j → j < k * b / w * w + w → test j ≡ false) → (j : ℕ) → n ≤ j → j < (k + 1) * w → test j ≡ false
+pub none_more : (w n k b : ℕ) (test : ℕ → Bool) → 0 < w → b ≡ w → ((j : ℕ) → n ≤ j → j < k * w → test j ≡ false)
+    → ((j : ℕ) → k * b ≤ j → j < k * b / w * w + w → test j ≡ false) → (j : ℕ) → n ≤ j → j < (k + 1) * w → test j ≡ false
 none_more w n k b test pos wide before here j from below =
     let whole : k * b / w * w ≡ k * w = ap (λ x. k * x / w * w) wide ∙ ap (λ x. x * w) (ap (λ x. x / w) (let e : k * w ≡ k * w + 0 = omega arith in e) ∙ div-mul-add k w 0 pos) in
     ⊎_elim
@@ -192,7 +197,8 @@ unused w ms j pos none = ap (value_at w ms) (sym (div-add-mod' j w)) ∙ false_f
 
 module _ (w : ℕ) (ms : List ℕ) (n k : ℕ) (pos : 0 < w) where
   -- the search goes on in the next block that is not 0
-  pub first_past_block : (i : ℕ) → ((j : ℕ) → n ≤ j → j < k * w + w → value_at w ms j ≡ false) → n < k * w + w → (q : ℕ) → IsFirstFrom (is_used ms) (k + 1) q → IsFirstFrom (value_at w ms) (q * w) i → IsFirstFrom (value_at w ms) n i
+  pub first_past_block : (i : ℕ) → ((j : ℕ) → n ≤ j → j < k * w + w → value_at w ms j ≡ false) → n < k * w + w → (q : ℕ)
+      → IsFirstFrom (is_used ms) (k + 1) q → IsFirstFrom (value_at w ms) (q * w) i → IsFirstFrom (value_at w ms) n i
   first_past_block i none inside q next first =
       let more = mul-le-mul_right w next.reached in
       record {
@@ -211,7 +217,8 @@ module _ (w : ℕ) (ms : List ℕ) (n k : ℕ) (pos : 0 < w) where
       let here = λ (low : j / w < k + 1). none j from (let le = mul-le-mul_right w (let e : j / w ≤ k = omega (arith, low) in e) in omega (arith, le, div-add-mod' j w, mod-lt j pos)) in
       grind (arith, passed, here)
 
-  pub last_before_block : (i : ℕ) → ((j : ℕ) → k * w ≤ j → j < n → value_at w ms j ≡ false) → k * w ≤ n → (q : ℕ) → IsLastBefore (is_used ms) k q → IsLastBefore (value_at w ms) (q * w + w) i → IsLastBefore (value_at w ms) n i
+  pub last_before_block : (i : ℕ) → ((j : ℕ) → k * w ≤ j → j < n → value_at w ms j ≡ false) → k * w ≤ n → (q : ℕ)
+      → IsLastBefore (is_used ms) k q → IsLastBefore (value_at w ms) (q * w + w) i → IsLastBefore (value_at w ms) n i
   last_before_block i none inside q next last =
       let more = mul-le-mul_right w (let e : q + 1 ≤ k = omega (arith, next.before) in e) in
       record {

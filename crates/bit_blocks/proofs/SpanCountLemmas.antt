@@ -1,6 +1,13 @@
 -- How many values of a span are true, by the ones of its blocks.
-use Rattle.std.proofs.{Common.{◌≡◌, ℕ, zero, suc, ◌+◌, ◌-◌, ◌*◌, ◌^◌, ◌<◌, ◌≤◌, ◌==◌, Bool, false, ◌&&◌, cond, List, ◌∷◌, ◌++◌, map, length, get_or, take, drop, bit_and, count_ones, refl, sym, ap, ◌∙◌, arith, mul-le-mul_right}, Math.Seq.drop-cons}
-use Rattle.std.{proofs.lemmas.{Bool.Decides.nat_tests, List.{drop-map, length-map, take-map, FromFn.length-range_with_len, Sums.{count_by-le-length, sum_by-append, sum_by-cons}}, Nat.{and_le_l, Bits.{bit_at_and, bit_at-lt}}}, specs.{Int.bit_at, List.{count_by, range_with_len, sum_by}}}
+use Rattle.std.proofs.Common.{◌≡◌, ℕ, zero, suc, ◌+◌, ◌-◌, ◌*◌, ◌^◌, ◌<◌, ◌≤◌, ◌==◌, Bool, false, ◌&&◌, cond, List, ◌∷◌}
+use Rattle.std.proofs.Common.{◌++◌, map, length, get_or, take, drop, bit_and, count_ones, refl, sym, ap, ◌∙◌, arith}
+use Rattle.std.proofs.Common.{mul-le-mul_right}
+use Rattle.std.proofs.Math.Seq.{drop-cons}
+use Rattle.std.proofs.lemmas.Bool.Decides.{nat_tests}
+use Rattle.std.proofs.lemmas.List.{drop-map, length-map, take-map, FromFn.length-range_with_len}
+use Rattle.std.proofs.lemmas.List.Sums.{count_by-le-length, sum_by-append, sum_by-cons}
+use Rattle.std.proofs.lemmas.Nat.{and_le_l, Bits.{bit_at_and, bit_at-lt}}
+use Rattle.std.specs.{Int.bit_at, List.{count_by, range_with_len, sum_by}}
 use Rattle.bit_blocks.{specs.{Digits.is_one, Storage.{ones_in, value_at}, Ranges.in_range}, proofs.{CountLemmas.ones_in-numbers, OnesLemmas.ones_are_digits, StorageLemmas.value_at-index}}
 
 -- a range in two parts
@@ -28,7 +35,9 @@ digits_counted : (f : ℕ → Bool) (x p q n : ℕ) → ((j : ℕ) → j < n →
 digits_counted f x p q zero same = refl
 digits_counted f x p q (suc n) same =
     let here : is_one x p ≡ f q = ap (is_one x) (let e : p ≡ p + 0 = omega arith in e) ∙ same 0 (omega arith) ∙ ap f (let e : q + 0 ≡ q = omega arith in e) in
-    let rest = digits_counted f x (p + 1) (q + 1) n (λ j below. ap (is_one x) (let e : p + 1 + j ≡ p + suc j = omega arith in e) ∙ same (suc j) (omega arith) ∙ ap f (let e : q + suc j ≡ q + 1 + j = omega arith in e)) in
+    let rest = digits_counted f x (p + 1) (q + 1) n
+    (λ j below. ap (is_one x) (let e : p + 1 + j ≡ p + suc j = omega arith in e) ∙ same (suc j) (omega arith)
+    ∙ ap f (let e : q + suc j ≡ q + 1 + j = omega arith in e)) in
     let one : bit_at x p ≡ cond (f q) 1 0 = digit_counts (bit_at x p) (bit_at-lt x p) ∙ ap (λ b. cond b 1 0) here in
     omega (arith, one, rest, sum_by-cons (bit_at x) p (range_with_len (p + 1) n), sum_by-cons (λ i. cond (f i) 1 0) q (range_with_len (q + 1) n))
 
@@ -40,7 +49,9 @@ zeros_counted x p (suc n) none =
     omega (arith, zero_here, rest, sum_by-cons (bit_at x) p (range_with_len (p + 1) n))
 
 -- a block whose ones are the true values of a span
-pub ones_of_span : (f : ℕ → Bool) (w k a b x : ℕ) → x < 2 ^ w → k * w ≤ a → a ≤ b → b ≤ k * w + w → ((j : ℕ) → j < w → is_one x j ≡ (in_range a b (k * w + j) && f (k * w + j))) → count_ones x ≡ count_by f (range_with_len a (b - a))
+pub ones_of_span : (f : ℕ → Bool) (w k a b x : ℕ) → x < 2 ^ w → k * w ≤ a → a ≤ b → b ≤ k * w + w
+    → ((j : ℕ) → j < w → is_one x j ≡ (in_range a b (k * w + j) && f (k * w + j)))
+    → count_ones x ≡ count_by f (range_with_len a (b - a))
 ones_of_span f w k a b x small from le to digits =
     let start = k * w in
     let p = a - start in
@@ -55,7 +66,9 @@ ones_of_span f w k a b x small from le to digits =
     omega (arith, ones_are_digits w x small, ap (sum_by (bit_at x)) whole, parts, more, front, rest, mid, ap (count_by f) len)
 
 -- whole blocks
-ones_of_numbers : (w first n : ℕ) (ms : List ℕ) → ((k : ℕ) → get_or ms k 0 < 2 ^ w) → first + n ≤ length ms → sum_by count_ones (take n (drop first ms)) ≡ count_by (value_at w ms) (range_with_len (first * w) ((first + n) * w - first * w))
+ones_of_numbers : (w first n : ℕ) (ms : List ℕ) → ((k : ℕ) → get_or ms k 0 < 2 ^ w) → first + n ≤ length ms
+    → sum_by count_ones (take n (drop first ms)) ≡ count_by (value_at w ms)
+    (range_with_len (first * w) ((first + n) * w - first * w))
 ones_of_numbers w first zero ms small within =
     ap (λ m. count_by (value_at w ms) (range_with_len (first * w) m)) (let e : 0 ≡ (first + 0) * w - first * w = omega arith in e)
 ones_of_numbers w first (suc n) ms small within =
@@ -63,14 +76,18 @@ ones_of_numbers w first (suc n) ms small within =
     let next : suc first * w ≡ first * w + w = omega arith in
     let end : (suc first + n) * w ≡ (first + suc n) * w = ap (λ x. x * w) (let e : suc first + n ≡ first + suc n = omega arith in e) in
     let more : suc first * w ≤ (suc first + n) * w = mul-le-mul_right w (let e : suc first ≤ suc first + n = omega arith in e) in
-    let block = ones_of_span f w first (first * w) (first * w + w) (get_or ms first 0) (small first) (omega arith) (omega arith) (omega arith) (λ j index. sym (value_at-index w ms first j index) ∙ grind (arith, nat_tests)) in
+    let block = ones_of_span f w first (first * w) (first * w + w) (get_or ms first 0) (small first) (omega arith)
+    (omega arith) (omega arith) (λ j index. sym (value_at-index w ms first j index) ∙ grind (arith, nat_tests)) in
     let rest = ones_of_numbers w (suc first) n ms small (omega arith) in
     let parts = count-parts f (first * w) (suc first * w) ((suc first + n) * w) (omega arith) more in
     ap (λ xs. sum_by count_ones (take (suc n) xs)) (drop-cons ms first 0 (omega arith))
     ∙ sum_by-cons count_ones (get_or ms first 0) (take n (drop (suc first) ms))
     ∙ omega (arith, block, rest, parts, ap (λ x. count_by f (range_with_len (first * w) (x - first * w))) next, ap (λ x. count_by f (range_with_len (first * w) (x - first * w))) end)
 
-pub ones_of_blocks : {X : Type 0} (number : X → ℕ) (w first end : ℕ) (xs ys : List X) → ((k : ℕ) → get_or (map number xs) k 0 < 2 ^ w) → first ≤ end → end ≤ length xs → ys ≡ take (end - first) (drop first xs) → ones_in number ys ≡ count_by (value_at w (map number xs)) (range_with_len (first * w) (end * w - first * w))
+pub ones_of_blocks : {X : Type 0} (number : X → ℕ) (w first end : ℕ) (xs ys : List X)
+    → ((k : ℕ) → get_or (map number xs) k 0 < 2 ^ w) → first ≤ end → end ≤ length xs
+    → ys ≡ take (end - first) (drop first xs) → ones_in number ys ≡ count_by (value_at w (map number xs))
+    (range_with_len (first * w) (end * w - first * w))
 ones_of_blocks number w first end xs ys small le within is =
     let ms = map number xs in
     let e : first + (end - first) ≡ end = omega arith in
@@ -84,7 +101,9 @@ is_one-and : (m n j : ℕ) → is_one (bit_and m n) j ≡ (is_one m j && is_one 
 is_one-and m n j = grind (arith, nat_tests, bit_at_and m n j, bit_at-lt m j, bit_at-lt n j)
 
 -- a block under a mask, whose ones are a span
-pub ones_of_mask : (w k a b mask m : ℕ) (ms : List ℕ) → get_or ms k 0 < 2 ^ w → k * w ≤ a → a ≤ b → b ≤ (k + 1) * w → m ≡ bit_and (get_or ms k 0) mask → ((j : ℕ) → j < w → is_one mask j ≡ in_range a b (k * w + j)) → count_ones m ≡ count_by (value_at w ms) (range_with_len a (b - a))
+pub ones_of_mask : (w k a b mask m : ℕ) (ms : List ℕ) → get_or ms k 0 < 2 ^ w → k * w ≤ a → a ≤ b → b ≤ (k + 1) * w
+    → m ≡ bit_and (get_or ms k 0) mask → ((j : ℕ) → j < w → is_one mask j ≡ in_range a b (k * w + j))
+    → count_ones m ≡ count_by (value_at w ms) (range_with_len a (b - a))
 ones_of_mask w k a b mask m ms small from le to is ones =
     ones_of_span (value_at w ms) w k a b m (rw is (omega (arith, and_le_l (get_or ms k 0) mask, small))) from le (omega arith) (λ j index.
     ap (λ x. is_one x j) is ∙ is_one-and (get_or ms k 0) mask j ∙ grind (arith, ones j index, value_at-index w ms k j index))

@@ -1,5 +1,7 @@
 -- What merges with a span of true values do to the value at every index.
-use Rattle.std.proofs.{Common.{◌≡◌, ◌≢◌, ℕ, suc, ◌+◌, ◌-◌, ◌*◌, ◌/◌, ◌%◌, ◌^◌, ◌<◌, ◌≤◌, ◌↔◌, Bool, true, false, ◌&&◌, nat_lt, nat_le, List, get_or, refl, sym, ap, ◌∙◌, arith, mod-lt, div-add-mod', lt_of_mul-lt-mul_right}, lemmas.{Bool.Decides.nat_tests, Nat.div-mul-add}}
+use Rattle.std.proofs.Common.{◌≡◌, ◌≢◌, ℕ, suc, ◌+◌, ◌-◌, ◌*◌, ◌/◌, ◌%◌, ◌^◌, ◌<◌, ◌≤◌, ◌↔◌, Bool, true, false, ◌&&◌, nat_lt}
+use Rattle.std.proofs.Common.{nat_le, List, get_or, refl, sym, ap, ◌∙◌, arith, mod-lt, div-add-mod', lt_of_mul-lt-mul_right}
+use Rattle.std.proofs.lemmas.{Bool.Decides.nat_tests, Nat.div-mul-add}
 use Rattle.bit_blocks.specs.{declared.block.merge.Merge.Merge, BlockMerges.{IsMergedSpan, MergesSpanToFalse}, Digits.is_one, Merges.merge_of_values, Storage.value_at}
 use Rattle.bit_blocks.proofs.{ChangeLemmas.div_le, Masks.is_one-ones, MergeLemmas.merge_of_values-none, StorageLemmas.{value_at-index, value_at-is}}
 
@@ -23,10 +25,13 @@ end_within w b q p n pos end within =
 
 -- ---- masks, whose ones are a span of block k
 
-ones_span : (w k a b p q x : ℕ) → a ≡ k * w + p → b ≡ k * w + q → ((j : ℕ) → j < w → is_one x j ≡ (nat_lt j q && nat_le p j)) → (j : ℕ) → j < w → is_one x j ≡ (nat_le a (k * w + j) && nat_lt (k * w + j) b)
+ones_span : (w k a b p q x : ℕ) → a ≡ k * w + p → b ≡ k * w + q → ((j : ℕ) → j < w → is_one x j ≡ (nat_lt j q && nat_le p j))
+    → (j : ℕ) → j < w → is_one x j ≡ (nat_le a (k * w + j) && nat_lt (k * w + j) b)
 ones_span w k a b p q x start end digits j index = digits j index ∙ grind (arith, nat_tests)
 
-pub mask_between : (w a b k p q x : ℕ) → k ≡ a / w → k ≡ b / w → p ≡ a % w → q ≡ b % w → ((j : ℕ) → j < w → is_one x j ≡ (nat_lt j q && nat_le p j)) → (j : ℕ) → j < w → is_one x j ≡ (nat_le a (k * w + j) && nat_lt (k * w + j) b)
+pub mask_between : (w a b k p q x : ℕ) → k ≡ a / w → k ≡ b / w → p ≡ a % w → q ≡ b % w
+    → ((j : ℕ) → j < w → is_one x j ≡ (nat_lt j q && nat_le p j)) → (j : ℕ) → j < w
+    → is_one x j ≡ (nat_le a (k * w + j) && nat_lt (k * w + j) b)
 mask_between w a b k p q x first last low high digits = ones_span w k a b p q x (parts w a k p first low) (parts w b k q last high) digits
 
 pub mask_from : (w a k p x : ℕ) → k ≡ a / w → p ≡ a % w → ((j : ℕ) → j < w → is_one x j ≡ nat_le p j) → (j : ℕ) → j < w → is_one x j ≡ (nat_le a (k * w + j) && nat_lt (k * w + j) ((k + 1) * w))
@@ -51,7 +56,10 @@ module _ (m : Merge) (w : ℕ) where
   }
 
   -- a block that was merged with a mask: its values
-  masked_value : (k a b mask : ℕ) (ms ns : List ℕ) → 0 < w → ((j : ℕ) → j < w → is_one (get_or ns k 0) j ≡ merge_of_values m (is_one (get_or ms k 0) j) (is_one mask j)) → ((j : ℕ) → j < w → is_one mask j ≡ (nat_le a (k * w + j) && nat_lt (k * w + j) b)) → (i : ℕ) → i / w ≡ k → value_at w ns i ≡ merge_of_values m (value_at w ms i) (nat_le a i && nat_lt i b)
+  masked_value : (k a b mask : ℕ) (ms ns : List ℕ) → 0 < w
+      → ((j : ℕ) → j < w → is_one (get_or ns k 0) j ≡ merge_of_values m (is_one (get_or ms k 0) j) (is_one mask j))
+      → ((j : ℕ) → j < w → is_one mask j ≡ (nat_le a (k * w + j) && nat_lt (k * w + j) b)) → (i : ℕ) → i / w ≡ k
+      → value_at w ns i ≡ merge_of_values m (value_at w ms i) (nat_le a i && nat_lt i b)
   masked_value k a b mask ms ns pos digits ones i here =
       let index : k * w + i % w ≡ i = ap (λ q. q * w + i % w) (sym here) ∙ div-add-mod' i w in
       let read = λ (xs : List ℕ). value_at-is w xs i ∙ ap (λ q. is_one (get_or xs q 0) (i % w)) here in
@@ -64,7 +72,10 @@ module _ (m : Merge) (w : ℕ) where
   stays false keeps = merge_of_values-none m
 
   -- the mask's ones are a span of the block
-  pub span_of_mask : (k a b mask : ℕ) (ms ns : List ℕ) → 0 < w → merge_of_values m true false ≡ true → k * w ≤ a → b ≤ (k + 1) * w → ((j : ℕ) → j < w → is_one (get_or ns k 0) j ≡ merge_of_values m (is_one (get_or ms k 0) j) (is_one mask j)) → ((q : ℕ) → q ≢ k → get_or ns q 0 ≡ get_or ms q 0) → ((j : ℕ) → j < w → is_one mask j ≡ (nat_le a (k * w + j) && nat_lt (k * w + j) b)) → IsMergedSpan m w a b ms ns
+  pub span_of_mask : (k a b mask : ℕ) (ms ns : List ℕ) → 0 < w → merge_of_values m true false ≡ true → k * w ≤ a
+      → b ≤ (k + 1) * w → ((j : ℕ) → j < w → is_one (get_or ns k 0) j ≡ merge_of_values m (is_one (get_or ms k 0) j)
+      (is_one mask j)) → ((q : ℕ) → q ≢ k → get_or ns q 0 ≡ get_or ms q 0)
+      → ((j : ℕ) → j < w → is_one mask j ≡ (nat_le a (k * w + j) && nat_lt (k * w + j) b)) → IsMergedSpan m w a b ms ns
   span_of_mask k a b mask ms ns pos keeps from to digits others ones =
       let value = masked_value k a b mask ms ns pos digits ones in
       let other = λ (i : ℕ) (there : i / w ≢ k). value_at-is w ns i ∙ ap (λ x. is_one x (i % w)) (others (i / w) there) ∙ sym (value_at-is w ms i) in
@@ -87,7 +98,8 @@ module _ (m : Merge) (w : ℕ) where
   false-within a b p q ms from to is = record { value = λ i reached below. is.value i (omega arith) (omega arith) }
 
   -- by a block and a mask, whose ones are the span
-  pub false_of_mask : (k a b mask : ℕ) (ms : List ℕ) → 0 < w → merge_of_values m false true ≡ false → k * w ≤ a → b ≤ (k + 1) * w → ((j : ℕ) → j < w → is_one mask j ≡ (nat_le a (k * w + j) && nat_lt (k * w + j) b))
+  pub false_of_mask : (k a b mask : ℕ) (ms : List ℕ) → 0 < w → merge_of_values m false true ≡ false → k * w ≤ a
+      → b ≤ (k + 1) * w → ((j : ℕ) → j < w → is_one mask j ≡ (nat_le a (k * w + j) && nat_lt (k * w + j) b))
       → ((j : ℕ) → j < w → merge_of_values m (is_one mask j) (is_one (get_or ms k 0) j) ≡ false) ↔ MergesSpanToFalse m w a b ms
   false_of_mask k a b mask ms pos nothing from to ones = (
     λ zero. record {

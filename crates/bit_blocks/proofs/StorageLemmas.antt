@@ -1,6 +1,10 @@
 -- How the blocks of a bit vector hold its list, by index.
-use Rattle.std.proofs.Common.{◌≡◌, ◌≢◌, ℕ, zero, suc, ◌+◌, ◌-◌, ◌*◌, ◌/◌, ◌%◌, ◌^◌, ◌<◌, ◌≤◌, Bool, false, ◌==◌, List, ◌++◌, length, get_or, take, set, replicate, refl, sym, ap, ◌∙◌, arith, length-take, length-append, length-set, get_or-take, get_or-set_same, get_or-set_other}
-use Rattle.std.proofs.lemmas.{Grind.common_steps, Nat.{Bits.{bit_at-zero, same_from_bits_below, bit_at-lt}, div-mul-add, mod-mul-add}, List.{FromFn.{length-map-range_with_len, get_or-map-range_with_len}, get_or_past}}
+use Rattle.std.proofs.Common.{◌≡◌, ◌≢◌, ℕ, zero, suc, ◌+◌, ◌-◌, ◌*◌, ◌/◌, ◌%◌, ◌^◌, ◌<◌, ◌≤◌, Bool, false, ◌==◌, List, ◌++◌}
+use Rattle.std.proofs.Common.{length, get_or, take, set, replicate, refl, sym, ap, ◌∙◌, arith, length-take, length-append}
+use Rattle.std.proofs.Common.{length-set, get_or-take, get_or-set_same, get_or-set_other}
+use Rattle.std.proofs.lemmas.Grind.{common_steps}
+use Rattle.std.proofs.lemmas.Nat.{Bits.{bit_at-zero, same_from_bits_below, bit_at-lt}, div-mul-add, mod-mul-add}
+use Rattle.std.proofs.lemmas.List.{FromFn.{length-map-range_with_len, get_or-map-range_with_len}, get_or_past}
 use Rattle.std.{proofs.lemmas.List.{ext_get_or, get_or-replicate, length-replicate}, specs.Int.bit_at}
 use Rattle.bit_blocks.{specs.{Bits.{blocks_for, digit_of, blocks_of}, Digits.is_one, Storage.{value_at, values_of, IsZeroFrom}}, proofs.BitsLemmas.{blocks_of-digit, blocks_of-lt, length-blocks_of}}
 
@@ -74,7 +78,8 @@ values_of-take w ms ms' n m le h =
     values_of-same w ms' n _ (omega (arith, length-take n (values_of w ms m), length-values_of w ms m)) (λ i below.
     h i below ∙ sym (get_or-take n (values_of w ms m) i false below ∙ get_or-values_of w ms m i false (omega arith)))
 
-pub values_of-set : (w : ℕ) (ms ms' : List ℕ) (n i : ℕ) (b : Bool) → i < n → value_at w ms' i ≡ b → ((k : ℕ) → k ≢ i → value_at w ms' k ≡ value_at w ms k) → values_of w ms' n ≡ set (values_of w ms n) i b
+pub values_of-set : (w : ℕ) (ms ms' : List ℕ) (n i : ℕ) (b : Bool) → i < n → value_at w ms' i ≡ b
+    → ((k : ℕ) → k ≢ i → value_at w ms' k ≡ value_at w ms k) → values_of w ms' n ≡ set (values_of w ms n) i b
 values_of-set w ms ms' n i b le same others =
     values_of-same w ms' n _ (length-set (values_of w ms n) i b ∙ length-values_of w ms n) (λ k below.
     grind (arith, common_steps, get_or-values_of w ms n k false below, others k, length-values_of w ms n))
@@ -83,7 +88,9 @@ pub values_of-replicate : (w : ℕ) (ms : List ℕ) (n : ℕ) (b : Bool) → ((i
 values_of-replicate w ms n b h =
     values_of-same w ms n _ (length-replicate n b) (λ i below. h i below ∙ sym (get_or-replicate n i b false below))
 
-pub values_of-append : (w : ℕ) (ms ms' : List ℕ) (n m : ℕ) (b : Bool) → ((i : ℕ) → i < n → value_at w ms' i ≡ value_at w ms i) → ((i : ℕ) → n ≤ i → i < n + m → value_at w ms' i ≡ b) → values_of w ms' (n + m) ≡ values_of w ms n ++ replicate m b
+pub values_of-append : (w : ℕ) (ms ms' : List ℕ) (n m : ℕ) (b : Bool)
+    → ((i : ℕ) → i < n → value_at w ms' i ≡ value_at w ms i) → ((i : ℕ) → n ≤ i → i < n + m → value_at w ms' i ≡ b)
+    → values_of w ms' (n + m) ≡ values_of w ms n ++ replicate m b
 values_of-append w ms ms' n m b kept added =
     values_of-same w ms' (n + m) _ (omega (arith, length-append (values_of w ms n) (replicate m b), length-values_of w ms n, length-replicate m b)) (λ i below.
     grind (arith, common_steps, get_or-values_of w ms n i false, get_or-replicate m (i - n) b false, length-values_of w ms n))

@@ -35,11 +35,13 @@ pub false_from_unused : (w : ℕ) (ms : List ℕ) (k j : ℕ) → j < w → is_u
 false_from_unused w ms k j index none = value_at-index w ms k j index ∙ digit_from_zero _ j (zero_from_unused _ none)
 
 -- blocks of the same values are the same
-pub same_block : (w : ℕ) (ms ns : List ℕ) (k : ℕ) → get_or ms k 0 < 2 ^ w → get_or ns k 0 < 2 ^ w → ((j : ℕ) → j < w → value_at w ms (k * w + j) ≡ value_at w ns (k * w + j)) → get_or ms k 0 ≡ get_or ns k 0
+pub same_block : (w : ℕ) (ms ns : List ℕ) (k : ℕ) → get_or ms k 0 < 2 ^ w → get_or ns k 0 < 2 ^ w
+    → ((j : ℕ) → j < w → value_at w ms (k * w + j) ≡ value_at w ns (k * w + j)) → get_or ms k 0 ≡ get_or ns k 0
 same_block w ms ns k small also same =
     same_from_bits_below w _ _ small also (λ j index. same_digit _ _ j (sym (value_at-index w ms k j index) ∙ same j index ∙ value_at-index w ns k j index))
 
-pub same_use : (w : ℕ) (ms ns : List ℕ) (k : ℕ) → get_or ms k 0 < 2 ^ w → get_or ns k 0 < 2 ^ w → ((j : ℕ) → j < w → value_at w ms (k * w + j) ≡ value_at w ns (k * w + j)) → is_used ms k ≡ is_used ns k
+pub same_use : (w : ℕ) (ms ns : List ℕ) (k : ℕ) → get_or ms k 0 < 2 ^ w → get_or ns k 0 < 2 ^ w
+    → ((j : ℕ) → j < w → value_at w ms (k * w + j) ≡ value_at w ns (k * w + j)) → is_used ms k ≡ is_used ns k
 same_use w ms ns k small also same = ap (λ m. not (m == 0)) (same_block w ms ns k small also same)
 
 -- ---- a summary from its digits

@@ -1,5 +1,6 @@
 -- The number of what an operator gives, from its digits.
-use Rattle.std.proofs.{Common.{◌≡◌, ℕ, ◌-◌, ◌*◌, ◌/◌, ◌%◌, ◌^◌, ◌<◌, refl, bit_and, bit_or, sym, ap, ◌∙◌, arith}, lemmas.Nat.{and_le_l, or_lt, one_shl, Bits.{bit_at_and, bit_at_or, same_from_bits_below}}}
+use Rattle.std.proofs.Common.{◌≡◌, ℕ, ◌-◌, ◌*◌, ◌/◌, ◌%◌, ◌^◌, ◌<◌, refl, bit_and, bit_or, sym, ap, ◌∙◌, arith}
+use Rattle.std.proofs.lemmas.Nat.{and_le_l, or_lt, one_shl, Bits.{bit_at_and, bit_at_or, same_from_bits_below}}
 use Rattle.bit_blocks.specs.{Digits.{IsBoth, IsEither, IsComplement, IsShiftedLeft, IsShiftedRight}, DigitLaws.{complement, shifted_left, shifted_right}}
 
 pub both-number : (w m n r : ℕ) → m < 2 ^ w → r < 2 ^ w → IsBoth w m n r → r ≡ bit_and m n

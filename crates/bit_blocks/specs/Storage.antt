@@ -1,5 +1,7 @@
 -- How a vector of blocks holds a list of truth values. Of the public clauses only those of `packed` cite this.
-use Rattle.std.specs.{Prelude.{◌≡◌, ◌≢◌, ℕ, ◌^◌, ◌/◌, ◌%◌, ◌<◌, ◌≤◌, Bool, false, not, ◌==◌, List, map, length, get_or, All, vec_len, vec_capacity}, Global.Vec, List.{range_with_len, sum_by}, Int.RustNames.count_ones}
+use Rattle.std.specs.Prelude.{◌≡◌, ◌≢◌, ℕ, ◌^◌, ◌/◌, ◌%◌, ◌<◌, ◌≤◌, Bool, false, not, ◌==◌, List, map, length, get_or, All}
+use Rattle.std.specs.Prelude.{vec_len, vec_capacity}
+use Rattle.std.specs.{Global.Vec, List.{range_with_len, sum_by}, Int.RustNames.count_ones}
 use Rattle.bit_blocks.specs.{Bits.blocks_for, Digits.is_one}
 
 -- value i is digit i % w of block i / w, and false where there is no such block

@@ -29,8 +29,12 @@ positive_factor : (a b k : ℕ) → k < a * b → 0 < b
 positive_factor a zero k below = absurd (omega (arith, below))
 positive_factor a (suc b) k below = omega arith
 
-module _ {X : Type 0} {w : ℕ} {number : X → ℕ} {is_block : X → Type 0} {xs ys : List X} {rows columns stride rows' columns' stride' : ℕ} {m n : Matrix} (pos : 0 < w) (table : IsTable w number is_block xs rows columns stride) (is : matrix_in w stride rows columns (map number xs) ≡ m)
-    (other : IsTable w number is_block ys rows' columns' stride') (are : matrix_in w stride' rows' columns' (map number ys) ≡ n) (as_many : rows' ≡ rows) (as_wide : columns' ≡ columns) (law : (x : X) → is_block x → number x < 2 ^ w) where
+module _ {X : Type 0} {w : ℕ} {number : X → ℕ} {is_block : X → Type 0} {xs ys : List X}
+    {rows columns stride rows' columns' stride' : ℕ} {m n : Matrix} (pos : 0 < w)
+    (table : IsTable w number is_block xs rows columns stride) (is : matrix_in w stride rows columns (map number xs) ≡ m)
+    (other : IsTable w number is_block ys rows' columns' stride')
+    (are : matrix_in w stride' rows' columns' (map number ys) ≡ n) (as_many : rows' ≡ rows)
+    (as_wide : columns' ≡ columns) (law : (x : X) → is_block x → number x < 2 ^ w) where
   same_stride : stride' ≡ stride
   same_stride = other.in_row ∙ ap (blocks_for w) as_wide ∙ sym table.in_row
 
@@ -56,8 +60,11 @@ module _ {X : Type 0} {w : ℕ} {number : X → ℕ} {is_block : X → Type 0} {
           let r = k / stride in
           let within : r < rows = div_below k stride rows some below in
           let here : r * stride + k % stride ≡ k = div-add-mod' k stride in
-          let stay = blocks_stay w stride pos columns (enough pos table is) r (map number xs) (map number ys) table.clean clean_alike (numbers_below w number is_block xs law table.each) (numbers_below w number is_block ys law other.each) (rows_alike same r within) (k % stride) (mod-lt k some) in
+          let stay = blocks_stay w stride pos columns (enough pos table is) r (map number xs)
+          (map number ys) table.clean clean_alike (numbers_below w number is_block xs law table.each)
+          (numbers_below w number is_block ys law other.each) (rows_alike same r within) (k % stride) (mod-lt k some) in
           sym (ap (λ i. get_or (map number ys) i 0) (sym here) ∙ stay ∙ ap (λ i. get_or (map number xs) i 0) here)
-      | inr past ↦ get_or_past (map number xs) k 0 (omega (arith, past, length-map xs number, table.count)) ∙ sym (get_or_past (map number ys) k 0 (omega (arith, past, same_count, length-map xs number, table.count)))
+      | inr past ↦ get_or_past (map number xs) k 0 (omega (arith, past, length-map xs number, table.count))
+          ∙ sym (get_or_past (map number ys) k 0 (omega (arith, past, same_count, length-map xs number, table.count)))
     ],
   )

@@ -1,6 +1,6 @@
 -- Matrices made of others.
 use Rattle.std.proofs.Common.{◌≡◌, ℕ, ◌+◌, ◌*◌, ◌<◌, ◌≤◌, ◌⊎◌, Bool, nat_le, nat_lt, ◌==◌, true, false, ◌&&◌, ◌||◌, List, ◌∷◌, refl, sym, ap, ◌∙◌, arith, inl, inr}
-use Rattle.std.proofs.lemmas.Bool.{cases_eq, cases_lt, eq-eqb, le-leb, le-ltb, lt-leb, lt-ltb, ne_eqb, true≢false, Decides.nat_tests}
+use Rattle.std.proofs.lemmas.Bool.{cases_eq, cases_lt, eq-eqb, le-ltb, lt-ltb, ne_eqb, true≢false, Decides.nat_tests}
 use Rattle.std.proofs.Math.Nat.{add-mul}
 use Rattle.bit_set.specs.Sets.{has}
 use Rattle.bit_matrix.specs.Matrices.{ChangesRow, Matrix, has_at}
@@ -9,7 +9,9 @@ pub rest_inside : (f : ℕ → Bool) (x : ℕ) (xs ys : List ℕ) → xs ≡ x �
 rest_inside f x xs ys is inside c is_in = inside c (ap (λ zs. has zs c) is ∙ (let e = is_in in grind arith))
 
 -- one column more of the row is put in
-pub put_more : (old before now : Matrix) (row x : ℕ) (f : ℕ → Bool) (xs ys : List ℕ) → xs ≡ x ∷ ys → ChangesRow before now x (λ c. row == c || has_at before x c) → ((r c : ℕ) → (has_at before c r || (r == row && has xs c)) ≡ (has_at old c r || (r == row && f c)))
+pub put_more : (old before now : Matrix) (row x : ℕ) (f : ℕ → Bool) (xs ys : List ℕ) → xs ≡ x ∷ ys
+    → ChangesRow before now x (λ c. row == c || has_at before x c)
+    → ((r c : ℕ) → (has_at before c r || (r == row && has xs c)) ≡ (has_at old c r || (r == row && f c)))
     → (r c : ℕ) → (has_at now c r || (r == row && has ys c)) ≡ (has_at old c r || (r == row && f c))
 put_more old before now row x f xs ys is changes so_far r c =
     let was = so_far r c in
@@ -36,27 +38,30 @@ in_row false b is = absurd (true≢false (sym is))
 -- ---- a matrix that is transposed
 
 -- the columns of one strip more
-pub strip_more : (old now m : Matrix) (w k : ℕ) → ((r c : ℕ) → has_at old c r ≡ (nat_lt c (k * w) && has_at m r c)) → ((r c : ℕ) → k * w ≤ c → c < (k + 1) * w → has_at now c r ≡ has_at m r c) → ((r c : ℕ) → (c < k * w) ⊎ ((k + 1) * w ≤ c) → has_at now c r ≡ has_at old c r) → (r c : ℕ) → has_at now c r ≡ (nat_lt c ((k + 1) * w) && has_at m r c)
+pub strip_more : (old now m : Matrix) (w k : ℕ) → ((r c : ℕ) → has_at old c r ≡ (nat_lt c (k * w) && has_at m r c))
+    → ((r c : ℕ) → k * w ≤ c → c < (k + 1) * w → has_at now c r ≡ has_at m r c)
+    → ((r c : ℕ) → (c < k * w) ⊎ ((k + 1) * w ≤ c) → has_at now c r ≡ has_at old c r) → (r c : ℕ)
+    → has_at now c r ≡ (nat_lt c ((k + 1) * w) && has_at m r c)
 strip_more old now m w k before inside others r c =
     let step = add-mul k 1 w in
     elim (cases_lt c (k * w)) [
-      | inl early ↦ others r c (inl early) ∙ before r c ∙ (let a : nat_lt c (k * w) ≡ nat_lt c ((k + 1) * w) = lt-ltb c (k * w) early ∙ sym (lt-ltb c ((k + 1) * w) (omega (arith, early, step))) in ap (λ b. b && has_at m r c) a)
+      | inl early ↦ others r c (inl early) ∙ before r c
+          ∙ (let a : nat_lt c (k * w) ≡ nat_lt c ((k + 1) * w) = lt-ltb c (k * w) early
+          ∙ sym (lt-ltb c ((k + 1) * w) (omega (arith, early, step))) in ap (λ b. b && has_at m r c) a)
       | inr from ↦ elim (cases_lt c ((k + 1) * w)) [
         | inl below ↦ inside r c from below ∙ (ap (λ b. b && has_at m r c) (sym (lt-ltb c ((k + 1) * w) below)))
         | inr late ↦ others r c (inr late) ∙ before r c ∙ (ap (λ b. b && has_at m r c) (le-ltb c (k * w) from ∙ sym (le-ltb c ((k + 1) * w) late)))
       ]
     ]
 
--- the columns before one and those from it on are all
-pub both_parts : (a b : Bool) (n c : ℕ) → a ≡ (nat_lt c n && b) → (a || (nat_le n c && b)) ≡ b
-both_parts a b n c is = elim (cases_lt c n) [
-  | inl below ↦ let low = lt-ltb c n below in let high = lt-leb n c below in grind (arith, is, low, high)
-  | inr from ↦ let low = le-ltb c n from in let high = le-leb n c from in grind (arith, is, low, high)
-]
-
 -- one row more is put in
-pub row_more : (old before now m : Matrix) (from row : ℕ) → ((r c : ℕ) → has_at before c r ≡ (has_at old c r || (nat_lt r row && (nat_le from c && has_at m r c)))) → ((r c : ℕ) → has_at now c r ≡ (has_at before c r || (r == row && (nat_le from c && has_at m row c)))) → (r c : ℕ) → has_at now c r ≡ (has_at old c r || (nat_lt r (row + 1) && (nat_le from c && has_at m r c)))
+pub row_more : (old before now m : Matrix) (from row : ℕ)
+    → ((r c : ℕ) → has_at before c r ≡ (has_at old c r || (nat_lt r row && (nat_le from c && has_at m r c))))
+    → ((r c : ℕ) → has_at now c r ≡ (has_at before c r || (r == row && (nat_le from c && has_at m row c)))) → (r c : ℕ)
+    → has_at now c r ≡ (has_at old c r || (nat_lt r (row + 1) && (nat_le from c && has_at m r c)))
 row_more old before now m from row was is r c = is r c ∙ elim (cases_eq r row) [
-  | inl here ↦ rw here (ap (λ b. b || (row == row && (nat_le from c && has_at m row c))) (was row c) ∙ (let a = eq-eqb row row refl in let b = le-ltb row row (omega arith) in let d = lt-ltb row (row + 1) (omega arith) in grind (arith, a, b, d)))
+  | inl here ↦ rw here (ap (λ b. b || (row == row && (nat_le from c && has_at m row c))) (was row c)
+      ∙ (let a = eq-eqb row row refl in let b = le-ltb row row (omega arith) in let d = lt-ltb row (row + 1) (omega arith) in
+      grind (arith, a, b, d)))
   | inr other ↦ (let a = ne_eqb r row other in let e : nat_lt r row ≡ nat_lt r (row + 1) = grind (arith, nat_tests) in let w = was r c in grind (arith, a, e, w))
 ]

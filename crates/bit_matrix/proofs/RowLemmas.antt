@@ -1,5 +1,6 @@
 -- A row as a slice of the blocks, and the digits of its blocks.
-use Rattle.std.proofs.Common.{◌≡◌, ℕ, zero, suc, ◌+◌, ◌-◌, ◌*◌, ◌/◌, ◌%◌, ◌^◌, ◌<◌, ◌≤◌, Bool, false, ◌&&◌, List, [], ◌∷◌, length, map, filter, get_or, take, drop, refl, sym, ap, ◌∙◌, arith, inl, inr, mod-lt, count_by}
+use Rattle.std.proofs.Common.{◌≡◌, ℕ, zero, suc, ◌+◌, ◌-◌, ◌*◌, ◌/◌, ◌%◌, ◌^◌, ◌<◌, ◌≤◌, Bool, false, ◌&&◌, List, [], ◌∷◌}
+use Rattle.std.proofs.Common.{length, map, filter, get_or, take, drop, refl, sym, ap, ◌∙◌, arith, inl, inr, mod-lt, count_by}
 use Rattle.std.proofs.lemmas.{Bool.{cases_lt, Decides.nat_tests}, Nat.{div-add-mod', div_below}, Nat.Bits.same_from_bits_below, List.{get_or-drop, get_or-take, length-take, Sums.length-filter}}
 use Rattle.std.specs.List.{range_with_len}
 use Rattle.bit_blocks.specs.{Digits.is_one, Storage.value_at}
@@ -33,10 +34,13 @@ slice_bit w stride ms r c pos below =
 
 pub slice_bit-past : (w stride : ℕ) (ms : List ℕ) (r c : ℕ) → 0 < w → stride * w ≤ c → value_at w (take stride (drop (r * stride) ms)) c ≡ false
 slice_bit-past w stride ms r c pos past =
-    value_at-past w (take stride (drop (r * stride) ms)) c (let most : length (take stride (drop (r * stride) ms)) ≤ stride = rw length-take (omega arith) in let block : stride ≤ c / w = block_past w stride c pos past in omega (arith, most, block))
+    value_at-past w (take stride (drop (r * stride) ms)) c
+    (let most : length (take stride (drop (r * stride) ms)) ≤ stride = rw length-take (omega arith) in
+    let block : stride ≤ c / w = block_past w stride c pos past in omega (arith, most, block))
 
 -- what the slice has is what the row has
-pub slice_members : (w stride columns : ℕ) (ms : List ℕ) (r c : ℕ) → 0 < w → IsCleanPast w stride columns ms → columns ≤ stride * w → value_at w (take stride (drop (r * stride) ms)) c ≡ has (row_in w stride columns ms r) c
+pub slice_members : (w stride columns : ℕ) (ms : List ℕ) (r c : ℕ) → 0 < w → IsCleanPast w stride columns ms
+    → columns ≤ stride * w → value_at w (take stride (drop (r * stride) ms)) c ≡ has (row_in w stride columns ms r) c
 slice_members w stride columns ms r c pos clean enough =
     let member = has-row_in w stride columns ms r c in
     elim (cases_lt c (stride * w)) [

@@ -22,7 +22,9 @@ pub record IsPlace (w stride r c count : ℕ) : Type 0 where
   pub fits : r * (stride * w) + c < 2 ^ 64
   pub block : (r * (stride * w) + c) / w < count
 
-module _ {X : Type 0} {w : ℕ} {number : X → ℕ} {is_block : X → Type 0} {xs : List X} {rows columns stride : ℕ} {m : Matrix} (pos : 0 < w) (table : IsTable w number is_block xs rows columns stride) (is : matrix_in w stride rows columns (map number xs) ≡ m) where
+module _ {X : Type 0} {w : ℕ} {number : X → ℕ} {is_block : X → Type 0} {xs : List X}
+    {rows columns stride : ℕ} {m : Matrix} (pos : 0 < w) (table : IsTable w number is_block xs rows columns stride)
+    (is : matrix_in w stride rows columns (map number xs) ≡ m) where
   pub seen_rows : length m.rows ≡ rows
   seen_rows = ap (λ s. length s.rows) (sym is) ∙ length-rows_in w stride columns rows (map number xs)
 
@@ -71,7 +73,9 @@ module _ {X : Type 0} {w : ℕ} {number : X → ℕ} {is_block : X → Type 0} {
 
     written_row : (row_now : List ℕ) → IsAscending row_now → ((d : ℕ) → has row_now d ≡ (if c == d then b else has_at m r d)) → matrix_in w stride rows columns (map number ys) ≡ with_row m r row_now
     written_row row_now up members =
-        becomes_written w stride rows columns _ _ r c b written (omega (arith, seen_rows, row)) (omega (arith, seen_columns, column)) enough row_now up (λ d. members d ∙ ap (λ s. if c == d then b else has_at s r d) (sym is))
+        becomes_written w stride rows columns _ _ r c b written (omega (arith, seen_rows, row))
+        (omega (arith, seen_columns, column)) enough row_now up
+        (λ d. members d ∙ ap (λ s. if c == d then b else has_at s r d) (sym is))
         ∙ ap (λ s. with_row s r row_now) is
 
     pub becomes_put : b ≡ true → matrix_in w stride rows columns (map number ys) ≡ with_row m r (put (row_of m r) c)
@@ -96,18 +100,25 @@ module _ {X : Type 0} {w : ℕ} {number : X → ℕ} {is_block : X → Type 0} {
       ap length slice ∙ length-take-le stride (drop (r * stride) xs) (omega (arith, length-drop (r * stride) xs, within))
 
   -- whether the blocks of a row stay is whether the row does
-  pub told_by_blocks : (ys : List X) (q : ℕ) → q < length m.rows → IsCleanPast w stride columns (map number ys) → (law : (x : X) → is_block x → number x < 2 ^ w) → All is_block ys → (stays : Type 0) → (stays ↔ ((k : ℕ) → k < stride → get_or (map number ys) (q * stride + k) 0 ≡ get_or (map number xs) (q * stride + k) 0)) → stays ↔ (row_of (matrix_in w stride rows columns (map number ys)) q ≡ row_of m q)
-  told_by_blocks ys q write clean law each stays tells =
+  pub reported_by_blocks : (ys : List X) (q : ℕ) → q < length m.rows → IsCleanPast w stride columns (map number ys)
+      → (law : (x : X) → is_block x → number x < 2 ^ w) → All is_block ys → (stays : Type 0)
+      → (stays ↔ ((k : ℕ) → k < stride → get_or (map number ys) (q * stride + k) 0 ≡ get_or (map number xs)
+      (q * stride + k) 0)) → stays ↔ (row_of (matrix_in w stride rows columns (map number ys)) q ≡ row_of m q)
+  reported_by_blocks ys q write clean law each stays tells =
       let inside : q < rows = omega (arith, seen_rows, write) in
       let now = get_or-rows_in w stride columns rows (map number ys) q inside in
       let was : row_of m q ≡ row_in w stride columns (map number xs) q = ap (λ s. row_of s q) (sym is) ∙ get_or-rows_in w stride columns rows (map number xs) q inside in (
-        λ yes. now ∙ row_in-same w stride columns (map number xs) (map number ys) q (λ c below. row_stays w stride pos q (map number xs) (map number ys) (tells.0 yes) c (omega (arith, below, enough))) ∙ sym was,
-        λ same. tells.1 (blocks_stay w stride pos columns enough q (map number xs) (map number ys) table.clean clean (numbers_below w number is_block xs law table.each) (numbers_below w number is_block ys law each) (sym now ∙ same ∙ was)),
+        λ yes. now ∙ row_in-same w stride columns (map number xs) (map number ys) q
+            (λ c below. row_stays w stride pos q (map number xs) (map number ys) (tells.0 yes) c (omega (arith, below, enough)))
+            ∙ sym was,
+        λ same. tells.1 (blocks_stay w stride pos columns enough q (map number xs) (map number ys) table.clean clean
+            (numbers_below w number is_block xs law table.each) (numbers_below w number is_block ys law each) (sym now ∙ same ∙ was)),
       )
 
   -- ---- a row merged with another
 
-  module _ (merge : Merge) (ys : List X) (r q : ℕ) (read : r < length m.rows) (write : q < length m.rows) (merged : IsMergedPart merge w (r * stride) (q * stride) stride (map number xs) (map number xs) (map number ys)) where
+  module _ (merge : Merge) (ys : List X) (r q : ℕ) (read : r < length m.rows) (write : q < length m.rows)
+      (merged : IsMergedPart merge w (r * stride) (q * stride) stride (map number xs) (map number xs) (map number ys)) where
     pub merged_table : All is_block ys → length ys ≡ length xs → IsTable w number is_block ys rows columns stride
     merged_table each long = record {
       each = each;
@@ -118,7 +129,9 @@ module _ {X : Type 0} {w : ℕ} {number : X → ℕ} {is_block : X → Type 0} {
     }
 
     pub seen_merged : matrix_in w stride rows columns (map number ys) ≡ with_row m q (merge_of_sets merge (row_of m q) (row_of m r))
-    seen_merged = becomes_merged w stride pos columns enough merge rows r q _ _ (omega (arith, seen_rows, read)) (omega (arith, seen_rows, write)) merged ∙ ap (λ s. with_row s q (merge_of_sets merge (row_of s q) (row_of s r))) is
+    seen_merged =
+        becomes_merged w stride pos columns enough merge rows r q _ _ (omega (arith, seen_rows, read))
+        (omega (arith, seen_rows, write)) merged ∙ ap (λ s. with_row s q (merge_of_sets merge (row_of s q) (row_of s r))) is
 
 -- a row that stays leaves the matrix
 pub with_same_row : (m n : Matrix) (q : ℕ) (row : List ℕ) → n ≡ with_row m q row → q < length m.rows → row_of n q ≡ row_of m q → n ≡ m
@@ -128,15 +141,17 @@ with_same_row m n q row is within same =
 
 -- ---- what tests tell of two rows
 
-pub told_subset : (result : Bool) (w : ℕ) (ms ns s t : List ℕ) → (IsTrue result ↔ MergesToFalse Difference w ms ns) → ((c : ℕ) → value_at w ms c ≡ has s c) → ((c : ℕ) → value_at w ns c ≡ has t c) → result ≡ is_subset s t
-told_subset result w ms ns s t tells first second =
+pub reported_subset : (result : Bool) (w : ℕ) (ms ns s t : List ℕ) → (IsTrue result ↔ MergesToFalse Difference w ms ns)
+    → ((c : ℕ) → value_at w ms c ≡ has s c) → ((c : ℕ) → value_at w ns c ≡ has t c) → result ≡ is_subset s t
+reported_subset result w ms ns s t tells first second =
     let members = is_subset-members s t in
     let there = λ (yes : result ≡ true). members.1 (λ c is_in. let no = (tells.0 yes).value c in let a = first c in let b = second c in grind (arith, nat_tests)) in
     let back = λ (yes : is_subset s t ≡ true). tells.1 (record { value = λ c. let sub = members.0 yes c in let a = first c in let b = second c in grind (arith, nat_tests) }) in
     grind (arith, there, back)
 
-pub told_disjoint : (result : Bool) (w : ℕ) (ms ns s t : List ℕ) → (IsTrue result ↔ MergesToFalse Intersection w ms ns) → ((c : ℕ) → value_at w ms c ≡ has s c) → ((c : ℕ) → value_at w ns c ≡ has t c) → result ≡ is_disjoint s t
-told_disjoint result w ms ns s t tells first second =
+pub reported_disjoint : (result : Bool) (w : ℕ) (ms ns s t : List ℕ) → (IsTrue result ↔ MergesToFalse Intersection w ms ns)
+    → ((c : ℕ) → value_at w ms c ≡ has s c) → ((c : ℕ) → value_at w ns c ≡ has t c) → result ≡ is_disjoint s t
+reported_disjoint result w ms ns s t tells first second =
     let members = is_disjoint-members s t in
     let there = λ (yes : result ≡ true). members.1 (λ c is_in also. let no = (tells.0 yes).value c in let a = first c in let b = second c in grind (arith, nat_tests)) in
     let back = λ (yes : is_disjoint s t ≡ true). tells.1 (record { value = λ c. let apart = members.0 yes c in let a = first c in let b = second c in grind (arith, nat_tests) }) in

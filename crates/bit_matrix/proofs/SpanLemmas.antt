@@ -18,12 +18,16 @@ span-none a b past = ap (range_with_len a) (let e : b - a ≡ 0 = omega arith in
 
 -- all columns and those of a row are all columns
 pub all_columns : (s : List ℕ) (n : ℕ) → IsAscending s → ((c : ℕ) → n ≤ c → has s c ≡ false) → union s (span 0 n) ≡ span 0 n
-all_columns s n up past = same_members _ _ (IsAscending-put_all s (span 0 n) up) (IsAscending-span 0 n) (λ c. has-union s (span 0 n) c ∙ (let here = has-span 0 n c in let none = past c in grind (arith, nat_tests)))
+all_columns s n up past =
+    same_members _ _ (IsAscending-put_all s (span 0 n) up) (IsAscending-span 0 n)
+    (λ c. has-union s (span 0 n) c ∙ (let here = has-span 0 n c in let none = past c in grind (arith, nat_tests)))
 
 pub empty_row : (m : Matrix) → IsMatrix m → m.columns ≡ 0 → (r : ℕ) → with_row m r [] ≡ m
 empty_row m is none r = ap (with_row m r) (sym (none_from_members (row_of m r) (λ c. none_past m is r c (omega (arith, none))))) ∙ with_row_of m r
 
-module _ (merge : Merge) (w stride : ℕ) (ms ns : List ℕ) (r start end first last : ℕ) (at : first ≡ r * (stride * w) + start) (to : last ≡ r * (stride * w) + end) (forward : start ≤ end) (inside : end ≤ stride * w) (merged : IsMergedSpan merge w first last ms ns) where
+module _ (merge : Merge) (w stride : ℕ) (ms ns : List ℕ) (r start end first last : ℕ) (at : first ≡ r * (stride * w) + start)
+    (to : last ≡ r * (stride * w) + end) (forward : start ≤ end) (inside : end ≤ stride * w)
+    (merged : IsMergedSpan merge w first last ms ns) where
   span_inside : (c : ℕ) → start ≤ c → c < end → bit_of w stride ns r c ≡ merge_of_values merge (bit_of w stride ms r c) true
   span_inside c from below = merged.inside (r * (stride * w) + c) (omega (arith, at)) (omega (arith, to))
 
@@ -62,8 +66,12 @@ module _ (merge : Merge) (w stride : ℕ) (ms ns : List ℕ) (r start end first 
     ];
   }
 
-module _ {X : Type 0} {w : ℕ} {number : X → ℕ} {is_block : X → Type 0} {xs : List X} {rows columns stride : ℕ} {m : Matrix} (pos : 0 < w) (table : IsTable w number is_block xs rows columns stride) (is : matrix_in w stride rows columns (map number xs) ≡ m)
-    (merge : Merge) (ys : List X) (r start end first last : ℕ) (row : r < length m.rows) (at : first ≡ r * (stride * w) + start) (to : last ≡ r * (stride * w) + end) (forward : start ≤ end) (inside : end ≤ stride * w) (merged : IsMergedSpan merge w first last (map number xs) (map number ys)) where
+module _ {X : Type 0} {w : ℕ} {number : X → ℕ} {is_block : X → Type 0} {xs : List X}
+    {rows columns stride : ℕ} {m : Matrix} (pos : 0 < w) (table : IsTable w number is_block xs rows columns stride)
+    (is : matrix_in w stride rows columns (map number xs) ≡ m)
+    (merge : Merge) (ys : List X) (r start end first last : ℕ) (row : r < length m.rows)
+    (at : first ≡ r * (stride * w) + start) (to : last ≡ r * (stride * w) + end) (forward : start ≤ end)
+    (inside : end ≤ stride * w) (merged : IsMergedSpan merge w first last (map number xs) (map number ys)) where
   pub span_table : ((c : ℕ) → columns ≤ c → c < end → merge_of_values merge false true ≡ false) → All is_block ys → length ys ≡ length xs → IsTable w number is_block ys rows columns stride
   span_table clears each long = record {
     each = each;
@@ -73,7 +81,10 @@ module _ {X : Type 0} {w : ℕ} {number : X → ℕ} {is_block : X → Type 0} {
     fits = table.fits;
   }
 
-  pub becomes_spanned : (xs_now : List ℕ) → IsAscending xs_now → ((c : ℕ) → c < columns → has xs_now c ≡ (if in_range start end c then merge_of_values merge (has_at m r c) true else has_at m r c)) → ((c : ℕ) → columns ≤ c → has xs_now c ≡ false) → matrix_in w stride rows columns (map number ys) ≡ with_row m r xs_now
+  pub becomes_spanned : (xs_now : List ℕ) → IsAscending xs_now
+      → ((c : ℕ) → c < columns → has xs_now c ≡ (if in_range start end c then merge_of_values merge
+      (has_at m r c) true else has_at m r c)) → ((c : ℕ) → columns ≤ c → has xs_now c ≡ false)
+      → matrix_in w stride rows columns (map number ys) ≡ with_row m r xs_now
   becomes_spanned xs_now up members past =
       let within : r < rows = omega (arith, row, seen_rows pos table is) in
       becomes w stride columns rows (map number xs) (map number ys) r xs_now within up

@@ -17,7 +17,8 @@ all_put P front xs ys back all here =
     All-append P front (ys ++ back) low (All-append P ys back here high)
 
 -- a strip that is put into the blocks
-pub rows_transposed : (w width stride k at : ℕ) (ms ps qs olds news : List ℕ) → at ≡ k * (w * width) → length ps ≡ w * width → IsPut at ps qs olds news → IsTransposedStrip w width stride k ms qs → AreRowsTransposed w width stride k ms olds news
+pub rows_transposed : (w width stride k at : ℕ) (ms ps qs olds news : List ℕ) → at ≡ k * (w * width) → length ps ≡ w * width
+    → IsPut at ps qs olds news → IsTransposedStrip w width stride k ms qs → AreRowsTransposed w width stride k ms olds news
 rows_transposed w width stride k at ms ps qs olds news here long put strip = record {
   digit = λ i g j row inside column.
       let e : (k * w + i) * width + g ≡ at + (i * width + g) = (let parts = add-mul (k * w) i width in let all = mul_assoc k w width in omega (arith, parts, all, here)) in
@@ -37,8 +38,13 @@ strip_within w width rows k count whole is =
     let more = add-mul k 1 (w * width) in
     omega (arith, least, parts, more, is)
 
-module _ {X : Type 0} {w : ℕ} {number : X → ℕ} {is_block : X → Type 0} {xs ys : List X} {rows columns stride turned_rows turned_columns width : ℕ} {m t : Matrix} (zs : List X) (k : ℕ) (pos : 0 < w) (table : IsTable w number is_block xs rows columns stride) (is : matrix_in w stride rows columns (map number xs) ≡ m)
-    (turned : IsTable w number is_block ys turned_rows turned_columns width) (turned_is : matrix_in w width turned_rows turned_columns (map number ys) ≡ t) (as_rows : turned_rows ≡ columns) (as_columns : turned_columns ≡ rows) (whole : (k + 1) * w ≤ columns) (now : AreRowsTransposed w width stride k (map number xs) (map number ys) (map number zs)) where
+module _ {X : Type 0} {w : ℕ} {number : X → ℕ} {is_block : X → Type 0} {xs ys : List X}
+    {rows columns stride turned_rows turned_columns width : ℕ} {m t : Matrix} (zs : List X) (k : ℕ) (pos : 0 < w)
+    (table : IsTable w number is_block xs rows columns stride) (is : matrix_in w stride rows columns (map number xs) ≡ m)
+    (turned : IsTable w number is_block ys turned_rows turned_columns width)
+    (turned_is : matrix_in w width turned_rows turned_columns (map number ys) ≡ t) (as_rows : turned_rows ≡ columns)
+    (as_columns : turned_columns ≡ rows) (whole : (k + 1) * w ≤ columns)
+    (now : AreRowsTransposed w width stride k (map number xs) (map number ys) (map number zs)) where
   -- the parts of a column in the strip
   in_block : (c : ℕ) → k * w ≤ c → c < (k + 1) * w → (c / w ≡ k) × (k * w + c % w ≡ c)
   in_block c from below =
@@ -100,15 +106,25 @@ module _ {X : Type 0} {w : ℕ} {number : X → ℕ} {is_block : X → Type 0} {
 
   pub strip_bits : (r c : ℕ) → k * w ≤ c → c < (k + 1) * w → has_at (matrix_in w width turned_rows turned_columns (map number zs)) c r ≡ has_at m r c
   strip_bits r c from below = elim (cases_lt r rows) [
-    | inl inside ↦ has_at-below w width turned_columns turned_rows (map number zs) c r (omega (arith, below, whole, as_rows)) (omega (arith, inside, as_columns)) ∙ in_strip r c from below (omega (arith, inside, turned_enough, as_columns)) ∙ sym (has_at-below w stride columns rows (map number xs) r c inside (omega (arith, below, whole))) ∙ ap (λ s. has_at s r c) is
-    | inr past ↦ has_at-past w width turned_columns turned_rows (map number zs) c r (omega (arith, past, as_columns)) ∙ sym (ap (λ s. has_at s r c) (sym is) ∙ ap (λ row. has row c) (row_of-past w stride columns rows (map number xs) r past))
+    | inl inside ↦ has_at-below w width turned_columns turned_rows (map number zs) c r (omega (arith, below, whole, as_rows))
+        (omega (arith, inside, as_columns)) ∙ in_strip r c from below (omega (arith, inside, turned_enough, as_columns))
+        ∙ sym (has_at-below w stride columns rows (map number xs) r c inside (omega (arith, below, whole)))
+        ∙ ap (λ s. has_at s r c) is
+    | inr past ↦ has_at-past w width turned_columns turned_rows (map number zs) c r (omega (arith, past, as_columns))
+        ∙ sym (ap (λ s. has_at s r c) (sym is) ∙ ap (λ row. has row c) (row_of-past w stride columns rows (map number xs) r past))
   ]
 
   pub other_bits : (r c : ℕ) → (c < k * w) ⊎ ((k + 1) * w ≤ c) → has_at (matrix_in w width turned_rows turned_columns (map number zs)) c r ≡ has_at t c r
   other_bits r c apart = elim (cases_lt c turned_rows) [
     | inl row ↦ elim (cases_lt r turned_columns) [
-      | inl inside ↦ has_at-below w width turned_columns turned_rows (map number zs) c r row inside ∙ elsewhere r c apart (omega (arith, inside, turned_enough)) ∙ sym (has_at-below w width turned_columns turned_rows (map number ys) c r row inside) ∙ ap (λ s. has_at s c r) turned_is
-      | inr past ↦ has_at-past w width turned_columns turned_rows (map number zs) c r past ∙ sym (ap (λ s. has_at s c r) (sym turned_is) ∙ has_at-past w width turned_columns turned_rows (map number ys) c r past)
+      | inl inside ↦ has_at-below w width turned_columns turned_rows (map number zs) c r row inside
+          ∙ elsewhere r c apart (omega (arith, inside, turned_enough))
+          ∙ sym (has_at-below w width turned_columns turned_rows (map number ys) c r row inside)
+          ∙ ap (λ s. has_at s c r) turned_is
+      | inr past ↦ has_at-past w width turned_columns turned_rows (map number zs) c r past
+          ∙ sym (ap (λ s. has_at s c r) (sym turned_is) ∙ has_at-past w width turned_columns turned_rows (map number ys) c r past)
     ]
-    | inr beyond ↦ ap (λ row. has row r) (row_of-past w width turned_columns turned_rows (map number zs) c beyond) ∙ sym (ap (λ s. has_at s c r) (sym turned_is) ∙ ap (λ row. has row r) (row_of-past w width turned_columns turned_rows (map number ys) c beyond))
+    | inr beyond ↦ ap (λ row. has row r) (row_of-past w width turned_columns turned_rows (map number zs) c beyond)
+        ∙ sym (ap (λ s. has_at s c r) (sym turned_is)
+        ∙ ap (λ row. has row r) (row_of-past w width turned_columns turned_rows (map number ys) c beyond))
   ]

@@ -1,6 +1,10 @@
 -- What the rows of a table have, and what becomes of them where its bits change.
 use Rattle.std.proofs.Common.{◌≡◌, ◌≢◌, ℕ, ◌+◌, ◌*◌, ◌/◌, ◌<◌, ◌≤◌, ◌==◌, Bool, false, ◌&&◌, if◌then◌else◌, nat_lt, List, [], length, get_or, set, replicate, sym, ap, ◌∙◌, arith, inl, inr}
-use Rattle.std.proofs.lemmas.{Bool.{cases_eq, cases_lt, eq-eqb, ne_eqb, true≢false, Decides.nat_tests}, Nat.{div_below, mul-add-lt, same_from_place}, List.{ext_get_or, get_or-set_other, get_or-set_same, get_or-replicate, get_or_past, length-replicate, length-set, FromFn.{length-map-range_with_len, get_or-map-range_with_len}}}
+use Rattle.std.proofs.lemmas.Bool.{cases_eq, cases_lt, eq-eqb, ne_eqb, true≢false, Decides.nat_tests}
+use Rattle.std.proofs.lemmas.Nat.{div_below, mul-add-lt, same_from_place}
+use Rattle.std.proofs.lemmas.List.{ext_get_or, get_or-set_other, get_or-set_same, get_or-replicate, get_or_past}
+use Rattle.std.proofs.lemmas.List.{length-replicate, length-set}
+use Rattle.std.proofs.lemmas.List.FromFn.{length-map-range_with_len, get_or-map-range_with_len}
 use Rattle.bit_blocks.specs.Storage.{WritesValue}
 use Rattle.bit_set.specs.{Ranges.span, Sets.{IsAscending, has}}
 use Rattle.bit_set.proofs.{RangeLemmas.{IsAscending-span, has-span}, SetLemmas.{AscendsFrom-filter, has-filter, same_members}}
@@ -32,7 +36,9 @@ module _ (w stride columns : ℕ) where
   has-row_in_below ms r c below = has-row_in ms r c ∙ grind (arith, nat_tests)
 
   -- a row by its members
-  pub row_in-is : (ms : List ℕ) (r : ℕ) (xs : List ℕ) → IsAscending xs → ((c : ℕ) → c < columns → bit_of w stride ms r c ≡ has xs c) → ((c : ℕ) → columns ≤ c → has xs c ≡ false) → row_in w stride columns ms r ≡ xs
+  pub row_in-is : (ms : List ℕ) (r : ℕ) (xs : List ℕ) → IsAscending xs
+      → ((c : ℕ) → c < columns → bit_of w stride ms r c ≡ has xs c) → ((c : ℕ) → columns ≤ c → has xs c ≡ false)
+      → row_in w stride columns ms r ≡ xs
   row_in-is ms r xs up inside past =
       same_members _ xs (IsAscending-row_in ms r) up (λ c. has-row_in ms r c ∙ elim (cases_lt c columns) [
         | inl below ↦ let here = inside c below in grind (arith, nat_tests)
@@ -91,20 +97,26 @@ module _ (w stride columns : ℕ) where
     }
 
     -- one row became what has these members
-    pub becomes : (ms ns : List ℕ) (r : ℕ) (xs : List ℕ) → r < rows → IsAscending xs → ((c : ℕ) → c < columns → bit_of w stride ns r c ≡ has xs c) → ((c : ℕ) → columns ≤ c → has xs c ≡ false) → ((q c : ℕ) → q ≢ r → c < columns → bit_of w stride ns q c ≡ bit_of w stride ms q c)
+    pub becomes : (ms ns : List ℕ) (r : ℕ) (xs : List ℕ) → r < rows → IsAscending xs
+        → ((c : ℕ) → c < columns → bit_of w stride ns r c ≡ has xs c) → ((c : ℕ) → columns ≤ c → has xs c ≡ false)
+        → ((q c : ℕ) → q ≢ r → c < columns → bit_of w stride ns q c ≡ bit_of w stride ms q c)
         → matrix_in w stride rows columns ns ≡ with_row (matrix_in w stride rows columns ms) r xs
     becomes ms ns r xs within up inside past others =
         ap (λ (xss : List (List ℕ)). let m : Matrix = record { rows = xss; columns = columns } in m)
         (rows_in-is ns _ (length-set (rows_in w stride rows columns ms) r xs ∙ length-rows_in ms) (λ q below. elim (cases_eq q r) [
           | inl here ↦
               let at : r < length (rows_in w stride rows columns ms) = omega (arith, length-rows_in ms) in
-              ap (row_in w stride columns ns) here ∙ row_in-is ns r xs up inside past ∙ sym (ap (λ k. get_or (set (rows_in w stride rows columns ms) r xs) k []) here ∙ get_or-set_same (rows_in w stride rows columns ms) r xs [] at)
+              ap (row_in w stride columns ns) here ∙ row_in-is ns r xs up inside past
+              ∙ sym (ap (λ k. get_or (set (rows_in w stride rows columns ms) r xs) k []) here
+              ∙ get_or-set_same (rows_in w stride rows columns ms) r xs [] at)
           | inr other ↦ row_in-same ms ns q (λ c. others q c other) ∙ sym (get_or-set_other (rows_in w stride rows columns ms) r q xs [] other ∙ get_or-rows_in ms q below)
         ]))
 
 -- ---- one bit written
 
-module _ (w stride rows columns : ℕ) (ms ns : List ℕ) (r c : ℕ) (b : Bool) (written : WritesValue w ms ns (r * (stride * w) + c) b) (row : r < rows) (column : c < columns) (enough : columns ≤ stride * w) where
+module _ (w stride rows columns : ℕ) (ms ns : List ℕ) (r c : ℕ) (b : Bool)
+    (written : WritesValue w ms ns (r * (stride * w) + c) b) (row : r < rows) (column : c < columns)
+    (enough : columns ≤ stride * w) where
   bit_other : (q d : ℕ) → d < stride * w → (q ≡ r → d ≢ c) → bit_of w stride ns q d ≡ bit_of w stride ms q d
   bit_other q d inside apart =
       written.others (q * (stride * w) + d) (λ e. let same = same_from_place q d r c (stride * w) inside (omega (arith, column, enough)) e in apart same.0 same.1)
@@ -113,12 +125,16 @@ module _ (w stride rows columns : ℕ) (ms ns : List ℕ) (r c : ℕ) (b : Bool)
   written_clean clean = record { tail = λ q d past within. bit_other q d within (λ _ e. omega (arith, e, past, column)) ∙ clean.tail q d past within }
 
   -- the row has what it had, and c where b is true
-  pub becomes_written : (xs : List ℕ) → IsAscending xs → ((d : ℕ) → has xs d ≡ (if c == d then b else has_at (matrix_in w stride rows columns ms) r d)) → matrix_in w stride rows columns ns ≡ with_row (matrix_in w stride rows columns ms) r xs
+  pub becomes_written : (xs : List ℕ) → IsAscending xs
+      → ((d : ℕ) → has xs d ≡ (if c == d then b else has_at (matrix_in w stride rows columns ms) r d))
+      → matrix_in w stride rows columns ns ≡ with_row (matrix_in w stride rows columns ms) r xs
   becomes_written xs up members =
       becomes w stride columns rows ms ns r xs row up
       (λ d below. elim (cases_eq c d) [
         | inl here ↦ ap (bit_of w stride ns r) (sym here) ∙ written.same ∙ sym (members d ∙ let is = eq-eqb c d here in grind (arith, nat_tests))
-        | inr other ↦ bit_other r d (omega (arith, enough, below)) (λ _ e. other (sym e)) ∙ sym (has_at-below w stride columns rows ms r d row below) ∙ sym (members d ∙ let is = ne_eqb c d other in grind (arith, nat_tests))
+        | inr other ↦ bit_other r d (omega (arith, enough, below)) (λ _ e. other (sym e))
+            ∙ sym (has_at-below w stride columns rows ms r d row below)
+            ∙ sym (members d ∙ let is = ne_eqb c d other in grind (arith, nat_tests))
       ])
       (λ d past. members d ∙ (let is = ne_eqb c d (λ e. omega (arith, e, past, column)) in let none = has_at-past w stride columns rows ms r d past in grind (arith, nat_tests)))
       (λ q d other below. bit_other q d (omega (arith, enough, below)) (λ e. absurd (other e)))
@@ -134,7 +150,11 @@ changes_row old new r xs f within is members = record {
 }
 
 -- all rows have the same columns
-pub is_matrix_of : (w stride rows columns : ℕ) (ms xs : List ℕ) → IsAscending xs → ((r c : ℕ) → r < rows → c < columns → bit_of w stride ms r c ≡ has xs c) → ((c : ℕ) → columns ≤ c → has xs c ≡ false) → matrix_in w stride rows columns ms ≡ matrix_of rows columns xs
+pub is_matrix_of : (w stride rows columns : ℕ) (ms xs : List ℕ) → IsAscending xs
+    → ((r c : ℕ) → r < rows → c < columns → bit_of w stride ms r c ≡ has xs c) → ((c : ℕ) → columns ≤ c → has xs c ≡ false)
+    → matrix_in w stride rows columns ms ≡ matrix_of rows columns xs
 is_matrix_of w stride rows columns ms xs up inside past =
     ap (λ (xss : List (List ℕ)). let m : Matrix = record { rows = xss; columns = columns } in m)
-    (rows_in-is w stride columns rows ms (replicate rows xs) (length-replicate rows xs) (λ r within. row_in-is w stride columns ms r xs up (λ c. inside r c within) past ∙ sym (get_or-replicate rows r xs [] within)))
+    (rows_in-is w stride columns rows ms (replicate rows xs) (length-replicate rows xs)
+    (λ r within. row_in-is w stride columns ms r xs up (λ c. inside r c within) past
+    ∙ sym (get_or-replicate rows r xs [] within)))

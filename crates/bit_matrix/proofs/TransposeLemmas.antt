@@ -1,6 +1,8 @@
 -- Squares of bits that are exchanged, one pair after another, until all in a strip are transposed.
 use Rattle.std.proofs.Common.{◌≡◌, ◌≢◌, ℕ, ◌+◌, ◌-◌, ◌*◌, ◌/◌, ◌%◌, ◌<◌, ◌≤◌, ◌==◌, ◌⊎◌, Bool, true, false, ◌&&◌, ◌||◌, nat_lt, List, get_or, refl, sym, ap, ap₂, ◌∙◌, arith, inl, inr}
-use Rattle.std.proofs.lemmas.{Bool.{cases_eq, cases_lt, eq-eqb, ne_eqb, true≢false, Decides.nat_tests}, Nat.{div-add-mod', div-mul-add, div_below, mod-mul-add, mod_below, mul-add-lt, mul-le, row_fits, same_from_place}}
+use Rattle.std.proofs.lemmas.Bool.{cases_eq, cases_lt, eq-eqb, ne_eqb, true≢false, Decides.nat_tests}
+use Rattle.std.proofs.lemmas.Nat.{div-add-mod', div-mul-add, div_below, mod-mul-add, mod_below, mul-add-lt, mul-le, row_fits}
+use Rattle.std.proofs.lemmas.Nat.{same_from_place}
 use Rattle.std.proofs.Math.Nat.{add-mul, mul_assoc, mul_comm}
 use Rattle.bit_blocks.specs.Digits.{is_one}
 use Rattle.bit_matrix.specs.Squares.{AreExchanged, ArePairsExchanged, AreSquaresExchanged, IsExchanged, IsTransposedStrip, digit_in, index_of}
@@ -83,9 +85,13 @@ square_of s n h a x within inside = ap (λ k. k % n) (div-mul-add (h * n + a) s 
 
 -- So many rows of square a are exchanged with those of square b, and the other rows stay.
 pub record AreRowsExchanged (w stride s n a b left right count : ℕ) (ms ns : List ℕ) : Type 0 where
-  pub each : (m q : ℕ) → m < count → q < stride → IsExchanged w ((b - a) * s) left right (get_or ms (index_of s n (m / s) a (m % s) * stride + q) 0) (get_or ms (index_of s n (m / s) b (m % s) * stride + q) 0)
+  pub each : (m q : ℕ) → m < count → q < stride
+      → IsExchanged w ((b - a) * s) left right (get_or ms (index_of s n (m / s) a (m % s) * stride + q) 0)
+      (get_or ms (index_of s n (m / s) b (m % s) * stride + q) 0)
       (get_or ns (index_of s n (m / s) a (m % s) * stride + q) 0) (get_or ns (index_of s n (m / s) b (m % s) * stride + q) 0)
-  pub others : (r q : ℕ) → q < stride → ((m : ℕ) → m < count → (r ≢ index_of s n (m / s) a (m % s)) × (r ≢ index_of s n (m / s) b (m % s))) → get_or ns (r * stride + q) 0 ≡ get_or ms (r * stride + q) 0
+  pub others : (r q : ℕ) → q < stride → ((m : ℕ) → m < count
+      → (r ≢ index_of s n (m / s) a (m % s)) × (r ≢ index_of s n (m / s) b (m % s)))
+      → get_or ns (r * stride + q) 0 ≡ get_or ms (r * stride + q) 0
 
 pub no_rows : (w stride s n a b left right : ℕ) (ms : List ℕ) → AreRowsExchanged w stride s n a b left right 0 ms ms
 no_rows w stride s n a b left right ms = record { each = λ m q below. absurd (omega arith); others = λ r q inside apart. refl }
@@ -122,14 +128,16 @@ module _ (w stride s n a b left right count : ℕ) (ms ns os : List ℕ) (some :
       | inl last ↦ rw last (rw (← was (row a count) q inside (inl refl), ← was (row b count) q inside (inr refl)) (now.each q inside))
       | inr other ↦
           let low : a < n = omega (arith, order, square) in
-          rw (stays (row a m) q inside (apart a a m count low low other) (apart_squares m count), stays (row b m) q inside (λ e. apart_squares count m (sym e)) (apart b b m count square square other)) (before.each m q (omega (arith, below, other)) inside)
+          rw (stays (row a m) q inside (apart a a m count low low other) (apart_squares m count), stays (row b m) q inside (λ e. apart_squares count m (sym e)) (apart b b m count square square other))
+          (before.each m q (omega (arith, below, other)) inside)
     ];
     others = λ r q inside none. stays r q inside (none count (omega arith)).0 (none count (omega arith)).1 ∙ before.others r q inside (λ m below. none m (omega (arith, below)));
   }
 
 -- all rows of both squares are exchanged, and so the squares are
 module _ (w stride s n a b left right : ℕ) (ms ns : List ℕ) (some : 0 < s) (whole : w % (n * s) ≡ 0) (order : a < b) (square : b < n)
-    (lefts : (c : ℕ) → c < w → is_one left c ≡ (c / s % n == a)) (rights : (c : ℕ) → c < w → is_one right c ≡ (c / s % n == b)) (rows : AreRowsExchanged w stride s n a b left right (w / n) ms ns) where
+    (lefts : (c : ℕ) → c < w → is_one left c ≡ (c / s % n == a)) (rights : (c : ℕ) → c < w
+    → is_one right c ≡ (c / s % n == b)) (rows : AreRowsExchanged w stride s n a b left right (w / n) ms ns) where
   many : 0 < n
   many = omega (arith, square)
 
@@ -140,7 +148,10 @@ module _ (w stride s n a b left right : ℕ) (ms ns : List ℕ) (some : 0 < s) (
   in_b k d y group within inside = rights (index_of s n k d y) (index_within w s n some many whole k d y group within inside) ∙ ap (λ c. c == b) (square_of s n k d y within inside)
 
   -- the row of a place
-  here : (q h x : ℕ) → q < stride → h < w / (n * s) → x < s → IsExchanged w ((b - a) * s) left right (get_or ms (index_of s n h a x * stride + q) 0) (get_or ms (index_of s n h b x * stride + q) 0) (get_or ns (index_of s n h a x * stride + q) 0) (get_or ns (index_of s n h b x * stride + q) 0)
+  here : (q h x : ℕ) → q < stride → h < w / (n * s) → x < s
+      → IsExchanged w ((b - a) * s) left right (get_or ms (index_of s n h a x * stride + q) 0)
+      (get_or ms (index_of s n h b x * stride + q) 0) (get_or ns (index_of s n h a x * stride + q) 0)
+      (get_or ns (index_of s n h b x * stride + q) 0)
   here q h x inside group within =
       rw (div-mul-add h s x within, mod-mul-add h s x within) at (rows.each (h * s + x) q (place_below w s n some many whole h x group within) inside)
 
@@ -158,7 +169,8 @@ module _ (w stride s n a b left right : ℕ) (ms ns : List ℕ) (some : 0 < s) (
     others = λ q h k c d x y inside group also one two within too first second. elim (cases_eq c a) [
       | inl is ↦ rw is ((here q h x inside group within).upper (index_of s n k d y) (index_within w s n some many whole k d y also two too) (in_b k d y also two too ∙ ne_eqb d b (λ e. first (is, e))))
       | inr not_a ↦ elim (cases_eq c b) [
-        | inl is ↦ rw is ((here q h x inside group within).lower (index_of s n k d y) (index_within w s n some many whole k d y also two too) (in_a k d y also two too ∙ ne_eqb d a (λ e. second (is, e))))
+        | inl is ↦ rw is ((here q h x inside group within).lower (index_of s n k d y)
+            (index_within w s n some many whole k d y also two too) (in_a k d y also two too ∙ ne_eqb d a (λ e. second (is, e))))
         | inr not_b ↦ ap (λ m. is_one m (index_of s n k d y)) (rows.others (index_of s n h c x) q inside (λ m below. (
           λ e. not_a (same_parts s n h (m / s) c a x (m % s) one (omega (arith, order, square)) within (mod_below m s some) e).1,
           λ e. not_b (same_parts s n h (m / s) c b x (m % s) one square within (mod_below m s some) e).1,
@@ -259,7 +271,9 @@ pair_more w stride s n b a ms ns os order square pairs now = record {
 
 pub all_pairs : (w stride s n : ℕ) (ms ns : List ℕ) → ArePairsDone w stride s n n 0 ms ns → AreSquaresExchanged w stride s n ms ns
 all_pairs w stride s n ms ns pairs = record {
-  moved = λ q h k a b x y inside group also one two within too. pairs.moved q h k a b x y inside group also one two within too (let e : is_done n 0 a b ≡ true = grind (arith, nat_tests, one, two) in e);
+  moved = λ q h k a b x y inside group also one two within too.
+      pairs.moved q h k a b x y inside group also one two within too
+      (let e : is_done n 0 a b ≡ true = grind (arith, nat_tests, one, two) in e);
 }
 
 -- ---- from small squares to all of a strip
@@ -273,7 +287,8 @@ single w stride ms = record {
   digit = λ q h k a b inside group also one two. let same : a ≡ b = omega (arith, one, two) in ap₂ (λ c d. digit_in stride ms (h * 1 + c) q (k * 1 + d)) same (sym same);
 }
 
-module _ (w stride s n : ℕ) (ms ns os : List ℕ) (some : 0 < s) (many : 0 < n) (whole : w % (n * s) ≡ 0) (squares : AreSquaresTransposed w stride s ms ns) (now : AreSquaresExchanged w stride s n ns os) where
+module _ (w stride s n : ℕ) (ms ns os : List ℕ) (some : 0 < s) (many : 0 < n) (whole : w % (n * s) ≡ 0)
+    (squares : AreSquaresTransposed w stride s ms ns) (now : AreSquaresExchanged w stride s n ns os) where
   -- an index in a greater square by its place in a smaller one
   by_parts : (h a : ℕ) → index_of s n h (a / s) (a % s) ≡ h * (n * s) + a
   by_parts h a =
@@ -322,10 +337,15 @@ some_squares w s pos whole = elim (cases_eq (w / s) 0) [
 ]
 
 -- one square is all rows
-pub whole_strip : (w width stride k s : ℕ) (ms ns os : List ℕ) → 0 < w → s ≡ w → AreSquaresTransposed w width s ns os → ((i g : ℕ) → i < w → g < width → get_or ns (i * width + g) 0 ≡ get_or ms ((g * w + i) * stride + k) 0) → IsTransposedStrip w width stride k ms os
+pub whole_strip : (w width stride k s : ℕ) (ms ns os : List ℕ) → 0 < w → s ≡ w → AreSquaresTransposed w width s ns os
+    → ((i g : ℕ) → i < w → g < width → get_or ns (i * width + g) 0 ≡ get_or ms ((g * w + i) * stride + k) 0)
+    → IsTransposedStrip w width stride k ms os
 whole_strip w width stride k s ms ns os pos is squares loaded = record {
   digit = λ i g j row inside column.
       let one : 0 < w / s = rw is (let e : w / w ≡ 1 = ap (λ n. n / w) (let f : w ≡ 1 * w + 0 = omega arith in f) ∙ div-mul-add 1 w 0 pos in omega (arith, e)) in
       let first = λ (n : ℕ). let e : n ≡ 0 * s + n = omega arith in e in
-      ap₂ (λ a b. digit_in width os a g b) (first i) (first j) ∙ squares.digit g 0 0 i j inside one one (omega (arith, row, is)) (omega (arith, column, is)) ∙ ap₂ (λ a b. digit_in width ns a g b) (sym (first j)) (sym (first i)) ∙ ap (λ m. is_one m i) (loaded j g column inside);
+      ap₂ (λ a b. digit_in width os a g b) (first i) (first j)
+      ∙ squares.digit g 0 0 i j inside one one (omega (arith, row, is)) (omega (arith, column, is))
+      ∙ ap₂ (λ a b. digit_in width ns a g b) (sym (first j)) (sym (first i))
+      ∙ ap (λ m. is_one m i) (loaded j g column inside);
 }

@@ -15,7 +15,7 @@ pub record AreApart (read write count : ℕ) : Type 0 where
   pub apart : (read ≡ write) ⊎ (read + count ≤ write ⊎ write + count ≤ read)
 
 -- Block k of xs is merged with that of os. A second block is 0 now just where it was, and block k stays.
-pub record IsNotedBlock {X : Type 0} (merge : Merge) (w : ℕ) (number : X → ℕ) (is_block : X → Type 0) (k : ℕ)
+pub record IsTrackedBlock {X : Type 0} (merge : Merge) (w : ℕ) (number : X → ℕ) (is_block : X → Type 0) (k : ℕ)
     (xs os : List X) (merged was now : X) : Type 0 where
   pub digit : (j : ℕ) → j < w → is_one (number merged) j
       ≡ merge_of_values merge (is_one (get_or (map number xs) k 0) j) (is_one (get_or (map number os) k 0) j)
@@ -25,7 +25,7 @@ pub record IsNotedBlock {X : Type 0} (merge : Merge) (w : ℕ) (number : X → �
 
 -- The blocks xs became ys: those from start to before end are what they merge to with os. A block is 0 now just where it
 -- was, and all of these stay.
-pub record IsNotedMerge {X : Type 0} (merge : Merge) (w : ℕ) (number : X → ℕ) (is_block : X → Type 0) (start end : ℕ)
+pub record IsTrackedMerge {X : Type 0} (merge : Merge) (w : ℕ) (number : X → ℕ) (is_block : X → Type 0) (start end : ℕ)
     (xs os ys : List X) (was now : X) : Type 0 where
   pub has : HasMerged merge w number is_block start end (other_at (map number os)) xs ys
   pub of_block : is_block now

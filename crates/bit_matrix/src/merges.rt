@@ -1,8 +1,8 @@
-// Merges of blocks with others of one list, or of another list, each by the digits of every block. What changes is noted on
-// the way, in one block: the compiler takes the note out where nothing reads it.
-ghost use Rattle.std.specs.Prelude.{◌≡◌, ℕ, ◌+◌, ◌*◌, ◌<◌, ◌≤◌, ◌⊎◌, ◌↔◌, All, IsTrue, false, get_or, length, map};
+// Merges of blocks with others of one list, or of another list, each by the digits of every block. Each keeps, in one
+// block, whether one of them changed: the compiler takes it out where nothing reads it.
+ghost use Rattle.std.specs.Prelude.{◌≡◌, ℕ, ◌+◌, ◌*◌, ◌<◌, ◌≤◌, ◌↔◌, All, false, get_or, length, map};
 ghost use Rattle.bit_blocks.specs.BlockMerges.{other_at, AreKept, CanMerge, HasMerged};
-ghost use Rattle.bit_matrix.specs.Merges.{IsMergedPart, IsNotedBlock, IsNotedMerge, AreApart};
+ghost use Rattle.bit_matrix.specs.Merges.{IsMergedPart, IsTrackedBlock, IsTrackedMerge, AreApart};
 
 use crate::BitBlock;
 use bit_blocks::packed::{block_at, or_mismatch, put_in, same};
@@ -15,7 +15,7 @@ fn merged_at<B: BitBlock, O: Operation>(blocks: &[B], others: &[B], k: usize, se
     requires can { CanMerge B.is_block blocks.now (length others.now) (All B.is_block others.now) }
     requires within { k < length others.now }
     requires seen { B.is_block seen }
-    ensures { IsNotedBlock O.merge B.width B.number B.is_block k blocks.now others.now result.0 seen result.1 }
+    ensures { IsTrackedBlock O.merge B.width B.number B.is_block k blocks.now others.now result.0 seen result.1 }
 {
     let block = block_at(blocks, k);
     let merged = O::of_blocks(block, block_at(others, k));
@@ -35,13 +35,13 @@ fn merge_each<B: BitBlock, O: Operation>(
     requires can { CanMerge B.is_block blocks.old (length others.now) (All B.is_block others.now) }
     requires within { start + count ≤ length others.now }
     requires seen { B.is_block seen }
-    ensures { IsNotedMerge O.merge B.width B.number B.is_block start (start + count) blocks.old others.now blocks.new seen
+    ensures { IsTrackedMerge O.merge B.width B.number B.is_block start (start + count) blocks.old others.now blocks.new seen
         result }
 {
     let mut mismatch = seen;
     for k in 0..count {
-        let (merged, noted) = merged_at::<B, O>(blocks, others, start + k, mismatch);
-        mismatch = noted;
+        let (merged, changed) = merged_at::<B, O>(blocks, others, start + k, mismatch);
+        mismatch = changed;
         put_in(blocks, start + k, merged);
     }
     mismatch
@@ -54,7 +54,7 @@ fn merge_four<B: BitBlock, O: Operation>(blocks: &mut [B], others: &[B], start: 
     requires can { CanMerge B.is_block blocks.old (length others.now) (All B.is_block others.now) }
     requires within { start + 4 ≤ length others.now }
     requires seen { B.is_block seen }
-    ensures { IsNotedMerge O.merge B.width B.number B.is_block start (start + 4) blocks.old others.now blocks.new seen
+    ensures { IsTrackedMerge O.merge B.width B.number B.is_block start (start + 4) blocks.old others.now blocks.new seen
         result }
 {
     let (first, one) = merged_at::<B, O>(blocks, others, start, seen);
@@ -80,7 +80,7 @@ fn merge_fours<B: BitBlock, O: Operation>(
     requires can { CanMerge B.is_block blocks.old (length others.now) (All B.is_block others.now) }
     requires within { start + fours * 4 ≤ length others.now }
     requires seen { B.is_block seen }
-    ensures { IsNotedMerge O.merge B.width B.number B.is_block start (start + fours * 4) blocks.old others.now blocks.new
+    ensures { IsTrackedMerge O.merge B.width B.number B.is_block start (start + fours * 4) blocks.old others.now blocks.new
         seen result }
 {
     let mut mismatch = seen;
@@ -101,7 +101,7 @@ fn merge_groups<B: BitBlock, O: Operation>(
     requires can { CanMerge B.is_block blocks.old (length others.now) (All B.is_block others.now) }
     requires within { groups * 16 ≤ length others.now }
     requires seen { B.is_block seen }
-    ensures { IsNotedMerge O.merge B.width B.number B.is_block 0 (groups * 16) blocks.old others.now blocks.new seen
+    ensures { IsTrackedMerge O.merge B.width B.number B.is_block 0 (groups * 16) blocks.old others.now blocks.new seen
         result }
 {
     let mut mismatch = seen;

@@ -1,11 +1,23 @@
 -- What a caller cites of sets that are made of chains.
-use Rattle.std.proofs.{Common.{◌≡◌, ℕ, ◌+◌, ◌-◌, ◌*◌, ◌/◌, ◌%◌, ◌<◌, ◌≤◌, ◌++◌, ◌⊎◌, inl, inr, Bool, ◌&&◌, not, nat_le, ltb, filter, take, Option, List, [], ◌∷◌, Result, IsTrue, Bor, refl, sym, ap, ◌∙◌, zero, suc, append_assoc, arith, div-add-mod', length, subst}, Math.Nat.add-mod_right}
+use Rattle.std.proofs.Common.{◌≡◌, ℕ, ◌+◌, ◌-◌, ◌*◌, ◌/◌, ◌%◌, ◌<◌, ◌≤◌, ◌++◌, ◌⊎◌, inl, inr, Bool, ◌&&◌, not, nat_le, ltb}
+use Rattle.std.proofs.Common.{filter, take, Option, List, [], ◌∷◌, Result, IsTrue, Bor, refl, sym, ap, ◌∙◌, zero, suc}
+use Rattle.std.proofs.Common.{append_assoc, arith, div-add-mod', length, subst}
+use Rattle.std.proofs.Math.Nat.{add-mod_right}
 use Rattle.std.proofs.{iter.Yields.nat_range_steps, lemmas.{Bool.{cases_Bool, Decides.nat_tests}, Grind.take_at_read, Nat.mod-mul-add}}
 use Rattle.std.proofs.lemmas.{List.append-nil, List.Folds.list_any-append, List.Sums.{length-filter, count_by-le-length, sum_by-append}}
-use Rattle.std.{proofs.lemmas.{Iterator.{YieldsList, YieldsList-from_range, Adapters.fact_from_collect, Consumers.{YieldsList-at, YieldsList-from_filter, YieldsList-from_shown}}, Result.IfOk-weaker}, specs.Prelude.IfOk}
+use Rattle.std.proofs.lemmas.Iterator.{YieldsList, YieldsList-from_range, Adapters.fact_from_collect}
+use Rattle.std.proofs.lemmas.Iterator.Consumers.{YieldsList-at, YieldsList-from_filter, YieldsList-from_shown}
+use Rattle.std.proofs.lemmas.Result.{IfOk-weaker}
+use Rattle.std.specs.Prelude.{IfOk}
 use Rattle.std.specs.{BTreeMap.{BTreeMap, get_by}, Fn.{Mut, CalledAt}, Iterator.{Drains, Adapters.{filter_source, filter_callee, filter_steps}}, List.range_with_len}
 use Rattle.bit_blocks.specs.Bits.{Bits}
-use Rattle.bit_set.{specs.{Members.IsSameSet, Order.order_of_sets, Ranges.span, Sets.{AscendsFrom, IsAscending, bound_of, elements, has, put_all, those_below}, Walk.{Walk, Advances}}, proofs.{PlaceLemmas.{all_by_places, any_by_places, at_place, has_place, in_order}, RangeLemmas.{IsAscending-span, has-range_with_len, has-span, length-span}, SetLemmas.{AscendsFrom-filter, IsAscending-elements, has-filter, has-first, same_members}, TestLemmas.{filter_all, filter_none}}}
+use Rattle.bit_set.specs.{Members.IsSameSet, Order.order_of_sets, Ranges.span}
+use Rattle.bit_set.specs.Sets.{AscendsFrom, IsAscending, bound_of, elements, has, put_all, those_below}
+use Rattle.bit_set.specs.Walk.{Walk, Advances}
+use Rattle.bit_set.proofs.PlaceLemmas.{all_by_places, any_by_places, at_place, has_place, in_order}
+use Rattle.bit_set.proofs.RangeLemmas.{IsAscending-span, filtered_apart, has-range_with_len, has-span, length-span}
+use Rattle.bit_set.proofs.SetLemmas.{AscendsFrom-filter, IsAscending-elements, has-filter, has-first, same_members}
+use Rattle.bit_set.proofs.TestLemmas.{filter_all, filter_none}
 
 module _ {S V E : Type 0} {steps : S → Option ℕ → S → Type 0} {s : S} {all : List ℕ} where
   -- what is made of a chain by `from_iter` is made of all that the chain gives
@@ -96,9 +108,6 @@ pub ascends_pushed : (s : List ℕ) (x : ℕ) → IsAscending s → (s ++ x ∷ 
 ascends_pushed s x up = (refl, ascends_pushed_from 0 s x (omega arith) up)
 
 -- a set of two parts has as many members as they have
-filtered_parts : (p : ℕ → Bool) (s : List ℕ) → length (filter (λ x. not (p x)) s) + length (filter p s) ≡ length s
-filtered_parts p [] = refl
-filtered_parts p (x ∷ xs) = let rest = filtered_parts p xs in grind (arith, nat_tests)
 
 pub length_of_parts : (whole a b : List ℕ) → IsAscending whole → IsAscending a → IsAscending b
     → ((x : ℕ) → has a x ≡ (has whole x && not (has b x))) → ((x : ℕ) → IsTrue (has b x) → IsTrue (has whole x)) → length a + length b ≡ length whole
@@ -107,7 +116,7 @@ length_of_parts whole a b up up_a up_b others within =
     (λ x. let kept = has-filter (λ x. not (has b x)) whole x in let is = others x in grind (arith, nat_tests)) in
     let second : b ≡ filter (has b) whole = same_members b (filter (has b) whole) up_b (AscendsFrom-filter 0 _ whole up)
     (λ x. let kept = has-filter (has b) whole x in let is = within x in grind (arith, nat_tests)) in
-    omega (arith, filtered_parts (has b) whole, ap length first, ap length second)
+    omega (arith, filtered_apart (has b) whole, ap length first, ap length second)
 
 -- what is below n and not in a set, with what is in it below n, is n
 pub count_complement : (n : ℕ) (rest set : List Bool) → ((x : ℕ) → has (elements rest) x ≡ (ltb x n && not (has (elements set) x)))

@@ -1,7 +1,7 @@
 -- What the walks give in order, so that std's chains go on from them.
-use Rattle.std.proofs.{Common.{List, Option, None, true, length, refl, ap}, iter.runs.Made.{run, to_end}}
+use Rattle.std.proofs.{Common.{List, Option, true, length, refl, ap}, iter.runs.Made.{run, to_end}}
 use Rattle.std.proofs.iter.runs.Sources.{from_front, from_back, as_is, as_is_back}
-use Rattle.std.specs.Iterator.{Yields, Drains, Runs.{WholeRun, YieldsInOrder, YieldsInReverse}}
+use Rattle.std.specs.Iterator.{Drains, Runs.{WholeRun, YieldsInOrder, YieldsInReverse}}
 use Rattle.bit_set.specs.{Missing.PassesMembers, Walk.{Advances, AdvancesBack, AdvancesByEach, AdvancesWithBound}}
 
 pub runs_of_walk : {w : _} → YieldsInOrder (Advances w) (λ walk. walk.left)

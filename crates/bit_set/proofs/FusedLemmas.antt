@@ -1,9 +1,12 @@
 -- What a set becomes by a pass over two others at once.
-use Rattle.std.proofs.Common.{◌≡◌, ℕ, ◌-◌, ◌++◌, ◌&&◌, ◌||◌, max, replicate, length-append, Bool, false, List, [], length, take, ap, ◌∙◌, arith, ⊎_elim, length-take, get_or-take}
-use Rattle.std.proofs.lemmas.{Bool.{cases_lt}, List.{get_or_past, length-replicate}}
+use Rattle.std.proofs.Common.{◌≡◌, ℕ, ◌-◌, ◌++◌, max, replicate, length-append, Bool, false, List, [], length, take, ap, ◌∙◌, arith, ⊎_elim, length-take, get_or-take}
+use Rattle.std.proofs.lemmas.{Bool.cases_lt, List.{get_or_past, length-replicate}}
 use Rattle.bit_blocks.{specs.{Merges.merge_of, declared.block.merge.Merge.TheVariants.{Difference, Intersection, Union}}, proofs.MergeLemmas.{get_or-merged, length-merged}}
 use Rattle.bit_set.specs.{Members.{IsDifference, IsUnionWithIntersection}, Sets.{difference, elements, has, intersection, union}}
-use Rattle.bit_set.proofs.{AlgebraLemmas.{elements-lengthened, has-difference, has-intersection, has-union}, NotedLemmas.elements-except, SetLaws.IsAscending-put_all, SetLemmas.{AscendsFrom-filter, IsAscending-elements, elements-by_members, has-elements, same_members}}
+use Rattle.bit_set.proofs.AlgebraLemmas.{elements-lengthened, has-difference, has-intersection, has-union}
+use Rattle.bit_set.proofs.{ReportedLemmas.elements-except, SetLaws.IsAscending-put_all}
+use Rattle.bit_set.proofs.SetLemmas.{AscendsFrom-filter, IsAscending-elements, elements-by_members, has-elements}
+use Rattle.bit_set.proofs.SetLemmas.{same_members}
 
 -- ---- a union with an intersection
 
@@ -19,7 +22,9 @@ elements-common xs ys =
     (λ late. let past = get_or_past xs k false late in grind arith)
     (cases_lt k (length xs)))
 
-pub length-lengthened-common : (xs ys zs : List Bool) → length (merge_of Union (xs ++ replicate (length ys - length xs) false) (merge_of Intersection ys (take (length ys) zs))) ≡ max (length xs) (length ys)
+pub length-lengthened-common : (xs ys zs : List Bool)
+    → length (merge_of Union (xs ++ replicate (length ys - length xs) false)
+    (merge_of Intersection ys (take (length ys) zs))) ≡ max (length xs) (length ys)
 length-lengthened-common xs ys zs =
     let front = xs ++ replicate (length ys - length xs) false in
     let common = merge_of Intersection ys (take (length ys) zs) in
@@ -41,7 +46,9 @@ elements-replaced n xs ys =
     let apart = merge_of Difference xs (take (length xs) ys) in
     elements-lengthened Union [] apart n ∙ united_none apart ∙ elements-except xs ys
 
-pub length-replaced : (xs ys zs : List Bool) → length (merge_of Union (replicate (length (xs ++ replicate (length ys - length xs) false)) false) (merge_of Difference ys (take (length ys) zs))) ≡ max (length xs) (length ys)
+pub length-replaced : (xs ys zs : List Bool)
+    → length (merge_of Union (replicate (length (xs ++ replicate (length ys - length xs) false)) false)
+    (merge_of Difference ys (take (length ys) zs))) ≡ max (length xs) (length ys)
 length-replaced xs ys zs =
     let front = xs ++ replicate (length ys - length xs) false in
     let apart = merge_of Difference ys (take (length ys) zs) in

@@ -41,7 +41,7 @@ pub mod OrderLemmas
 pub mod JsonLemmas
 pub mod FilledLemmas
 pub mod ChangeLemmas
-pub mod NotedLemmas
+pub mod ReportedLemmas
 pub mod FusedLemmas
 pub mod CallerLemmas
 pub mod TestLemmas

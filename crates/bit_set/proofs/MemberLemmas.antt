@@ -45,7 +45,7 @@ takes_least low s x t up is =
     }
 
 -- those before the last of an ascending list are below it
-init_below : (low : ℕ) (t : List ℕ) (x n : ℕ) → AscendsFrom low (t ++ x ∷ []) → has t n ≡ true → n < x
+pub init_below : (low : ℕ) (t : List ℕ) (x n : ℕ) → AscendsFrom low (t ++ x ∷ []) → has t n ≡ true → n < x
 init_below low [] x n up within = absurd (true≢false (sym within))
 init_below low (y ∷ ys) x n up within =
     let reach = AscendsFrom-reach (y + 1) ys x up.1 in

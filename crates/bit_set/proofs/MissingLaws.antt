@@ -1,12 +1,12 @@
 -- What is in a range and what is not, and what searches find: the laws of `src/laws/ranges.rt`.
-use Rattle.std.proofs.Common.{◌≡◌, ℕ, ◌+◌, ◌<◌, ◌≤◌, ◌↔◌, Bool, true, not, ◌||◌, eqb, ltb, nat_le, List, [], ◌∷◌, ◌++◌, IsTrue, length, filter, Option, Some, None, refl, sym, ap, ◌∙◌, arith, subst}
+use Rattle.std.proofs.Common.{◌≡◌, ℕ, ◌+◌, ◌↔◌, true, ◌||◌, eqb, ltb, nat_le, List, [], ◌∷◌, ◌++◌, IsTrue, length, filter, Option, Some, None, refl, sym, ap, ◌∙◌, arith, subst}
 use Rattle.std.proofs.lemmas.Bool.{false≢true, Decides.nat_tests}
 use Rattle.std.specs.Prelude.{MatchOption}
 use Rattle.bit_blocks.specs.{Ranges.in_range, Searches.{FindsBefore, FindsFrom}}
 use Rattle.bit_set.specs.{Choices.{IsFirstOf, IsGreatest, IsLastOf, IsLeast}, Members.HasNone, Ranges.{span, those_in_range}}
 use Rattle.bit_set.specs.Sets.{AscendsFrom, IsAscending, difference, has, is_disjoint, those_below, those_from, union}
-use Rattle.bit_set.proofs.{AlgebraLemmas.has-union, EndLemmas.{first_of_those, greatest_last, has-pushed, last_of_those, least_first}, MemberLemmas.{none_from_members, takes_least}}
-use Rattle.bit_set.proofs.{MissingLemmas.has-missing, RangeLemmas.{IsAscending-span, has-span}, SetLaws.IsAscending-put_all, SetLemmas.{AscendsFrom-filter, has-filter, same_members}}
+use Rattle.bit_set.proofs.{AlgebraLemmas.has-union, EndLemmas.{first_of_those, greatest_last, has-pushed, last_of_those, least_first}, MemberLemmas.{init_below, none_from_members, takes_least}}
+use Rattle.bit_set.proofs.{MissingLemmas.has-missing, RangeLemmas.{IsAscending-span, filtered_apart, has-span}, SetLaws.IsAscending-put_all, SetLemmas.{AscendsFrom-filter, has-filter, same_members}}
 use Rattle.bit_set.proofs.{SubsetLemmas.is_disjoint-members}
 use Rattle.bit_set.specs.Sets.{without}
 
@@ -28,15 +28,11 @@ pub in_range_from_0 : (s : List ℕ) (n : ℕ) → those_in_range s 0 n ≡ thos
 in_range_from_0 [] n = refl
 in_range_from_0 (x ∷ xs) n = let rest = in_range_from_0 xs n in grind (arith, nat_tests, rest)
 
-passing_and_not : (p : ℕ → Bool) (xs : List ℕ) → length (filter (λ n. not (p n)) xs) + length (filter p xs) ≡ length xs
-passing_and_not p [] = refl
-passing_and_not p (x ∷ xs) = let rest = passing_and_not p xs in grind (arith, rest)
-
 pub parts_counted : (s : List ℕ) (a b : ℕ) → IsAscending s → length (difference (span a b) s) + length (those_in_range s a b) ≡ length (span a b)
 parts_counted s a b up =
     let among : those_in_range s a b ≡ filter (has s) (span a b) = same_members _ _ (AscendsFrom-filter 0 _ s up) (AscendsFrom-filter 0 _ (span a b) (IsAscending-span a b)) (λ n.
     grind (arith, has-filter (in_range a b) s n, has-filter (has s) (span a b) n, has-span a b n)) in
-    ap (λ t. length (difference (span a b) s) + length t) among ∙ passing_and_not (has s) (span a b)
+    ap (λ t. length (difference (span a b) s) + length t) among ∙ filtered_apart (has s) (span a b)
 
 -- ---- what searches find
 
@@ -47,21 +43,12 @@ first_is_least s (Some x) up = (
   λ least. (without s x, least_first s x up least),
 )
 
-last_from : (low : ℕ) (s : List ℕ) (x : ℕ) → AscendsFrom low (s ++ x ∷ []) → low ≤ x
-last_from low [] x up = up.0
-last_from low (y ∷ ys) x up = let rest = last_from (y + 1) ys x up.1 in omega (arith, rest, up.0)
-
-below_last : (low : ℕ) (s : List ℕ) (x n : ℕ) → AscendsFrom low (s ++ x ∷ []) → has s n ≡ true → n < x
-below_last low [] x n up is = absurd (false≢true is)
-below_last low (y ∷ ys) x n up is =
-    let here = last_from (y + 1) ys x up.1 in let rest = below_last (y + 1) ys x n up.1 in grind (arith, nat_tests, here, rest, is)
-
 -- the last of a set is in, and the greatest
 greatest_from_last : (s rest : List ℕ) (x : ℕ) → IsAscending s → s ≡ rest ++ x ∷ [] → IsGreatest s x
 greatest_from_last s rest x up is = (
   ap (λ t. has t x) is ∙ has-pushed rest x x ∙ grind (arith, nat_tests),
   λ n member.
-      let below = below_last 0 rest x n (subst IsAscending is up) in
+      let below = init_below 0 rest x n (subst IsAscending is up) in
       let which : (has rest n || eqb x n) ≡ true = sym (has-pushed rest x n) ∙ sym (ap (λ t. has t n) is) ∙ member in
       grind (arith, nat_tests, below, which),
 )

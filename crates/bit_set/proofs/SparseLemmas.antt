@@ -3,13 +3,13 @@
 use Rattle.std.proofs.Common.{◌≡◌, ℕ, ◌+◌, ◌-◌, ◌*◌, ◌/◌, ◌^◌, ◌<◌, ◌≤◌, ◌==◌, min, Bool, true, false, if◌then◌else◌, List, [], ◌∷◌, ◌++◌, map, length, All, Some, None, count_ones, refl, sym, ap, ◌∙◌}
 use Rattle.std.proofs.Common.{subst, arith, inl, inr, ap₂, length-append}
 use Rattle.std.proofs.lemmas.{Bool.{ne_eqb, eq-eqb, true≢false, Decides.nat_tests}, Nat.div-mul-add}
-use Rattle.std.proofs.lemmas.List.{append-nil, append_assoc, map-append, Elements.{All-nil, All-cons, All-head, All-tail}, Sums.{sum_by-cons}}
+use Rattle.std.proofs.lemmas.List.{append-nil, append_assoc, map-append, Elements.{All-nil, All-cons, All-head, All-tail}, Sums.sum_by-cons}
 use Rattle.std.proofs.Math.Nat.{mul-div_cancel}
 use Rattle.bit_blocks.specs.{Highest.IsHighest, Lowest.{IsLowest, IsCleared}}
 use Rattle.bit_words.specs.Nonzero.{Hand, Nonzeros, PullsLast, PullsNonzero, Refills, RunsOut, TakesFirst, TakesLast, ones_left}
 use Rattle.bit_set.specs.{Sets.{AscendsFrom, IsAscending}, Indexes.{indexes, indexes_of, left_between, seen_of, IsSparseWalk}, Walk.{Walk, Advances, AdvancesBack, PullsBlocks, PullsBlocksBack}}
 use Rattle.bit_set.proofs.{MemberLemmas.{takes_greatest, takes_least}, SetLemmas.{AscendsFrom-init, AscendsFrom-lower, AscendsFrom-reach}}
-use Rattle.bit_set.proofs.IndexLemmas.{indexes-zero, indexes-lowest, indexes-highest, length-indexes}
+use Rattle.bit_set.proofs.IndexLemmas.{indexes-none, indexes-lowest, indexes-highest, length-indexes}
 
 pub whole_index : (w q : ℕ) → 0 < w → q * w / w ≡ q
 whole_index w q pos = mul-div_cancel q pos
@@ -30,9 +30,6 @@ ascends-cut low k s [] up = ((omega (arith, up.0), tt), omega (arith, up.1.0))
 ascends-cut low k s (x ∷ xs) up = let rest = ascends-cut (x + 1) k s xs up.1 in ((up.0, rest.0), rest.1)
 
 -- ---- what is left
-
-no_indexes : (w p m : ℕ) → m ≡ 0 → indexes w p m [] ≡ []
-no_indexes w p m none = ap (λ n. indexes w p n []) none ∙ indexes-zero w p []
 
 module _ {X : Type 0} (w : ℕ) (number : X → ℕ) where
   indexes_of-pushed : (entries : List (ℕ × X)) (entry : ℕ × X) → indexes_of w number (entries ++ entry ∷ []) ≡ indexes_of w number entries ++ indexes w (entry.0 * w) (number entry.1) []
@@ -125,7 +122,7 @@ module _ {X : Type 0} (w : ℕ) (number : X → ℕ) (is_block : X → Type 0) (
       let at_back = indexes w back.index (number back.block) [] in
       let same : left_between w number new t.left back ≡ left_between w number front s.left back =
       sym (
-      ap₂ (λ xs entries. xs ++ (indexes_of w number entries ++ at_back)) (no_indexes w front.index (number front.block) used_up) pull.item
+      ap₂ (λ xs entries. xs ++ (indexes_of w number entries ++ at_back)) (indexes-none w front.index (number front.block) used_up) pull.item
       ∙ append_assoc (indexes w (k * w) (number new.block) []) (indexes_of w number t.left) at_back
       ∙ ap (λ p. indexes w p (number new.block) [] ++ (indexes_of w number t.left ++ at_back)) (sym index)
       ) in
@@ -154,9 +151,9 @@ module _ {X : Type 0} (w : ℕ) (number : X → ℕ) (is_block : X → Type 0) (
       let apart = ends_apart front back s is in
       let at_back = indexes w back.index (number back.block) [] in
       let same : left_between w number back t.left other ≡ left_between w number front s.left back =
-      ap₂ (λ entries xs. at_back ++ (indexes_of w number entries ++ xs)) look.item.1 (no_indexes w other.index (number other.block) other_used_up)
+      ap₂ (λ entries xs. at_back ++ (indexes_of w number entries ++ xs)) look.item.1 (indexes-none w other.index (number other.block) other_used_up)
       ∙ append-nil at_back
-      ∙ sym (ap₂ (λ xs entries. xs ++ (indexes_of w number entries ++ at_back)) (no_indexes w front.index (number front.block) used_up) look.item.0) in
+      ∙ sym (ap₂ (λ xs entries. xs ++ (indexes_of w number entries ++ at_back)) (indexes-none w front.index (number front.block) used_up) look.item.0) in
       let left = ap length look.item.1 in
       let was = ap length look.item.0 in
       let at = ap (λ n. n / w) index in
@@ -215,11 +212,11 @@ module _ {X : Type 0} (w : ℕ) (number : X → ℕ) (is_block : X → Type 0) (
       ended out =
           let apart = ends_apart front back s is in
           let was : left_between w number front s.left back ≡ [] =
-          ap₂ (λ xs entries. xs ++ (indexes_of w number entries ++ indexes w back.index (number back.block) [])) (no_indexes w front.index (number front.block) out.used_up) out.end.item.0
-          ∙ no_indexes w back.index (number back.block) out.other_used_up in
+          ap₂ (λ xs entries. xs ++ (indexes_of w number entries ++ indexes w back.index (number back.block) [])) (indexes-none w front.index (number front.block) out.used_up) out.end.item.0
+          ∙ indexes-none w back.index (number back.block) out.other_used_up in
           let now : left_between w number (record { block = front.block; index = back.index }) t.left back ≡ [] =
-          ap₂ (λ xs entries. xs ++ (indexes_of w number entries ++ indexes w back.index (number back.block) [])) (no_indexes w back.index (number front.block) out.used_up) out.end.item.1
-          ∙ no_indexes w back.index (number back.block) out.other_used_up in
+          ap₂ (λ xs entries. xs ++ (indexes_of w number entries ++ indexes w back.index (number back.block) [])) (indexes-none w back.index (number front.block) out.used_up) out.end.item.1
+          ∙ indexes-none w back.index (number back.block) out.other_used_up in
           let none = ap length out.end.item.1 in
           let none_before = ap length out.end.item.0 in (
             moved front back (record { block = front.block; index = back.index }) back s t is is.in_hand is.at_back (no_entries out.end.item.1) out.end.same is.whole_back is.whole_back
@@ -316,7 +313,7 @@ module _ {X : Type 0} (w : ℕ) (number : X → ℕ) (is_block : X → Type 0) (
       let at_front = indexes w front.index (number front.block) [] in
       let same : left_between w number front t.left new ≡ left_between w number front s.left back =
       sym (
-      ap₂ (λ entries xs. at_front ++ (indexes_of w number entries ++ xs)) pull.item (no_indexes w back.index (number back.block) used_up)
+      ap₂ (λ entries xs. at_front ++ (indexes_of w number entries ++ xs)) pull.item (indexes-none w back.index (number back.block) used_up)
       ∙ ap (λ xs. at_front ++ xs) (
       append-nil (indexes_of w number (t.left ++ (k, new.block) ∷ []))
       ∙ indexes_of-pushed w number t.left (k, new.block)
@@ -346,9 +343,9 @@ module _ {X : Type 0} (w : ℕ) (number : X → ℕ) (is_block : X → Type 0) (
       let apart = ends_apart front back s is in
       let at_front = indexes w front.index (number front.block) [] in
       let same : left_between w number other t.left front ≡ left_between w number front s.left back =
-      ap₂ (λ xs entries. xs ++ (indexes_of w number entries ++ at_front)) (no_indexes w other.index (number other.block) other_used_up) look.item.1
+      ap₂ (λ xs entries. xs ++ (indexes_of w number entries ++ at_front)) (indexes-none w other.index (number other.block) other_used_up) look.item.1
       ∙ sym (append-nil at_front)
-      ∙ sym (ap₂ (λ entries xs. at_front ++ (indexes_of w number entries ++ xs)) look.item.0 (no_indexes w back.index (number back.block) used_up)) in
+      ∙ sym (ap₂ (λ entries xs. at_front ++ (indexes_of w number entries ++ xs)) look.item.0 (indexes-none w back.index (number back.block) used_up)) in
       let left = ap length look.item.1 in
       let was = ap length look.item.0 in
       let at = ap (λ n. n / w) index in
@@ -405,11 +402,11 @@ module _ {X : Type 0} (w : ℕ) (number : X → ℕ) (is_block : X → Type 0) (
       ended out =
           let apart = ends_apart front back s is in
           let was : left_between w number front s.left back ≡ [] =
-          ap₂ (λ xs entries. xs ++ (indexes_of w number entries ++ indexes w back.index (number back.block) [])) (no_indexes w front.index (number front.block) out.other_used_up) out.end.item.0
-          ∙ no_indexes w back.index (number back.block) out.used_up in
+          ap₂ (λ xs entries. xs ++ (indexes_of w number entries ++ indexes w back.index (number back.block) [])) (indexes-none w front.index (number front.block) out.other_used_up) out.end.item.0
+          ∙ indexes-none w back.index (number back.block) out.used_up in
           let now : left_between w number front t.left (record { block = back.block; index = front.index }) ≡ [] =
-          ap₂ (λ xs entries. xs ++ (indexes_of w number entries ++ indexes w front.index (number back.block) [])) (no_indexes w front.index (number front.block) out.other_used_up) out.end.item.1
-          ∙ no_indexes w front.index (number back.block) out.used_up in (
+          ap₂ (λ xs entries. xs ++ (indexes_of w number entries ++ indexes w front.index (number back.block) [])) (indexes-none w front.index (number front.block) out.other_used_up) out.end.item.1
+          ∙ indexes-none w front.index (number back.block) out.used_up in (
             moved front back front (record { block = back.block; index = front.index }) s t is is.in_hand is.at_back (no_entries out.end.item.1) out.end.same is.whole is.whole
                 (subst (λ entries. AscendsFrom (front.index / w + 1) (map (λ (entry : ℕ × X). entry.0) entries ++ (front.index / w + 1) ∷ [])) (sym out.end.item.1) (omega arith, tt))
                 apart (now ∙ sym was),

@@ -41,7 +41,10 @@ merged_past m w start end wide f P xs os ys le past fewer is = record {
 
 -- ---- the values
 
-module _ {X : Type 0} (m : Merge) (w start end len short count : ℕ) (f : X → ℕ) (P : X → Type 0) (xs os ys : List X) (pos : 0 < w) (first : IsPacked w f P xs len) (second : IsPacked w f P os short) (most : count ≡ min (length xs) (length os)) (fits : len < short → merge_of_values m false true ≡ false) (is : HasMerged m w f P start end (other_at (map f (take count os))) xs ys) where
+module _ {X : Type 0} (m : Merge) (w start end len short count : ℕ) (f : X → ℕ) (P : X → Type 0) (xs os ys : List X)
+    (pos : 0 < w) (first : IsPacked w f P xs len) (second : IsPacked w f P os short)
+    (most : count ≡ min (length xs) (length os)) (fits : len < short → merge_of_values m false true ≡ false)
+    (is : HasMerged m w f P start end (other_at (map f (take count os))) xs ys) where
   -- past the end of the list nothing comes
   none_past : (i : ℕ) → len ≤ i → merge_of_values m false (value_at w (map f os) i) ≡ false
   none_past i past = grind (arith, second.tail.zero_tail i, merge_of_values-none m)

@@ -47,7 +47,9 @@ module _ {X : Type 0} (w q count : ℕ) (number : X → ℕ) (is_block : X → T
               (before j)
               (λ (reached : q * w ≤ j).
               let place : q * w + (j - q * w) ≡ j = omega arith in
-              rw place at (sym (run_read (j - q * w) xs rest run from is (omega arith)) ∙ first.below (j - q * w) (omega arith) ∙ run_read (j - q * w) ys other_rest other_run other_from other_is (omega arith)))
+              rw place at (sym (run_read (j - q * w) xs rest run from is (omega arith))
+              ∙ first.below (j - q * w) (omega arith)
+              ∙ run_read (j - q * w) ys other_rest other_run other_from other_is (omega arith)))
               (cases_lt j (q * w));
           here = λ same. first.here (run_read k xs rest run from is within ∙ same ∙ sym (run_read k ys other_rest other_run other_from other_is within));
         }

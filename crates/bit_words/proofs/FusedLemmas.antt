@@ -1,13 +1,13 @@
 -- What a list becomes by a pass over two others at once.
-use Rattle.std.proofs.Common.{◌≡◌, ℕ, ◌+◌, ◌*◌, ◌/◌, ◌%◌, ◌^◌, ◌<◌, ◌≤◌, ◌↔◌, Bool, false, not, ◌&&◌, List, [], map}
-use Rattle.std.proofs.Common.{length, get_or, take, replicate, All, refl, sym, ap, ◌∙◌, arith, ⊎_elim, mod-lt}
+use Rattle.std.proofs.Common.{◌≡◌, ℕ, ◌/◌, ◌%◌, ◌<◌, ◌≤◌, false, not, ◌&&◌, List, [], map}
+use Rattle.std.proofs.Common.{length, get_or, take, replicate, sym, ap, ◌∙◌, arith, ⊎_elim, mod-lt}
 use Rattle.std.proofs.Common.{length-take, get_or-take}
-use Rattle.std.proofs.lemmas.{Bool.cases_lt, List.{get_or_past, length-map}}
+use Rattle.std.proofs.lemmas.{Bool.cases_lt, List.length-map}
 use Rattle.bit_blocks.specs.declared.block.merge.Merge.{Merge, TheVariants.{Difference, Intersection, Union}}
-use Rattle.bit_blocks.specs.{Merges.{merge_of_values, merge_of}, Digits.is_one}
-use Rattle.bit_blocks.specs.BlockMerges.{both_at, except_at, AreKept, AreOthers, HasMerged, HaveBecome}
+use Rattle.bit_blocks.specs.Merges.{merge_of_values, merge_of}
+use Rattle.bit_blocks.specs.BlockMerges.{both_at, except_at, HasMerged, HaveBecome}
 use Rattle.bit_blocks.specs.Storage.{value_at, values_of, IsPacked, IsZeroFrom}
-use Rattle.bit_blocks.proofs.{BlockMergeLemmas.lists_merged_except, Masks.is_one-zero}
+use Rattle.bit_blocks.proofs.{BlockMergeLemmas.lists_merged_except}
 use Rattle.bit_blocks.proofs.MergeLemmas.{get_or-merged, length-merged, merge_of_values-none}
 use Rattle.bit_blocks.proofs.StorageLemmas.{get_or-values_of_zero_tail, length-values_of, value_at-is, value_at-past}
 use Rattle.bit_blocks.proofs.StorageLemmas.{values_of-replicate, values_of-same}
@@ -35,19 +35,6 @@ module _ {X : Type 0} (w : ℕ) (f : X → ℕ) (P : X → Type 0) (xs os ys : L
 
   -- ---- a list that becomes the difference of two
 
-  pub become_all : (start : ℕ) (other : ℕ → ℕ → Bool) → AreOthers w f 0 start other xs → HaveBecome w f P start (length xs) other xs ys → HaveBecome w f P 0 (length xs) other xs ys
-  become_all start other same is = record {
-    digit = λ k j from below index. ⊎_elim (λ early. ap (λ n. is_one n j) (is.before k early) ∙ same.digit k j from early index) (λ late. is.digit k j late below index) (cases_lt k start);
-    before = λ k none. absurd (omega arith);
-    after = is.after;
-    each = is.each;
-    len = is.len;
-  }
-
-  -- they were it before where none changed
-  pub became_kept : (end : ℕ) (other : ℕ → ℕ → Bool) → HaveBecome w f P 0 end other xs ys → AreKept (map f xs) (map f ys) → AreOthers w f 0 end other xs
-  became_kept end other is kept = record { digit = λ k j from below index. ap (λ n. is_one n j) (sym (kept k)) ∙ is.digit k j from below index }
-
   pub values_of_difference : 0 < w → length os ≤ length xs
       → HaveBecome w f P 0 (length xs) (except_at (map f os) es) xs ys → (i : ℕ)
       → value_at w (map f ys) i ≡ (value_at w (map f os) i && not (value_at w es i))
@@ -65,16 +52,6 @@ module _ {X : Type 0} (w : ℕ) (f : X → ℕ) (P : X → Type 0) (xs os ys : L
     };
     fits = packed.fits;
   }
-
--- blocks that are the others already have become them
-pub become_none : {X : Type 0} (w : ℕ) (f : X → ℕ) (P : X → Type 0) (end : ℕ) (other : ℕ → ℕ → Bool) (xs : List X) → All P xs → AreOthers w f 0 end other xs → HaveBecome w f P 0 end other xs xs
-become_none w f P end other xs each same = record {
-  digit = same.digit;
-  before = λ k first. refl;
-  after = λ k past. refl;
-  each = each;
-  len = refl;
-}
 
 -- ---- the lists
 
@@ -104,5 +81,6 @@ pub list_of_difference : (w : ℕ) (os es ns : List ℕ) (len short third : ℕ)
     → values_of w ns len ≡ merge_of Union (replicate len false) (merge_of Difference (values_of w os short) (take (length (values_of w os short)) (values_of w es third)))
 list_of_difference w os es ns len short third shorter also more each =
     let none : (i : ℕ) → value_at w [] i ≡ false = λ i. value_at-past w [] i (omega arith) in
-    lists_merged_except Union w [] os es ns len short third shorter (record { zero_tail = λ i past. none i }) also more (λ i. each i ∙ ap (λ b. merge_of_values Union b (value_at w os i && not (value_at w es i))) (sym (none i)))
+    lists_merged_except Union w [] os es ns len short third shorter (record { zero_tail = λ i past. none i }) also more
+    (λ i. each i ∙ ap (λ b. merge_of_values Union b (value_at w os i && not (value_at w es i))) (sym (none i)))
     ∙ ap (λ xs. merge_of Union xs (merge_of Difference (values_of w os short) (take (length (values_of w os short)) (values_of w es third)))) (values_of-replicate w [] len false (λ i below. none i))

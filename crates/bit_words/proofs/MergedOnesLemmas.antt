@@ -299,7 +299,9 @@ module _ (merge : Merge) (w : ℕ) (ms ns : List ℕ) where
 
 -- the ones of the merge of two lists are its true values
 pub merged_trues : (m : Merge) (w n p r s c : ℕ) (ms ns : List ℕ)
-    (v u : Bits) → record { values = values_of w ms n; capacity = r } ≡ v → record { values = values_of w ns p; capacity = s } ≡ u → IsZeroFrom w ms n → IsZeroFrom w ns p → max n p ≤ c * w → merged_ones m w ms ns 0 c ≡ count_by (λ value. value) (merge_of m v.values u.values)
+    (v u : Bits) → record { values = values_of w ms n; capacity = r } ≡ v
+    → record { values = values_of w ns p; capacity = s } ≡ u → IsZeroFrom w ms n → IsZeroFrom w ns p → max n p ≤ c * w
+    → merged_ones m w ms ns 0 c ≡ count_by (λ value. value) (merge_of m v.values u.values)
 merged_trues m w n p r s c ms ns v u e f tail also enough =
     let f_at = merged_at m w ms ns in
     let merged = merge_of m v.values u.values in
@@ -322,7 +324,9 @@ merged_trues m w n p r s c ms ns v u e f tail also enough =
     )
 
 pub merged_fits : (m : Merge) (w n p r s k : ℕ) (ms ns : List ℕ)
-    (v u : Bits) → 0 < w → record { values = values_of w ms n; capacity = r } ≡ v → record { values = values_of w ns p; capacity = s } ≡ u → IsZeroFrom w ms n → IsZeroFrom w ns p → n < 2 ^ 64 → p < 2 ^ 64 → merged_ones m w ms ns 0 k < 2 ^ 64
+    (v u : Bits) → 0 < w → record { values = values_of w ms n; capacity = r } ≡ v
+    → record { values = values_of w ns p; capacity = s } ≡ u → IsZeroFrom w ms n → IsZeroFrom w ns p → n < 2 ^ 64
+    → p < 2 ^ 64 → merged_ones m w ms ns 0 k < 2 ^ 64
 merged_fits m w n p r s k ms ns v u pos e f tail also fits small =
     let end = k + n + p in
     let enough : 1 * end ≤ w * end = mul-le-mul_right end pos in

@@ -45,7 +45,8 @@ module _ {X : Type 0} (number : X → ℕ) where
       → left_from number k end xs ≡ (if number x == 0 then left_from number (k + 1) end xs else (k, x) ∷ left_from number (k + 1) end xs)
   left-here k end x xs before to at =
       ap (nonzero_from number k)
-      (drop_more (take end xs) k x (let most = length-take end xs in omega (arith, most, before, to)) ∙ ap (λ y. y ∷ drop (k + 1) (take end xs)) (get_or-take end xs k x before ∙ get_or_from_slice_get xs k x x at))
+      (drop_more (take end xs) k x (let most = length-take end xs in omega (arith, most, before, to))
+      ∙ ap (λ y. y ∷ drop (k + 1) (take end xs)) (get_or-take end xs k x before ∙ get_or_from_slice_get xs k x x at))
 
   -- those before a block, and those from it on
   nonzero-append : (k : ℕ) (xs ys : List X) → nonzero_from number k (xs ++ ys) ≡ nonzero_from number k xs ++ nonzero_from number (k + length xs) ys

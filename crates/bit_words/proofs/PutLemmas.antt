@@ -1,13 +1,12 @@
 -- Blocks that were put over others, the summary that follows them, and the list that they hold.
 use Rattle.std.specs.Global.{Vec}
-use Rattle.std.proofs.Common.{◌≡◌, ℕ, ◌+◌, ◌-◌, ◌*◌, ◌/◌, ◌%◌, ◌<◌, ◌≤◌, min, false, not, ◌==◌, List, ◌++◌, All, length, get_or, map, take, drop, refl, sym, ap, ◌∙◌, subst, arith, ⊎_elim}
+use Rattle.std.proofs.Common.{◌≡◌, ℕ, ◌+◌, ◌-◌, ◌*◌, ◌/◌, ◌%◌, ◌<◌, ◌≤◌, min, false, List, ◌++◌, All, length, get_or, map, take, drop, refl, sym, ap, ◌∙◌, subst, arith, ⊎_elim}
 use Rattle.std.proofs.Common.{div-lt_iff_lt-mul, get_or-append-add, length-drop, mul-le-mul_right, take-append-drop, vec_len}
 use Rattle.std.proofs.lemmas.{Bool.{Decides.nat_tests, cases_lt}, List.{get_or_append_left, get_or-append_right, length-map, length-take-le, map-append, Elements.{All-append, All-drop, All-take}}}
 use borrow.Rule.Slice.PartMut.{put_mid}
-use Rattle.bit_blocks.specs.{Bits.{Bits, blocks_for}, Digits.is_one, Ranges.in_range, Storage.{value_at, values_of, IsPacked, IsZeroFrom, WritesInPlace, is_used}}
-use Rattle.bit_words.specs.{Kept.{IsPut, PutsBlocks}, Summary.{IsFalseBefore, IsSummary}}
-use Rattle.bit_blocks.proofs.{BitsLemmas.blocks_for-enough, ChangeLemmas.div_le, StorageLemmas.{get_or-values_of_zero_tail, length-values_of, value_at-index, value_at-is}}
-use Rattle.bit_words.proofs.SummaryLemmas.{summary_of_digits}
+use Rattle.bit_blocks.specs.{Bits.{Bits, blocks_for}, Digits.is_one, Ranges.in_range, Storage.{value_at, values_of, IsPacked, IsZeroFrom, WritesInPlace}}
+use Rattle.bit_words.specs.{Kept.{IsPut, PutsBlocks}, Summary.IsFalseBefore}
+use Rattle.bit_blocks.proofs.{BitsLemmas.blocks_for-enough, ChangeLemmas.div_lt, StorageLemmas.{get_or-values_of_zero_tail, length-values_of, value_at-index, value_at-is}}
 
 -- ---- the blocks
 
@@ -46,25 +45,7 @@ pub each_put : {X : Type 0} (P : X → Type 0) (k n : ℕ) (xs ps : List X) → 
 each_put P k n xs ps each more =
     All-append P (take k xs) _ (All-take P k xs each) (All-append P ps _ more (All-drop P n (drop k xs) (All-drop P k xs each)))
 
--- ---- their summary
-
--- It is made anew for these blocks, and other bits stay.
-pub put_summary : {X : Type 0} (w k n : ℕ) (f : X → ℕ) (P : X → Type 0) (xs ys : Vec X) (ps old new : List X) → n ≡ length ps → IsPut k (map f ps) (map f xs.items) (map f ys.items)
-    → WritesInPlace P xs ys → IsSummary w f P xs.items old → All P new → length new ≡ length old
-    → ((q : ℕ) → k ≤ q → q < k + n → value_at w (map f new) q ≡ is_used (map f ys.items) q)
-    → ((q : ℕ) → q < k → value_at w (map f new) q ≡ value_at w (map f old) q)
-    → ((q : ℕ) → k + n ≤ q → value_at w (map f new) q ≡ value_at w (map f old) q) → IsSummary w f P ys.items new
-put_summary w k n f P xs ys ps old new many put in_place is each long made before after =
-    let size : length xs.items ≡ length ys.items = omega (arith, xs.ok.0, ys.ok.0, in_place.len) in
-    let stays : (q : ℕ) → in_range k (k + length (map f ps)) q ≡ false → is_used (map f xs.items) q ≡ is_used (map f ys.items) q = λ q apart. sym (ap (λ m. not (m == 0)) (put.others q apart)) in
-    summary_of_digits w f P ys.items new each (long ∙ is.packed.count ∙ ap (blocks_for w) size) (rw (← size) is.packed.fits) (λ q.
-    grind (arith, nat_tests, length-map, made q, before q, after q, is.digit q, stays q))
-
 -- ---- the list that they hold
-
--- a block of a chunk before that of block k is before it
-lt_from_div : (w q k : ℕ) → 0 < w → q / w < k / w → q < k
-lt_from_div w q k pos low = ⊎_elim (λ (less : q < k). less) (λ (more : k ≤ q). let later = div_le w k q pos more in absurd (omega (arith, low, later))) (cases_lt q k)
 
 module _ (w k : ℕ) (ps ms ns : List ℕ) (pos : 0 < w) (put : IsPut k ps ms ns) where
   value_inside : (q j : ℕ) → q < length ps → j < w → value_at w ns ((k + q) * w + j) ≡ is_one (get_or ps q 0) j
@@ -87,7 +68,7 @@ module _ (w k : ℕ) (ps ms ns : List ℕ) (pos : 0 < w) (put : IsPut k ps ms ns
   pub put_start : (start : ℕ) → IsFalseBefore w ms start → IsFalseBefore w ns (min start (k / w))
   put_start start before = record {
     falses = λ i low.
-        let early : i / w < k = lt_from_div w (i / w) k pos (omega (arith, low)) in
+        let early : i / w < k = div_lt w (i / w) k pos (omega (arith, low)) in
         value_other i (grind (arith, nat_tests)) ∙ before.falses i (omega (arith, low));
   }
 

@@ -1,8 +1,8 @@
 -- Where a search of the summary for the first true value may start.
-use Rattle.std.proofs.Common.{◌≡◌, ℕ, ◌+◌, ◌*◌, ◌/◌, ◌^◌, ◌<◌, ◌≤◌, Bool, true, false, ◌==◌, List, map, length, get_or, set, All, refl, sym, ap, ◌∙◌, arith, ⊎_elim, div-add-mod'}
+use Rattle.std.proofs.Common.{◌≡◌, ℕ, ◌+◌, ◌*◌, ◌/◌, ◌^◌, ◌<◌, ◌≤◌, Bool, true, false, List, map, get_or, All, sym, ap, ◌∙◌, arith, ⊎_elim, div-add-mod'}
 use Rattle.std.proofs.Common.{div-lt_iff_lt-mul, mul-le-mul_right}
 use Rattle.std.proofs.lemmas.{Bool.cases_lt, Nat.div-mul-add}
-use Rattle.bit_blocks.specs.{Digits.is_one, Mismatches.IsFirstNonzeroBlock, Searches.IsFirstFrom, Storage.{value_at, IsZeroFrom, WritesValue, is_used}}
+use Rattle.bit_blocks.specs.{Mismatches.IsFirstNonzeroBlock, Searches.IsFirstFrom, Storage.{value_at, IsZeroFrom, WritesValue, is_used}}
 use Rattle.bit_blocks.proofs.{CompareLemmas.zero_from_digits, SearchLemmas.{first_past_none, unused}, StorageLemmas.value_at-index}
 use Rattle.bit_words.specs.Summary.{short_count, IsFalseBefore, IsSummary}
 use Rattle.bit_blocks.proofs.{UseLemmas.{unused_from_false, used_from_zero}, VectorLemmas.numbers_below}

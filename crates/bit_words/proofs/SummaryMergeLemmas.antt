@@ -1,15 +1,13 @@
 -- The summary of what the blocks of two lists merge to.
-use Rattle.std.proofs.Common.{◌≡◌, ℕ, ◌+◌, ◌*◌, ◌^◌, ◌<◌, ◌≤◌, Bool, false, not, ◌&&◌, ◌||◌, ◌==◌, nat_le, List, []}
-use Rattle.std.proofs.Common.{map, length, get_or, set, All, sym, ap, ap₂, ◌∙◌, arith, ⊎_elim, get_or-set_same}
-use Rattle.std.proofs.Common.{get_or-set_other, mul-le-mul_right}
-use Rattle.std.proofs.{Math.Bool.{and-false, and-true, or-false}, lemmas.{Bool.{cases_lt, cases_eq, Decides.nat_tests}, List.{get_or_past, length-map}, Nat.Bits.same_from_bits_below}}
-use Rattle.bit_blocks.specs.Digits.{IsEither, is_one}
-use Rattle.bit_blocks.specs.declared.block.merge.Merge.{Merge}
-use Rattle.bit_blocks.specs.declared.block.merge.Merge.TheVariants.{Union, Intersection, Difference, Symmetric}
-use Rattle.bit_blocks.specs.{Merges.merge_of_values, BlockMerges.{except_at, other_at, HasMerged}, Storage.value_at}
-use Rattle.bit_blocks.{specs.Storage.is_used, proofs.{CompareLemmas.zero_from_digits, Masks.{is_one-either, is_one-zero}, MergeLemmas.merge_of_values-none, StorageLemmas.same_digit}}
-use Rattle.bit_words.specs.Summary.{IsSummary, SaysUsed}
-use Rattle.bit_blocks.proofs.{StorageLemmas.value_at-index, UseLemmas.{false_from_unused, unused_from_false, used_from_zero, used_past, zero_from_unused}, VectorLemmas.numbers_below}
+use Rattle.std.proofs.Common.{◌≡◌, ℕ, ◌^◌, ◌<◌, ◌≤◌, false, not, ◌&&◌, ◌||◌, ◌==◌, List}
+use Rattle.std.proofs.Common.{map, length, get_or, All, sym, ap, ap₂, ◌∙◌, arith, ⊎_elim}
+use Rattle.std.proofs.lemmas.{Bool.{cases_lt, Decides.nat_tests}, List.length-map}
+use Rattle.bit_blocks.specs.Digits.{is_one}
+use Rattle.bit_blocks.specs.declared.block.merge.Merge.TheVariants.{Union}
+use Rattle.bit_blocks.specs.{BlockMerges.{except_at, HasMerged}, Storage.value_at}
+use Rattle.bit_blocks.{specs.Storage.is_used, proofs.{CompareLemmas.zero_from_digits, Masks.is_one-zero}}
+use Rattle.bit_words.specs.Summary.{IsSummary}
+use Rattle.bit_blocks.proofs.{UseLemmas.{false_from_unused, unused_from_false, used_past, zero_from_unused}, VectorLemmas.numbers_below}
 
 -- ---- of a union, by the summaries of both
 
@@ -46,6 +44,8 @@ pub used_with_others : {X : Type 0} (w : ℕ) (f : X → ℕ) (P : X → Type 0)
     → is_used (map f ys) k ≡ (is_used (map f xs) k || is_used (map f os) k)
 used_with_others w f P es xs os ys below each others fewer is k none =
     ⊎_elim
-    (λ inside. used_with w (get_or (map f xs) k 0) (get_or (map f os) k 0) (get_or es k 0) (get_or (map f ys) k 0) (numbers_below w f P xs below each k) (numbers_below w f P os below others k) (numbers_below w f P ys below is.each k) (λ j index. is.digit k j (omega arith) inside index) none)
+    (λ inside. used_with w (get_or (map f xs) k 0) (get_or (map f os) k 0) (get_or es k 0) (get_or (map f ys) k 0)
+    (numbers_below w f P xs below each k) (numbers_below w f P os below others k) (numbers_below w f P ys below is.each k)
+    (λ j index. is.digit k j (omega arith) inside index) none)
     (λ past. grind (arith, is.after k past, used_past (map f os) k, length-map))
     (cases_lt k (length xs))

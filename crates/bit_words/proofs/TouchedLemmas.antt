@@ -113,7 +113,9 @@ module _ {X : Type 0} (m : Merge) (w : ℕ) (f : X → ℕ) (P : X → Type 0) (
       → ((p : ℕ) → p < w → p ≢ i → is_one t p ≡ is_one s p) → IsPartlyMerged m w f P q other xs ys left s
       → IsPartlyMerged m w f P q other xs zs rest t
   partly_more i left rest s t ys zs index low cleared one here there so_far =
-      let same : (k : ℕ) → k ≢ q * w + i → get_or (map f zs) k 0 ≡ get_or (map f ys) k 0 = λ k apart. ⊎_elim (λ early. one.before k early) (λ late. one.after k (omega (arith, late, apart))) (cases_lt k (q * w + i)) in
+      let same : (k : ℕ) → k ≢ q * w + i → get_or (map f zs) k 0 ≡ get_or (map f ys) k 0 =
+      λ k apart. ⊎_elim (λ early. one.before k early) (λ late. one.after k (omega (arith, late, apart)))
+      (cases_lt k (q * w + i)) in
       let left_there : (p : ℕ) → p < w → p ≢ i → is_one rest p ≡ is_one left p = λ p within apart. ap (λ d. d == 1) (cleared.kept p within apart) in
       let left_here : is_one left i ≡ true = ap (λ d. d == 1) low.one in
       let none_here : is_one rest i ≡ false = ap (λ d. d == 1) cleared.cleared in

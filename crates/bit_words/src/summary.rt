@@ -1,7 +1,8 @@
 // The summary of a vector of blocks: a list of bits, one for each block, which says which of them are not 0. It is kept
 // in blocks as well, and so changed by `packed`. This folder keeps the two in step, but where all bits become one value
 // or none is left: `fill` and `remove_all` of a bit vector do the same to both.
-ghost use Rattle.std.specs.Prelude.{◌≡◌, ℕ, ◌+◌, ◌-◌, ◌*◌, ◌/◌, ◌^◌, ◌<◌, ◌≤◌, ◌==◌, ◌&&◌, ◌||◌, All, IfOk, IsOk, get_or, if◌then◌else◌, not, nat_le, [], length, map, min, false, true, vec_len, vec_capacity};
+ghost use Rattle.std.specs.Prelude.{◌≡◌, ℕ, ◌+◌, ◌-◌, ◌*◌, ◌/◌, ◌^◌, ◌<◌, ◌≤◌, ◌==◌, ◌&&◌, ◌||◌, All, IfOk, IsOk, get_or};
+ghost use Rattle.std.specs.Prelude.{if◌then◌else◌, not, nat_le, [], length, map, min, false, true, vec_len, vec_capacity};
 ghost use Rattle.bit_blocks.specs.{Bits.blocks_for, Digits.is_one, Storage.{value_at, IsPacked, WritesInPlace, WritesValue, is_used}};
 ghost use Rattle.bit_words.specs.Summary.{short_count, stored_for, IsSummary, IsStoredSummary, SaysUsed};
 

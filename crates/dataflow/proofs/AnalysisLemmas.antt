@@ -1,13 +1,16 @@
 -- The solution of a data-flow problem in the words of an analysis.
 use Rattle.std.proofs.Common.{◌≡◌, ℕ, suc, zero, List, [], ◌∷◌, map, get_or, refl, ◌↔◌, true}
 use Rattle.bit_set.specs.Sets.{elements, has}
-use Rattle.dataflow.specs.Analyses.{AreLive, AreReachingDefinitions, IsLive, ReachesEnd, assigned_in, defined_before, defined_here, defined_in, overwritten_in, predecessors_of, successors_of, used_here, used_in, used_later}
+use Rattle.dataflow.specs.Analyses.{AreLive, AreReachingDefinitions, IsLive, ReachesEnd, assigned_in, defined_before}
+use Rattle.dataflow.specs.Analyses.{defined_here, defined_in, overwritten_in, predecessors_of, successors_of, used_here}
+use Rattle.dataflow.specs.Analyses.{used_in, used_later}
 use Rattle.dataflow.specs.Flow.{AreReached, Flow, IsLeastSolution, Reaches, block_at, made, onward, set_at}
 use Rattle.dataflow.specs.declared.definitions.DefinitionBlock.{DefinitionBlock}
 use Rattle.dataflow.specs.declared.variables.VariableBlock.{VariableBlock}
 
 -- the parts of a block
-pub block_of : {X : Type 0} (sources generated killed : X → List ℕ) (blocks : List X) (b : ℕ) → block_at (map (λ x. record { sources = sources x; generated = generated x; killed = killed x }) blocks) b
+pub block_of : {X : Type 0} (sources generated killed : X → List ℕ) (blocks : List X) (b : ℕ)
+    → block_at (map (λ x. record { sources = sources x; generated = generated x; killed = killed x }) blocks) b
     ≡ record { sources = get_or (map sources blocks) b []; generated = get_or (map generated blocks) b []; killed = get_or (map killed blocks) b [] }
 block_of sources generated killed [] b = refl
 block_of sources generated killed (x ∷ xs) zero = refl

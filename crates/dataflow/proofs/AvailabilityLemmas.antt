@@ -1,10 +1,13 @@
 -- What is missing at the end of each block, and the greatest solution by it.
-use Rattle.std.proofs.Common.{◌≡◌, ◌≢◌, ℕ, ◌<◌, ◌≤◌, ◌+◌, Bool, not, ◌&&◌, ◌==◌, cond, eqb, nat_le, nat_lt, suc, zero, List, [], ◌∷◌, length, map, get_or, inl, inr, ◌⊎◌, refl, sym, ap, ◌∙◌, ◌↔◌, true, false, arith}
+use Rattle.std.proofs.Common.{◌≡◌, ◌≢◌, ℕ, ◌<◌, ◌≤◌, ◌+◌, Bool, not, ◌&&◌, ◌==◌, cond, eqb, nat_le, nat_lt, suc, zero, List}
+use Rattle.std.proofs.Common.{[], ◌∷◌, length, map, get_or, inl, inr, ◌⊎◌, refl, sym, ap, ◌∙◌, ◌↔◌, true, false, arith}
 use Rattle.std.proofs.lemmas.Bool.{true≢false, cases_eq, cases_lt, eq-eqb, eqb-true, le-leb, leb-true, lt-ltb, ltb-true, or_cases, or_left, or_right}
 use Rattle.std.proofs.lemmas.List.{get_or_past, length-map}
 use Rattle.std.specs.List.{list_any}
 use Rattle.bit_set.specs.Sets.{difference, elements, has}
-use Rattle.dataflow.specs.Availability.{AreAvailable, AreComplements, IsComplement, IsAvailableByPredecessors, IsMissing, after_kill, after_path, at_entry, computed_in, killed_in, missing_flow, predecessors_of, starts_with_none}
+use Rattle.dataflow.specs.Availability.{AreAvailable, AreComplements, IsComplement, IsAvailableByPredecessors, IsMissing}
+use Rattle.dataflow.specs.Availability.{after_kill, after_path, at_entry, computed_in, killed_in, missing_flow}
+use Rattle.dataflow.specs.Availability.{predecessors_of, starts_with_none}
 use Rattle.dataflow.specs.Flow.{AreReached, Flow, Reaches, block_at, made, onward, set_at}
 use Rattle.dataflow.specs.declared.expressions.ExpressionBlock.{ExpressionBlock}
 use Rattle.dataflow.proofs.AnalysisLemmas.{block_of}
@@ -65,7 +68,9 @@ module _ {B : Type 0} (blocks : List (ExpressionBlock B)) (count : ℕ) (out : L
   ]
 
   -- sets with nothing but what is in their right sides have nothing that is missing
-  not_missing : (others : List (List ℕ)) → ((b e : ℕ) → has (set_at others b) e ≡ true → (e < count) × IsAvailableByPredecessors blocks others b e) → (e b : ℕ) → IsMissing blocks e b → has (set_at others b) e ≡ true → ⊥
+  not_missing : (others : List (List ℕ)) → ((b e : ℕ) → has (set_at others b) e ≡ true
+      → (e < count) × IsAvailableByPredecessors blocks others b e) → (e b : ℕ) → IsMissing blocks e b
+      → has (set_at others b) e ≡ true → ⊥
   not_missing others within e b (at_entry none not_here) h = elim ((within b e h).1) [
     | inl computed ↦ clash computed not_here
     | inr rest ↦ rest.0 none
@@ -141,7 +146,9 @@ module _ {B : Type 0} (blocks : List (ExpressionBlock B)) (all : List ℕ) (law 
   at b = block_of (λ (x : ExpressionBlock B). x.predecessors.items) (λ x. (missing_flow (length blocks) all x).generated) (λ x. elements x.computed.values) blocks b
 
   past_end : (b e : ℕ) → length blocks ≤ b → IsMissing blocks e b
-  past_end b e past = at_entry (none_past (λ (x : ExpressionBlock B). x.predecessors.items) blocks b past) (ap (λ s. has s e) (none_past (λ (x : ExpressionBlock B). elements x.computed.values) blocks b past))
+  past_end b e past =
+      at_entry (none_past (λ (x : ExpressionBlock B). x.predecessors.items) blocks b past)
+      (ap (λ s. has s e) (none_past (λ (x : ExpressionBlock B). elements x.computed.values) blocks b past))
 
   made_missing : (e b : ℕ) → b < length blocks → has (generated_in b) e ≡ true → IsMissing blocks e b
   made_missing e b lt h =
@@ -172,11 +179,14 @@ module _ {B : Type 0} (blocks : List (ExpressionBlock B)) (all : List ℕ) (law 
   ]) not_here
   missing_reach e b inside lt (after_path {p = p} source not_here before) = elim (cases_lt p (length blocks)) [
     | inl low ↦ onward (rw (at b) source) (rw (at b) not_here) (missing_reach e p inside low before)
-    | inr past ↦ generates e b lt (ap (λ t. has (cond t all (killed_in blocks b)) e) (or_right (length (predecessors_of blocks b) == 0) _ (past_some (length blocks) (predecessors_of blocks b) p source past)) ∙ inside) not_here
+    | inr past ↦ generates e b lt (ap (λ t. has (cond t all (killed_in blocks b)) e)
+        (or_right (length (predecessors_of blocks b) == 0) _
+        (past_some (length blocks) (predecessors_of blocks b) p source past)) ∙ inside) not_here
   ]
 
   -- the complements of what is missing are what is found
-  pub are_found : (count : ℕ) (sets out : List (List ℕ)) → ((n : ℕ) → (has all n ≡ true) ↔ (n < count)) → length sets ≡ length blocks → AreReached flows sets → AreComplements count sets out → AreFound blocks count out
+  pub are_found : (count : ℕ) (sets out : List (List ℕ)) → ((n : ℕ) → (has all n ≡ true) ↔ (n < count))
+      → length sets ≡ length blocks → AreReached flows sets → AreComplements count sets out → AreFound blocks count out
   are_found count sets out below long reached complements = record {
     below = λ b e h. (parts b e h).1;
     missing = λ b e low h. elim (cases_lt b (length blocks)) [
@@ -197,7 +207,9 @@ module _ {B : Type 0} (blocks : List (ExpressionBlock B)) (all : List ℕ) (law 
 
 -- ---- one set after another
 
-pub complements_on : (count i : ℕ) (first old new : List (List ℕ)) → IsComplementedBelow count i first old → length new ≡ length old → ((c : ℕ) → c ≢ i → set_at new c ≡ set_at old c) → IsComplement count (set_at old i) (set_at new i) → IsComplementedBelow count (i + 1) first new
+pub complements_on : (count i : ℕ) (first old new : List (List ℕ)) → IsComplementedBelow count i first old
+    → length new ≡ length old → ((c : ℕ) → c ≢ i → set_at new c ≡ set_at old c)
+    → IsComplement count (set_at old i) (set_at new i) → IsComplementedBelow count (i + 1) first new
 complements_on count i first old new c long others here = record {
   long = long ∙ c.long;
   done = λ b lt e. elim (cases_eq b i) [

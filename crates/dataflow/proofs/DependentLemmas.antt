@@ -74,7 +74,8 @@ none_depend blocks rows long empty = record {
 }
 
 -- and after one more
-pub more_depend : (blocks : List Flow) (n : ℕ) (sources : List ℕ) (old new : List (List ℕ)) → Depends blocks n old → AddsDependent sources n old new → sources ≡ (block_at blocks n).sources → Depends blocks (n + 1) new
+pub more_depend : (blocks : List Flow) (n : ℕ) (sources : List ℕ) (old new : List (List ℕ)) → Depends blocks n old
+    → AddsDependent sources n old new → sources ≡ (block_at blocks n).sources → Depends blocks (n + 1) new
 more_depend blocks n sources old new before a is = record {
   long = a.long ∙ before.long;
   all = λ b s low lt h. elim (cases_eq b n) [

@@ -78,7 +78,8 @@ all_below_in n old new none updates p =
 
 -- ---- the first sets
 
-pub first_way : {X : Type 0} (f : X → Flow) (blocks : List X) (sets : List (List ℕ)) → sets ≡ map (λ x. (f x).generated) blocks → ((b : ℕ) → length (set_at sets b) < 2 ^ 64) → AreOnTheWay (map f blocks) sets
+pub first_way : {X : Type 0} (f : X → Flow) (blocks : List X) (sets : List (List ℕ))
+    → sets ≡ map (λ x. (f x).generated) blocks → ((b : ℕ) → length (set_at sets b) < 2 ^ 64) → AreOnTheWay (map f blocks) sets
 first_way f blocks sets is few = record {
   long = ap length is ∙ length-map blocks (λ x. (f x).generated) ∙ sym (length-map blocks f);
   few = few;
@@ -106,7 +107,9 @@ pub all_wait : (blocks : List Flow) (place : ℕ → ℕ) (sets : List (List ℕ
 all_wait blocks place sets waiting each b s v source has_it passes = inr (each b (with_source blocks b s source))
 
 -- at the end none does
-pub none_waits : (blocks : List Flow) (place : ℕ → ℕ) (sets : List (List ℕ)) (waiting : List ℕ) → IsSettled blocks place sets waiting → HasNone waiting → ((b v : ℕ) → has (block_at blocks b).generated v ≡ true → has (set_at sets b) v ≡ true) → HasAllDue blocks sets
+pub none_waits : (blocks : List Flow) (place : ℕ → ℕ) (sets : List (List ℕ)) (waiting : List ℕ)
+    → IsSettled blocks place sets waiting → HasNone waiting
+    → ((b v : ℕ) → has (block_at blocks b).generated v ≡ true → has (set_at sets b) v ≡ true) → HasAllDue blocks sets
 none_waits blocks place sets waiting settled none generated b v (inl is) = generated b v is
 none_waits blocks place sets waiting settled none generated b v (inr (enters, passes)) =
     elim (settled b enters.0 v enters.1 enters.2 passes) [
@@ -136,10 +139,15 @@ module _ (blocks : List Flow) (place : ℕ → ℕ) (number p : ℕ) (old new : 
       reaches_one b v is (inl before) = way.sound b v (ap (λ n. has (set_at old n) v) is ∙ before)
       reaches_one b v is (inr (enters, passes)) = rw is (onward enters.1 passes (way.sound enters.0 v enters.2))
 
-  module _ (was waiting : List ℕ) (settled : IsSettled blocks place old was) (only : (b : ℕ) → b < length blocks → p ≡ place b → b ≡ number) (kept : (q : ℕ) → p ≢ q → has was q ≡ true → has waiting q ≡ true) where
-    from_old : (b s v : ℕ) → has (block_at blocks b).sources s ≡ true → has (set_at old s) v ≡ true → has (block_at blocks b).killed v ≡ false → (has (set_at new b) v ≡ true) ⊎ (has waiting (place b) ≡ true)
+  module _ (was waiting : List ℕ) (settled : IsSettled blocks place old was)
+      (only : (b : ℕ) → b < length blocks → p ≡ place b → b ≡ number)
+      (kept : (q : ℕ) → p ≢ q → has was q ≡ true → has waiting q ≡ true) where
+    from_old : (b s v : ℕ) → has (block_at blocks b).sources s ≡ true → has (set_at old s) v ≡ true
+        → has (block_at blocks b).killed v ≡ false → (has (set_at new b) v ≡ true) ⊎ (has waiting (place b) ≡ true)
     from_old b s v source before passes = elim (cases_eq b number) [
-      | inl is ↦ inl (ap (λ n. has (set_at new n) v) is ∙ takes.takes v (s, ap (λ n. has (block_at blocks n).sources s) (sym is) ∙ source, before) (ap (λ n. has (block_at blocks n).killed v) (sym is) ∙ passes))
+      | inl is ↦ inl (ap (λ n. has (set_at new n) v) is
+          ∙ takes.takes v (s, ap (λ n. has (block_at blocks n).sources s) (sym is) ∙ source, before)
+          (ap (λ n. has (block_at blocks n).killed v) (sym is) ∙ passes))
       | inr other ↦ elim (settled b s v source before passes) [
         | inl is ↦ inl (has_still b v is)
         | inr waits ↦ inr (kept (place b) (λ same. other (only b (with_source blocks b s source) same)) waits)
@@ -164,7 +172,9 @@ abbrev pub lacking : List (List ℕ) → ℕ
 lacking [] = 0
 lacking (x ∷ xs) = (2 ^ 64 - length x) + lacking xs
 
-pub lacks_less : (old new : List (List ℕ)) (number : ℕ) → length new ≡ length old → number < length old → ((c : ℕ) → c ≢ number → set_at new c ≡ set_at old c) → length (set_at old number) < length (set_at new number) → length (set_at old number) < 2 ^ 64 → lacking new < lacking old
+pub lacks_less : (old new : List (List ℕ)) (number : ℕ) → length new ≡ length old → number < length old
+    → ((c : ℕ) → c ≢ number → set_at new c ≡ set_at old c) → length (set_at old number) < length (set_at new number)
+    → length (set_at old number) < 2 ^ 64 → lacking new < lacking old
 lacks_less [] new number long inside others grew few = absurd (omega (arith, inside))
 lacks_less (x ∷ xs) [] number long inside others grew few = absurd (omega (arith, long))
 lacks_less (x ∷ xs) (y ∷ ys) zero long inside others grew few =
@@ -177,7 +187,9 @@ lacks_less (x ∷ xs) (y ∷ ys) (suc n) long inside others grew few =
     let tail = lacks_less xs ys n (omega (arith, long)) (omega (arith, inside)) (λ c ne. others (suc c) (λ is. ne (omega (arith, is)))) grew few in
     omega (arith, as_long, tail)
 
-pub nearer : (blocks : List Flow) (block : Flow) (number : ℕ) (old new : List (List ℕ)) → AreOnTheWay blocks old → TakesIn block number old new → number < length blocks → length (set_at old number) < length (set_at new number) → lacking new < lacking old
+pub nearer : (blocks : List Flow) (block : Flow) (number : ℕ) (old new : List (List ℕ)) → AreOnTheWay blocks old
+    → TakesIn block number old new → number < length blocks → length (set_at old number) < length (set_at new number)
+    → lacking new < lacking old
 nearer blocks block number old new way takes inside grew = lacks_less old new number takes.long (let long = way.long in omega (arith, long, inside)) takes.others grew (way.few number)
 
 pub one_less : (after before : ℕ) (was_in : Bool) → after + (cond was_in 1 0) ≡ before → was_in ≡ true → after + 1 ≡ before
@@ -186,7 +198,8 @@ one_less after before false h is = absurd (true≢false (sym is))
 
 -- ---- one visit
 
-pub few_after : (old new : List (List ℕ)) (number limit : ℕ) → ((c : ℕ) → c ≢ number → set_at new c ≡ set_at old c) → ((b : ℕ) → length (set_at old b) < limit) → length (set_at new number) < limit → (b : ℕ) → length (set_at new b) < limit
+pub few_after : (old new : List (List ℕ)) (number limit : ℕ) → ((c : ℕ) → c ≢ number → set_at new c ≡ set_at old c)
+    → ((b : ℕ) → length (set_at old b) < limit) → length (set_at new number) < limit → (b : ℕ) → length (set_at new b) < limit
 few_after old new number limit others few low b = elim (cases_eq b number) [
   | inl is ↦ let same : length (set_at new b) ≡ length (set_at new number) = ap (λ n. length (set_at new n)) is in omega (arith, same, low)
   | inr other ↦ let same : length (set_at new b) ≡ length (set_at old b) = ap length (others b other) in let before = few b in omega (arith, same, before)
@@ -199,7 +212,9 @@ module _ (blocks : List Flow) (count : ℕ) (from_last : Bool) (number p : ℕ) 
   only : (b : ℕ) → b < length blocks → p ≡ place_of count from_last b → b ≡ number
   only b lt same = place_back count from_last b p (omega (arith, lt, long)) low (sym same) ∙ sym is
 
-  pub visited_grown : (waiting : List ℕ) → ((q : ℕ) → has rest q ≡ true → has waiting q ≡ true) → ((b : ℕ) → has (block_at blocks b).sources number ≡ true → has waiting (place_of count from_last b) ≡ true) → IsSettled blocks (place_of count from_last) new waiting
+  pub visited_grown : (waiting : List ℕ) → ((q : ℕ) → has rest q ≡ true → has waiting q ≡ true)
+      → ((b : ℕ) → has (block_at blocks b).sources number ≡ true → has waiting (place_of count from_last b) ≡ true)
+      → IsSettled blocks (place_of count from_last) new waiting
   visited_grown waiting kept back = settled_on blocks (place_of count from_last) number p old new takes was waiting settled only (λ q other h. kept q (still_waits was rest p updates q other h)) back
 
   pub visited_same : new ≡ old → IsSettled blocks (place_of count from_last) new rest

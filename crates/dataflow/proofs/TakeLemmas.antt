@@ -1,5 +1,6 @@
 -- What one visit does to a set.
-use Rattle.std.proofs.Common.{◌≡◌, ◌≢◌, ℕ, ◌+◌, ◌<◌, ◌≤◌, Bool, true, false, not, ◌||◌, ◌&&◌, cond, eqb, suc, zero, set, take, inl, inr, List, [], ◌∷◌, ◌++◌, length, map, get_or, refl, sym, ap, ◌∙◌, arith}
+use Rattle.std.proofs.Common.{◌≡◌, ◌≢◌, ℕ, ◌+◌, ◌<◌, ◌≤◌, Bool, true, false, not, ◌||◌, ◌&&◌, cond, eqb, suc, zero, set}
+use Rattle.std.proofs.Common.{take, inl, inr, List, [], ◌∷◌, ◌++◌, length, map, get_or, refl, sym, ap, ◌∙◌, arith}
 use Rattle.std.proofs.lemmas.Bool.{true≢false, cases_eq, eq-eqb, eqb-true, or_cases, or_left, or_right}
 use Rattle.std.proofs.lemmas.List.{get_or_default, get_or_past, get_or-set_other, get_or-set_same, length-map, length-set, map-append, map-set, take_more}
 use Rattle.std.proofs.Math.ListN.{get_or-map}
@@ -36,7 +37,9 @@ pub written : (sets : List Bits) (i : ℕ) (set_of : Bits) → i < length sets �
 written sets i set_of lt = mapped (λ (s : Bits). elements s.values) (set sets i set_of) i set_of [] (omega (arith, lt, length-set sets i set_of)) (sym (get_or-set_same sets i set_of set_of lt))
 
 pub others_stay : (sets : List Bits) (i : ℕ) (set_of : Bits) (c : ℕ) → c ≢ i → set_at (lists_of (set sets i set_of)) c ≡ set_at (lists_of sets) c
-others_stay sets i set_of c other = ap (λ (l : List (List ℕ)). get_or l c []) (map-set (λ (s : Bits). elements s.values) sets i set_of) ∙ get_or-set_other (lists_of sets) i c (elements set_of.values) [] other
+others_stay sets i set_of c other =
+    ap (λ (l : List (List ℕ)). get_or l c []) (map-set (λ (s : Bits). elements s.values) sets i set_of)
+    ∙ get_or-set_other (lists_of sets) i c (elements set_of.values) [] other
 
 pub as_long : (sets : List Bits) (i : ℕ) (set_of : Bits) → length (lists_of (set sets i set_of)) ≡ length (lists_of sets)
 as_long sets i set_of = omega (arith, length-map (set sets i set_of) (λ (s : Bits). elements s.values), length-set sets i set_of, length-map sets (λ (s : Bits). elements s.values))
@@ -67,7 +70,9 @@ of_and false b h = absurd (true≢false (sym h))
 
 -- ---- an item is pushed
 
-pub push_mapped : {X Y Z : Type 0} (f : X → Z) (h : Y → Z) (xs : List X) (i : ℕ) (x : X) (ys : List Y) (y : Y) → i < length xs → x ≡ get_or xs i x → map h ys ≡ map f (take i xs) → h y ≡ f x → map h (ys ++ y ∷ []) ≡ map f (take (i + 1) xs)
+pub push_mapped : {X Y Z : Type 0} (f : X → Z) (h : Y → Z) (xs : List X) (i : ℕ) (x : X) (ys : List Y) (y : Y)
+    → i < length xs → x ≡ get_or xs i x → map h ys ≡ map f (take i xs) → h y ≡ f x
+    → map h (ys ++ y ∷ []) ≡ map f (take (i + 1) xs)
 push_mapped f h xs i x ys y lt is before now =
     let longer = take_more xs i x lt in
     map-append h ys (y ∷ []) ∙ ap (λ l. l ++ h y ∷ []) before ∙ ap (λ z. map f (take i xs) ++ z ∷ []) (now ∙ ap f is) ∙ sym (map-append f (take i xs) (get_or xs i x ∷ [])) ∙ ap (map f) (sym longer)
@@ -78,7 +83,8 @@ few_on [] s limit few low (suc b) = few b
 few_on (x ∷ xs) s limit few low zero = few 0
 few_on (x ∷ xs) s limit few low (suc b) = few_on xs s limit (λ c. few (suc c)) low b
 
-pub few_pushed : (sets : List Bits) (new : Bits) (limit : ℕ) → ((b : ℕ) → length (set_at (lists_of sets) b) < limit) → length (elements new.values) < limit → (b : ℕ) → length (set_at (lists_of (sets ++ new ∷ [])) b) < limit
+pub few_pushed : (sets : List Bits) (new : Bits) (limit : ℕ) → ((b : ℕ) → length (set_at (lists_of sets) b) < limit)
+    → length (elements new.values) < limit → (b : ℕ) → length (set_at (lists_of (sets ++ new ∷ [])) b) < limit
 few_pushed sets new limit few low = rw (map-append (λ (r : Bits). elements r.values) sets (new ∷ [])) (few_on (lists_of sets) (elements new.values) limit few low)
 
 -- ---- what the sets of some blocks have and is not killed
@@ -130,7 +136,9 @@ same_on false now old into new same told h = sym ((bytes_decides into new).0 (is
     is_so true none = refl
     is_so false none = absurd (true≢false none)
 
-pub grew_on : (before now : Bool) (old into new : List ℕ) → (before ≡ false → into ≡ old) → (before ≡ true → length old < length into) → length into + cond now 1 0 ≤ length new → (before || now) ≡ true → length old < length new
+pub grew_on : (before now : Bool) (old into new : List ℕ) → (before ≡ false → into ≡ old)
+    → (before ≡ true → length old < length into) → length into + cond now 1 0 ≤ length new → (before || now) ≡ true
+    → length old < length new
 grew_on true now old into new same grew count h = let more = grew refl in omega (arith, more, count)
 grew_on false true old into new same grew count h = let as_long : length into ≡ length old = ap length (same refl) in omega (arith, as_long, count)
 grew_on false false old into new same grew count h = absurd (true≢false (sym h))
@@ -155,7 +163,9 @@ module _ (sets : List Bits) (b : ℕ) (none own : Bits) (lt : b < length sets) w
   ])
 
 -- The block's own set is empty while the others are read.
-pub takes_transfer : (block : Flow) (b : ℕ) (old read new : List (List ℕ)) → length new ≡ length old → set_at read b ≡ [] → ((c : ℕ) → c ≢ b → set_at read c ≡ set_at old c) → ((c : ℕ) → c ≢ b → set_at new c ≡ set_at old c) → Transfers block.sources block.killed read (set_at old b) (set_at new b) → TakesIn block b old new
+pub takes_transfer : (block : Flow) (b : ℕ) (old read new : List (List ℕ)) → length new ≡ length old → set_at read b ≡ []
+    → ((c : ℕ) → c ≢ b → set_at read c ≡ set_at old c) → ((c : ℕ) → c ≢ b → set_at new c ≡ set_at old c)
+    → Transfers block.sources block.killed read (set_at old b) (set_at new b) → TakesIn block b old new
 takes_transfer block b old read new long none apart others t = record {
   long = long;
   others = others;

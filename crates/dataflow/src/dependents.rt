@@ -1,6 +1,5 @@
 // For each block the blocks that it flows into.
 ghost use Rattle.std.specs.Prelude.{◌≡◌, ◌<◌, ℕ, IfOk, IsOk, OnOk, [], length, map};
-ghost use Rattle.bit_set.specs.Sets.{has};
 ghost use Rattle.dataflow.specs.Worklist.{AddsDependent, AreDependents, row_at, rows_of};
 
 use crate::Block;

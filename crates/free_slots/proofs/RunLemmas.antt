@@ -1,5 +1,6 @@
 -- What runs of calls on slots come to.
-use Rattle.std.proofs.Common.{◌≡◌, ℕ, ◌+◌, ◌<◌, ◌≤◌, ◌↔◌, Bool, true, false, not, ◌||◌, ◌&&◌, ◌==◌, ltb, nat_le, nat_lt, if◌then◌else◌, List, [], ◌∷◌, ◌++◌, Some, None, refl, sym, ap, ◌∙◌, arith, inl, inr}
+use Rattle.std.proofs.Common.{◌≡◌, ℕ, ◌+◌, ◌<◌, ◌≤◌, ◌↔◌, Bool, true, false, not, ◌||◌, ◌&&◌, ◌==◌, ltb, nat_le, nat_lt}
+use Rattle.std.proofs.Common.{if◌then◌else◌, List, [], ◌∷◌, ◌++◌, Some, None, refl, sym, ap, ◌∙◌, arith, inl, inr}
 use Rattle.std.proofs.lemmas.Bool.{Decides.nat_tests, cases_eq, cases_Bool, eq-eqb, ne_eqb, lt-ltb, and_from, and_parts, not-true, true≢false}
 use Rattle.bit_set.specs.Sets.{has, put, without}
 use Rattle.free_slots.specs.Slots.{SlotTable, IsFreeRun, IsLowestFree, all_free, is_taken, without_run}
@@ -54,7 +55,9 @@ module _ (has_put : (s : List ℕ) (n m : ℕ) → has (put s n) m ≡ (n == m |
         | inr other ↦ rw (has_put s.free k slot, ne_eqb k slot other) (omega arith)
       ]
 
-  took_run : (s : SlotTable) (count first slot : ℕ) → IsFreeRun s count first → (if nat_le first slot && nat_lt slot (first + count) then 1 else 0) + ones (is_taken s slot) ≡ ones (is_taken (record { len = s.len; free = without_run s.free count first }) slot)
+  took_run : (s : SlotTable) (count first slot : ℕ) → IsFreeRun s count first
+      → (if nat_le first slot && nat_lt slot (first + count) then 1 else 0) + ones (is_taken s
+      slot) ≡ ones (is_taken (record { len = s.len; free = without_run s.free count first }) slot)
   took_run s count first slot is =
       let members = has_without_run s.free count first slot in
       let free = is.free slot in
@@ -131,7 +134,9 @@ module _ (has_put : (s : List ℕ) (n m : ℕ) → has (put s n) m ≡ (n == m |
         inside = omega (arith, is.inside, len);
         above = is.above;
         lowest = λ other from below.
-            (held_where_taken n other mid es before).1 (and_from (ltb other mid.len) (not (has mid.free other)) (lt-ltb other mid.len (omega (arith, is.inside, below))) (ap not (is.lowest other from below)));
+            (held_where_taken n other mid es before).1
+            (and_from (ltb other mid.len) (not (has mid.free other))
+            (lt-ltb other mid.len (omega (arith, is.inside, below))) (ap not (is.lowest other from below)));
       }
 
   pub held_where_full : (n from slot : ℕ) (t : SlotTable) (es later : List Event) → Run (all_free n) (es ++ Take from None ∷ later) t → from ≤ slot → slot < n → IsHeld es slot
@@ -167,12 +172,16 @@ module _ (has_put : (s : List ℕ) (n m : ℕ) → has (put s n) m ≡ (n == m |
             elim (cases_Bool (has mid.free slot)) [
               | inl free ↦ free
               | inr taken ↦
-                  absurd (is.unheld slot from below ((held_where_taken n slot mid es before).1 (and_from (ltb slot mid.len) (not (has mid.free slot)) (lt-ltb slot mid.len (omega (arith, is.inside, below, len))) (ap not taken))))
+                  absurd (is.unheld slot from below ((held_where_taken n slot mid es before).1
+                  (and_from (ltb slot mid.len) (not (has mid.free slot))
+                  (lt-ltb slot mid.len (omega (arith, is.inside, below, len))) (ap not taken))))
             ];
         inside = omega (arith, is.inside, len);
       }
 
-  pub lowest_unheld_run : (n count first : ℕ) (t : SlotTable) (es later : List Event) → Run (all_free n) (es ++ TakeRun count (Some first) ∷ later) t → IsUnheldRun n es count first × ((other : ℕ) → other < first → IsUnheldRun n es count other → ⊥)
+  pub lowest_unheld_run : (n count first : ℕ) (t : SlotTable) (es later : List Event)
+      → Run (all_free n) (es ++ TakeRun count (Some first) ∷ later) t
+      → IsUnheldRun n es count first × ((other : ℕ) → other < first → IsUnheldRun n es count other → ⊥)
   lowest_unheld_run n count first t es later run =
       let (mid, before, call) = parts (all_free n) t es (TakeRun count (Some first) ∷ later) run in (
         unheld_from_free n count first mid es before call.1.0.run,

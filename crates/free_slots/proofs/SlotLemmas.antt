@@ -1,5 +1,7 @@
 -- Which slots are free, as the set keeps them.
-use Rattle.std.proofs.Common.{◌≡◌, ◌≢◌, ℕ, zero, suc, ◌+◌, ◌-◌, ◌<◌, ◌≤◌, ◌↔◌, ◌==◌, Bool, true, false, not, ◌||◌, ◌&&◌, if◌then◌else◌, leb, ltb, nat_le, nat_lt, List, [], ◌∷◌, length, max, replicate, slice_get, Option, None, Some, MatchOption, refl, sym, ap, ◌∙◌, subst, arith, inl, inr, ⊎_elim, ◌⊎◌}
+use Rattle.std.proofs.Common.{◌≡◌, ◌≢◌, ℕ, zero, suc, ◌+◌, ◌-◌, ◌<◌, ◌≤◌, ◌↔◌, ◌==◌, Bool, true, false, not, ◌||◌, ◌&&◌}
+use Rattle.std.proofs.Common.{if◌then◌else◌, leb, ltb, nat_le, nat_lt, List, [], ◌∷◌, length, max, replicate, slice_get}
+use Rattle.std.proofs.Common.{Option, None, Some, MatchOption, refl, sym, ap, ◌∙◌, subst, arith, inl, inr, ⊎_elim, ◌⊎◌}
 use Rattle.std.proofs.lemmas.Bool.{Decides.nat_tests, and_parts, and_right, cases_eq, cases_lt, eq-eqb, le-leb, le-ltb, leb-true, lt-ltb, ne_eqb, not-false, true≢false}
 use Rattle.std.proofs.Math.Bool.{and-false}
 use Rattle.std.proofs.lemmas.List.{length-replicate}
@@ -60,7 +62,9 @@ first_is_in xs first rest at = rw (at, eq-eqb first first refl) refl
 pub made : (n : ℕ) (values : List Bool) → values ≡ replicate n true → table_of values ≡ all_free n
 made n values is = same_table (length values) n (elements values) (range_with_len 0 n) (table_of values) (ap length is ∙ length-replicate n true) (ap elements is ∙ elements-all 0 n) refl
 
-pub lowest_of : (values : List Bool) (slot : ℕ) (rest : List ℕ) → IsAscending (elements values) → ((m : ℕ) → (has (elements values) m ≡ true) ↔ (slice_get values m ≡ Some true)) → elements values ≡ slot ∷ rest → IsLowestFree (table_of values) 0 slot
+pub lowest_of : (values : List Bool) (slot : ℕ) (rest : List ℕ) → IsAscending (elements values)
+    → ((m : ℕ) → (has (elements values) m ≡ true) ↔ (slice_get values m ≡ Some true)) → elements values ≡ slot ∷ rest
+    → IsLowestFree (table_of values) 0 slot
 lowest_of values slot rest ascends places at =
     let there = first_is_in (elements values) slot rest at in
     record {
@@ -71,7 +75,8 @@ lowest_of values slot rest ascends places at =
     }
 
 -- where a walk over all that are free gave r first
-pub first_found : (values : List Bool) (all : List ℕ) (r : Option ℕ) → IsAscending (elements values) → ((m : ℕ) → (has (elements values) m ≡ true) ↔ (slice_get values m ≡ Some true)) → all ≡ elements values → IsFirstOf all r
+pub first_found : (values : List Bool) (all : List ℕ) (r : Option ℕ) → IsAscending (elements values)
+    → ((m : ℕ) → (has (elements values) m ≡ true) ↔ (slice_get values m ≡ Some true)) → all ≡ elements values → IsFirstOf all r
     → MatchOption r (elements values ≡ []) (λ slot. IsLowestFree (table_of values) 0 slot)
 first_found values all None ascends places is found = sym is ∙ found
 first_found values all (Some slot) ascends places is found = lowest_of values slot found.0 ascends places (sym is ∙ found.1)
@@ -89,7 +94,8 @@ put_again s n ascends by_members ascends_put members is =
       | inr other ↦ rw (members m, ne_eqb n m other) refl
     ])
 
-pub given_back : (old new : List Bool) (slot : ℕ) (answer : Bool) → slot < length old → answer ≡ not (has (elements old) slot) → elements new ≡ put (elements old) slot → length new ≡ max (length old) (slot + 1)
+pub given_back : (old new : List Bool) (slot : ℕ) (answer : Bool) → slot < length old
+    → answer ≡ not (has (elements old) slot) → elements new ≡ put (elements old) slot → length new ≡ max (length old) (slot + 1)
     → (has (elements old) slot ≡ true → put (elements old) slot ≡ elements old) → Happens (table_of old) (GiveBack slot answer) (table_of new)
 given_back old new slot true inside is added long again =
     (rw (lt-ltb slot (length old) inside) (sym is), left old new (put (elements old) slot) (omega (arith, long, inside)) added)
@@ -102,7 +108,8 @@ module _ (s : List ℕ) (from : ℕ) (members : (m : ℕ) → has (those_from s 
   pub none_free_from : those_from s from ≡ [] → (n : ℕ) → from ≤ n → has s n ≡ false
   none_free_from none n above = ap (λ b. b && has s n) (sym (le-leb from n above)) ∙ sym (members n) ∙ ap (λ xs. has xs n) none
 
-  pub least_from : (first : ℕ) (rest : List ℕ) → IsAscending (those_from s from) → those_from s from ≡ first ∷ rest → (has s first ≡ true) × (from ≤ first) × ((n : ℕ) → from ≤ n → n < first → has s n ≡ false)
+  pub least_from : (first : ℕ) (rest : List ℕ) → IsAscending (those_from s from) → those_from s from ≡ first ∷ rest
+      → (has s first ≡ true) × (from ≤ first) × ((n : ℕ) → from ≤ n → n < first → has s n ≡ false)
   least_from first rest ascends at =
       let there = and_parts (leb from first) (has s first) (sym (members first) ∙ first_is_in (those_from s from) first rest at) in (
         there.1,
@@ -110,7 +117,9 @@ module _ (s : List ℕ) (from : ℕ) (members : (m : ℕ) → has (those_from s 
         λ n above below. ap (λ b. b && has s n) (sym (le-leb from n above)) ∙ sym (members n) ∙ first_is_least (those_from s from) first rest ascends at n below,
       )
 
-pub lowest_from : (values : List Bool) (from slot : ℕ) (rest : List ℕ) → ((m : ℕ) → has (those_from (elements values) from) m ≡ (leb from m && has (elements values) m)) → IsAscending (those_from (elements values) from)
+pub lowest_from : (values : List Bool) (from slot : ℕ) (rest : List ℕ)
+    → ((m : ℕ) → has (those_from (elements values) from) m ≡ (leb from m && has (elements values) m))
+    → IsAscending (those_from (elements values) from)
     → ((m : ℕ) → (has (elements values) m ≡ true) ↔ (slice_get values m ≡ Some true)) → those_from (elements values) from ≡ slot ∷ rest → IsLowestFree (table_of values) from slot
 lowest_from values from slot rest members ascends places at =
     let least = least_from (elements values) from members slot rest ascends at in
@@ -139,7 +148,10 @@ none_below s given from none not_given n below =
     ]
 
 -- where the search goes once one is taken, and no other from there up to it is free
-pub none_but_taken : (s : List ℕ) (given from slot from_then taken : ℕ) → ((m : ℕ) → has (without s taken) m ≡ (not (taken == m) && has s m)) → HasNoneBut s given from → ((n : ℕ) → slot ≤ n → n < taken → has s n ≡ false) → ((n : ℕ) → n < from_then → from ≤ n → (slot ≤ n) × (n ≤ taken)) → HasNoneBut (without s taken) given from_then
+pub none_but_taken : (s : List ℕ) (given from slot from_then taken : ℕ)
+    → ((m : ℕ) → has (without s taken) m ≡ (not (taken == m) && has s m)) → HasNoneBut s given from
+    → ((n : ℕ) → slot ≤ n → n < taken → has s n ≡ false) → ((n : ℕ) → n < from_then → from ≤ n → (slot ≤ n) × (n ≤ taken))
+    → HasNoneBut (without s taken) given from_then
 none_but_taken s given from slot from_then taken members none lowest between n below other = members n ∙ elim (cases_eq taken n) [
   | inl same ↦ rw (eq-eqb taken n same) refl
   | inr apart ↦ ap (λ b. not (taken == n) && b) (absent apart (cases_lt n from)) ∙ and-false (not (taken == n))
@@ -150,7 +162,9 @@ none_but_taken s given from slot from_then taken members none lowest between n b
     absent apart (inr past) = let at = between n below past in lowest n at.0 (omega (arith, at.1, apart))
 
 -- where the search goes once one is given back, before it is in
-pub none_but_less : (s : List ℕ) (given from slot given_then from_then : ℕ) (is_free : Bool) → HasNoneBut s given from → is_free ≡ has s given → ((n : ℕ) → n < from_then → n ≢ given_then → (n < from) × (n ≢ slot) × (is_free ≡ true → n ≢ given)) → HasNoneBut s given_then from_then
+pub none_but_less : (s : List ℕ) (given from slot given_then from_then : ℕ) (is_free : Bool) → HasNoneBut s given from
+    → is_free ≡ has s given → ((n : ℕ) → n < from_then → n ≢ given_then
+    → (n < from) × (n ≢ slot) × (is_free ≡ true → n ≢ given)) → HasNoneBut s given_then from_then
 none_but_less s given from slot given_then from_then is_free none tested apart n below other =
     let (within, not_slot, not_given) = apart n below other in
     elim (cases_eq n given) [
@@ -163,7 +177,8 @@ none_but_less s given from slot given_then from_then is_free none tested apart n
     not_true false wrong = refl
 
 -- and once it is in
-pub none_but_given : (s : List ℕ) (given from slot given_then from_then : ℕ) (is_free : Bool) → ((m : ℕ) → has (put s slot) m ≡ (slot == m || has s m)) → HasNoneBut s given from → is_free ≡ has s given
+pub none_but_given : (s : List ℕ) (given from slot given_then from_then : ℕ) (is_free : Bool)
+    → ((m : ℕ) → has (put s slot) m ≡ (slot == m || has s m)) → HasNoneBut s given from → is_free ≡ has s given
     → ((n : ℕ) → n < from_then → n ≢ given_then → (n < from) × (n ≢ slot) × (is_free ≡ true → n ≢ given)) → HasNoneBut (put s slot) given_then from_then
 none_but_given s given from slot given_then from_then is_free members none tested apart n below other =
     members n
@@ -173,7 +188,9 @@ none_but_given s given from slot given_then from_then is_free members none teste
 -- ---- several slots in a row
 
 -- a run that begins below what is free, or before a slot that is not, is none
-pub no_run_across : (s : SlotTable) (count from first end other : ℕ) → 0 < count → end < first + count → ((n : ℕ) → from ≤ n → n < first → has s.free n ≡ false) → has s.free end ≡ false → ((n : ℕ) → n < from → IsFreeRun s count n → ⊥) → other < end → IsFreeRun s count other → ⊥
+pub no_run_across : (s : SlotTable) (count from first end other : ℕ) → 0 < count → end < first + count
+    → ((n : ℕ) → from ≤ n → n < first → has s.free n ≡ false) → has s.free end ≡ false
+    → ((n : ℕ) → n < from → IsFreeRun s count n → ⊥) → other < end → IsFreeRun s count other → ⊥
 no_run_across s count from first end other some near between taken none below is =
     let earlier = λ (before : other < from). none other before is in
     let own = is.free other (omega arith) (omega (arith, some)) in
@@ -190,7 +207,9 @@ no_run_past s count from other some past none is =
     grind (arith, nat_tests)
 
 -- the first slots in a row that are enough
-pub lowest_run : (values : List Bool) (count from first end : ℕ) → 0 < count → IsFirstFrom (has (elements values)) from first → IsFirstFrom (λ m. not (has (elements values) m)) first end → end ≤ max first (length values) → first < length values → count ≤ end - first
+pub lowest_run : (values : List Bool) (count from first end : ℕ) → 0 < count → IsFirstFrom (has (elements values)) from first
+    → IsFirstFrom (λ m. not (has (elements values) m)) first end → end ≤ max first (length values) → first < length values
+    → count ≤ end - first
     → ((n : ℕ) → n < from → IsFreeRun (table_of values) count n → ⊥) → IsLowestRun (table_of values) count first
 lowest_run values count from first end some found past within inside enough none = record {
   run = record { free = λ n from_on below. not-false (has (elements values) n) (past.between n from_on (omega (arith, below, enough, past.reached))); inside = omega (arith, within, inside, enough, past.reached) };
@@ -202,9 +221,15 @@ lowest_run values count from first end some found past within inside enough none
 }
 
 -- so many are among the free ones
-pub run_counted : (s : SlotTable) (count first n : ℕ) → IsFreeRun s count first → ((k : ℕ) → has (span first (first + count)) k ≡ (nat_le first k && nat_lt k (first + count))) → length (span first (first + count)) ≡ first + count - first
-    → (is_subset (span first (first + count)) s.free ≡ true) ↔ ((k : ℕ) → has (span first (first + count)) k ≡ true → has s.free k ≡ true) → (is_subset (span first (first + count)) s.free ≡ true) ↔ (difference (span first (first + count)) s.free ≡ [])
-    → length (difference (span first (first + count)) s.free) + length (those_in_range s.free first (first + count)) ≡ length (span first (first + count)) → n + length (those_in_range s.free first (first + count)) ≡ length s.free → n + count ≡ length s.free
+pub run_counted : (s : SlotTable) (count first n : ℕ) → IsFreeRun s count first
+    → ((k : ℕ) → has (span first (first + count)) k ≡ (nat_le first k && nat_lt k (first + count)))
+    → length (span first (first + count)) ≡ first + count - first
+    → (is_subset (span first (first + count)) s.free ≡ true) ↔ ((k : ℕ) → has (span first (first + count)) k ≡ true
+    → has s.free k ≡ true) → (is_subset (span first (first + count)) s.free ≡ true)
+    ↔ (difference (span first (first + count)) s.free ≡ [])
+    → length (difference (span first (first + count)) s.free) + length (those_in_range s.free first
+    (first + count)) ≡ length (span first (first + count))
+    → n + length (those_in_range s.free first (first + count)) ≡ length s.free → n + count ≡ length s.free
 run_counted s count first n is members long subset none parts left =
     let within = subset.1 (λ k is_in. let member = members k in let free = is.free k in grind (arith, nat_tests)) in
     let rest = ap length (none.0 within) in

@@ -147,7 +147,9 @@ module _ (node : ℕ) (via : Bits) (rows new : List Bits) (is : via.values ≡ (
       keeps_one u v (inl joined) h = joined.keeps v h
       keeps_one u v (inr same) h = ap (λ (set : Bits). has (elements set.values) v) same ∙ h
 
-      only_one : (u v : ℕ) → Joins node via (row rows u) (row new u) ⊎ (row new u ≡ row rows u) → has (elements (row new u).values) v ≡ true → Edge (rows_of rows) u v ⊎ (Edge (rows_of rows) u node × Edge (rows_of rows) node v)
+      only_one : (u v : ℕ) → Joins node via (row rows u) (row new u) ⊎ (row new u ≡ row rows u)
+          → has (elements (row new u).values) v ≡ true
+          → Edge (rows_of rows) u v ⊎ (Edge (rows_of rows) u node × Edge (rows_of rows) node v)
       only_one u v (inl joined) h = elim (joined.only v h) [ inl before ↦ inl (out_of_row rows u v before) | inr two ↦ inr (out_of_row rows u node two.0, of_via v two.1) ]
       only_one u v (inr same) h = inl (out_of_row rows u v (ap (λ (set : Bits). has (elements set.values) v) (sym same) ∙ h))
 
@@ -159,7 +161,11 @@ module _ (node : ℕ) (via : Bits) (rows new : List Bits) (is : via.values ≡ (
 -- ---- one row
 
 module _ (node : ℕ) (via old new : Bits) where
-  pub joined : elements new.values ≡ union (elements old.values) (elements via.values) → length new.values ≡ max (length old.values) (length via.values) → (length via.values ≤ old.capacity → new.capacity ≡ old.capacity) → ((s t : List ℕ) (n : ℕ) → has (union s t) n ≡ (has s n || has t n)) → has (elements old.values) node ≡ true → Joins node via old new
+  pub joined : elements new.values ≡ union (elements old.values) (elements via.values)
+      → length new.values ≡ max (length old.values) (length via.values)
+      → (length via.values ≤ old.capacity → new.capacity ≡ old.capacity)
+      → ((s t : List ℕ) (n : ℕ) → has (union s t) n ≡ (has s n || has t n)) → has (elements old.values) node ≡ true
+      → Joins node via old new
   joined is long capacity members present = record {
     keeps = λ v h. member v ∙ or_left (has (elements old.values) v) _ h;
     only = λ v h. elim (or_cases (has (elements old.values) v) (has (elements via.values) v) (sym (member v) ∙ h)) [ inl before ↦ inl before | inr more ↦ inr (present, more) ];
@@ -184,14 +190,18 @@ spacious_first m rows all = record { long = λ u lt. (at u lt).0; capacity = λ 
     at : (u : ℕ) → u < length rows → (length (row rows u).values ≤ m) × (m ≤ (row rows u).capacity)
     at u lt = All-get_or (λ (r : Bits). (length r.values ≤ m) × (m ≤ r.capacity)) rows u (record { values = []; capacity = 0 }) lt all
 
-pub long_on : (limit node : ℕ) (via : Bits) (rows new : List Bits) → length via.values ≤ limit → ((u : ℕ) → Joins node via (row rows u) (row new u) ⊎ (row new u ≡ row rows u)) → (u : ℕ) → length (row rows u).values ≤ limit → length (row new u).values ≤ limit
+pub long_on : (limit node : ℕ) (via : Bits) (rows new : List Bits) → length via.values ≤ limit
+    → ((u : ℕ) → Joins node via (row rows u) (row new u) ⊎ (row new u ≡ row rows u)) → (u : ℕ)
+    → length (row rows u).values ≤ limit → length (row new u).values ≤ limit
 long_on limit node via rows new short some u low =
     elim (some u) [
       | inl j ↦ let long = j.long in omega (arith, short, low, long)
       | inr same ↦ let as_long : length (row new u).values ≡ length (row rows u).values = ap (λ (r : Bits). length r.values) same in omega (arith, low, as_long)
     ]
 
-pub spacious_on : (m node : ℕ) (via : Bits) (first rows new : List Bits) → length via.values ≤ m → ((u : ℕ) → Joins node via (row rows u) (row new u) ⊎ (row new u ≡ row rows u)) → Spacious m first rows → Spacious m first new
+pub spacious_on : (m node : ℕ) (via : Bits) (first rows new : List Bits) → length via.values ≤ m
+    → ((u : ℕ) → Joins node via (row rows u) (row new u) ⊎ (row new u ≡ row rows u)) → Spacious m first rows
+    → Spacious m first new
 spacious_on m node via first rows new short some r = record {
   long = λ u lt. long_on m node via rows new short some u (r.long u lt);
   capacity = λ u lt. stays u lt (some u) ∙ r.capacity u lt;
@@ -205,7 +215,9 @@ spacious_on m node via first rows new short some r = record {
 pub same_capacities : (m : ℕ) (first rows : List Bits) → length rows ≡ length first → Spacious m first rows → map (λ (r : Bits). r.capacity) rows ≡ map (λ (r : Bits). r.capacity) first
 same_capacities m first rows long r = go first rows long r.capacity
   where
-    go : (first rows : List Bits) → length rows ≡ length first → ((u : ℕ) → u < length first → (row rows u).capacity ≡ (row first u).capacity) → map (λ (r : Bits). r.capacity) rows ≡ map (λ (r : Bits). r.capacity) first
+    go : (first rows : List Bits) → length rows ≡ length first
+        → ((u : ℕ) → u < length first → (row rows u).capacity ≡ (row first u).capacity)
+        → map (λ (r : Bits). r.capacity) rows ≡ map (λ (r : Bits). r.capacity) first
     go [] [] long each = refl
     go [] (x ∷ xs) long each = absurd (omega (arith, long))
     go (x ∷ xs) [] long each = absurd (omega (arith, long))
@@ -215,7 +227,8 @@ same_capacities m first rows long r = go first rows long r.capacity
         cc
 
 -- with the capacity for m none is full
-pub no_row_is_full : (m node : ℕ) (via : Bits) (first rows : List Bits) → via.values ≡ (row rows node).values → Spacious m first rows → node < length first → (u : ℕ) → u < length first → (row rows u).capacity < length via.values → ⊥
+pub no_row_is_full : (m node : ℕ) (via : Bits) (first rows : List Bits) → via.values ≡ (row rows node).values
+    → Spacious m first rows → node < length first → (u : ℕ) → u < length first → (row rows u).capacity < length via.values → ⊥
 no_row_is_full m node via first rows copied r inside u lt full =
     let long = r.long node inside in
     let as_long : length via.values ≡ length (row rows node).values = ap length copied in

@@ -60,7 +60,8 @@ module _ (graph : List (List ℕ)) (u : ℕ) where
   }
 
   -- and past a node whose row was taken in
-  pub follows_taken : (node : ℕ) (nodes via now : List ℕ) → ((v : ℕ) → has now v ≡ (has nodes v || has via v)) → Follows graph node node via → Follows graph u node nodes → Follows graph u (node + 1) now
+  pub follows_taken : (node : ℕ) (nodes via now : List ℕ) → ((v : ℕ) → has now v ≡ (has nodes v || has via v))
+      → Follows graph node node via → Follows graph u node nodes → Follows graph u (node + 1) now
   follows_taken node nodes via now taken g f = record {
     start = λ v e. first v (f.start v e);
     onward = λ m v lt is e. elim (cases_eq m node) [
@@ -81,7 +82,9 @@ module _ (graph : List (List ℕ)) (u : ℕ) where
       second v is = taken v ∙ or_right (has nodes v) (has via v) is
 
 -- the row of a node that is below follows the edges still, also where the node is that of the row that changes
-pub follows_via : (graph : List (List ℕ)) (old now : Matrix) (row node : ℕ) → ((q : ℕ) → q ≢ row → row_of now q ≡ row_of old q) → Follows graph node node (row_of old node) → Follows graph row node (row_of now row) → Follows graph node node (row_of now node)
+pub follows_via : (graph : List (List ℕ)) (old now : Matrix) (row node : ℕ)
+    → ((q : ℕ) → q ≢ row → row_of now q ≡ row_of old q) → Follows graph node node (row_of old node)
+    → Follows graph row node (row_of now row) → Follows graph node node (row_of now node)
 follows_via graph old now row node others was own = elim (cases_eq node row) [
   | inl is ↦ subst (λ k. Follows graph k node (row_of now k)) (sym is) own
   | inr other ↦ rw (others node other) was
@@ -141,7 +144,9 @@ module _ (old now new : Matrix) (row : ℕ) (others : (q : ℕ) → q ≢ row �
     way = further_on_the_way old.rows now.rows new.rows f.way way;
   }
 
-  pub follows_all_on : ((graph : List (List ℕ)) → ((j : ℕ) → row + 1 ≤ j → j < length old.rows → Follows graph j j (row_of now j)) → Follows graph row (row + 1) (row_of now row) → Follows graph row (length old.rows) (row_of new row))
+  pub follows_all_on : ((graph : List (List ℕ))
+      → ((j : ℕ) → row + 1 ≤ j → j < length old.rows → Follows graph j j (row_of now j))
+      → Follows graph row (row + 1) (row_of now row) → Follows graph row (length old.rows) (row_of new row))
       → row < length old.rows → FollowsAll old now row → FollowsAll old new (row + 1)
   follows_all_on follows inside f = record {
     before = λ j lt. elim (cases_eq j row) [

@@ -7,7 +7,9 @@ use Rattle.graph_walks.specs.{Closed.{IsClosed, IsClosureOf, IsReflexiveClosureO
 use Rattle.graph_walks.proofs.CloseLemmas.{edge_within, path_on}
 
 -- one node more is in its own row
-pub own_bit : (old before now : Matrix) (node : ℕ) → ((u v : ℕ) → has_at before u v ≡ (has_at old u v || (eqb u v && nat_lt u node))) → ChangesRow before now node (λ c. eqb node c || has_at before node c)
+pub own_bit : (old before now : Matrix) (node : ℕ)
+    → ((u v : ℕ) → has_at before u v ≡ (has_at old u v || (eqb u v && nat_lt u node)))
+    → ChangesRow before now node (λ c. eqb node c || has_at before node c)
     → (u v : ℕ) → has_at now u v ≡ (has_at old u v || (eqb u v && nat_lt u (node + 1)))
 own_bit old before now node so_far puts u v = elim (cases_eq u node) [
   | inl is ↦

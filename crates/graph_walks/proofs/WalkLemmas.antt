@@ -1,5 +1,6 @@
 -- What a walk over a graph keeps, and what it comes to.
-use Rattle.std.proofs.Common.{◌≡◌, ℕ, ◌+◌, ◌-◌, ◌*◌, ◌<◌, ◌≤◌, Bool, not, true, false, ◌||◌, cond, eqb, ltb, ◌⊎◌, inl, inr, List, [], ◌∷◌, ◌++◌, length, Option, Some, None, refl, sym, ap, ◌∙◌, ◌↔◌, arith}
+use Rattle.std.proofs.Common.{◌≡◌, ℕ, ◌+◌, ◌-◌, ◌*◌, ◌<◌, ◌≤◌, Bool, not, true, false, ◌||◌, cond, eqb, ltb, ◌⊎◌, inl, inr}
+use Rattle.std.proofs.Common.{List, [], ◌∷◌, ◌++◌, length, Option, Some, None, refl, sym, ap, ◌∙◌, ◌↔◌, arith}
 use Rattle.std.proofs.lemmas.Bool.{eqb-true, eq-eqb, ne_eqb, true≢false, cases_eq, or_cases, or_left, or_parts, or_right}
 use Rattle.std.proofs.lemmas.List.{append-nil, get_or_past, length_push}
 use Rattle.std.proofs.lemmas.List.Folds.{list_any-append}
@@ -80,7 +81,9 @@ module _ (items old stack mid piled : List ℕ) (x : ℕ) (t : TakesOn items old
 
   pub taken_again : has mid x ≡ true → put mid x ≡ mid → TakesOn (items ++ x ∷ []) old stack (put mid x) piled
   taken_again present same = rw same (record {
-    members = λ v. t.members v ∙ or_behind (eqb x v) (has items v) (has old v) (λ is. sym (t.members v) ∙ ap (has mid) (sym (eqb-true x v is)) ∙ present) ∙ ap (λ b. b || has old v) (sym (has-push items x v));
+    members = λ v. t.members v ∙ or_behind (eqb x v) (has items v) (has old v)
+        (λ is. sym (t.members v) ∙ ap (has mid) (sym (eqb-true x v is)) ∙ present)
+        ∙ ap (λ b. b || has old v) (sym (has-push items x v));
     kept = t.kept;
     fresh = t.fresh;
     given = λ v h. elim (t.given v h) [ inl o ↦ inl o | inr i ↦ inr (kept_by_push items x v i) ];
@@ -89,7 +92,10 @@ module _ (items old stack mid piled : List ℕ) (x : ℕ) (t : TakesOn items old
   })
 
 -- a number that is in goes in without a change
-pub put_present : (s : List ℕ) (n : ℕ) → ((s : List ℕ) (n m : ℕ) → has (put s n) m ≡ (eqb n m || has s m)) → ((s : List ℕ) (n : ℕ) → IsAscending s → IsAscending (put s n)) → ((s t : List ℕ) → IsAscending s → IsAscending t → ((n : ℕ) → has s n ≡ has t n) → s ≡ t) → IsAscending s → has s n ≡ true → put s n ≡ s
+pub put_present : (s : List ℕ) (n : ℕ) → ((s : List ℕ) (n m : ℕ) → has (put s n) m ≡ (eqb n m || has s m))
+    → ((s : List ℕ) (n : ℕ) → IsAscending s → IsAscending (put s n))
+    → ((s t : List ℕ) → IsAscending s → IsAscending t → ((n : ℕ) → has s n ≡ has t n) → s ≡ t) → IsAscending s
+    → has s n ≡ true → put s n ≡ s
 put_present s n has-put up-put same up present =
     same (put s n) s (up-put s n up) up (λ m. has-put s n m ∙ elim (cases_eq n m) [
       | inl e ↦ let it : has s m ≡ true = ap (has s) (sym e) ∙ present in or_right (eqb n m) (has s m) it ∙ sym it
@@ -170,13 +176,18 @@ module _ (rows : List (List ℕ)) (reached stack new new_stack : List ℕ) (node
   as_many : length new_stack + length reached ≡ length stack + length new
   as_many = let ones = t.weight (λ _. 1) in omega (arith, ones, length_by new_stack, length_by reached, length_by stack, length_by new)
 
-  pub counts_on : (nodes_before edges_before nodes edges nodes_after edges_after : ℕ) → nodes_after ≡ nodes + 1 → edges_after ≡ edges + length (successors rows node) → Counts rows nodes_before edges_before reached (stack ++ node ∷ []) nodes edges → Counts rows nodes_before edges_before new new_stack nodes_after edges_after
+  pub counts_on : (nodes_before edges_before nodes edges nodes_after edges_after : ℕ) → nodes_after ≡ nodes + 1
+      → edges_after ≡ edges + length (successors rows node)
+      → Counts rows nodes_before edges_before reached (stack ++ node ∷ []) nodes edges
+      → Counts rows nodes_before edges_before new new_stack nodes_after edges_after
   counts_on nodes_before edges_before nodes edges nodes_after edges_after one_more each h = record {
     expanded = let before = h.expanded in omega (arith, one_more, before, length_push stack node, as_many);
     looked_at =
         let before = h.looked_at in
         let weight = t.weight (λ v. length (successors rows v)) in
-        let pushed_on : sum_by (λ v. length (successors rows v)) (stack ++ node ∷ []) ≡ sum_by (λ v. length (successors rows v)) stack + length (successors rows node) = sum_by_push (λ v. length (successors rows v)) stack node in
+        let pushed_on : sum_by (λ v. length (successors rows v))
+        (stack ++ node ∷ []) ≡ sum_by (λ v. length (successors rows v))
+        stack + length (successors rows node) = sum_by_push (λ v. length (successors rows v)) stack node in
         omega (arith, each, before, weight, pushed_on);
   }
 

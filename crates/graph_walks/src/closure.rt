@@ -1,6 +1,5 @@
 // The transitive closure of a graph of sets.
 ghost use Rattle.std.specs.Prelude.{◌≡◌, ◌<◌, ◌≤◌, ◌⊎◌, ℕ, All, IsOk, OnErr, OnOk, length, map};
-ghost use Rattle.bit_set.specs.Sets.{elements};
 ghost use Rattle.graph_walks.specs.Closed.{IsClosed, IsClosureOf, IsOnTheWay, Joins, row};
 ghost use Rattle.graph_walks.specs.Paths.{rows_of};
 

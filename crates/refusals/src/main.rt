@@ -11,8 +11,8 @@ mod flow_problems;
 mod json;
 mod matrices;
 mod new_values;
-mod noted;
 mod ranges;
+mod reporting;
 mod rows;
 mod runs;
 mod sets;
@@ -37,7 +37,7 @@ fn words(rt: &HostRuntime) -> Result<Vec<String>, Fault> {
 // The calls of sets and bit vectors that each type of blocks has, over one of them.
 fn over_sets<B: BitBlock>(sweep: &mut Sweep<'_>) {
     sets::all::<B>(sweep);
-    noted::all::<B>(sweep);
+    reporting::all::<B>(sweep);
     ranges::all::<B>(sweep);
     splits::all::<B>(sweep);
     new_values::all::<B>(sweep);

@@ -1,5 +1,5 @@
 // The blocks of a list become others, whatever these are.
-ghost use Rattle.std.specs.Prelude.{◌≡◌, ◌<◌, ◌≤◌, All, length, map};
+ghost use Rattle.std.specs.Prelude.{◌<◌, ◌≤◌, All, length, map};
 ghost use Rattle.bit_blocks.specs.BlockMerges.{except_at, CanMerge, HaveBecome};
 
 use crate::block::BitBlock;

@@ -6,7 +6,7 @@ ghost use Rattle.bit_set.specs.Sets.{IsAscending, difference, intersection, is_d
 /// When an operation in place leaves a set as it is, which `union_changes` and the calls like it tell: a union where the
 /// other set is in this one, an intersection where this one is in the other, a difference where they have nothing in
 /// common, and a symmetric difference where the other is empty. `union_with_difference` is a union with a difference.
-#[tactic(auto, using(crate::proofs::NotedLemmas::merges_that_keep))]
+#[tactic(auto, using(crate::proofs::ReportedLemmas::merges_that_keep))]
 pub fn merges_that_keep_sets()
     ensures union { (s t : List ℕ) → IsAscending s → same_sets s (union s t) ≡ is_subset t s }
     ensures intersection { (s t : List ℕ) → IsAscending s → same_sets s (intersection s t) ≡ is_subset s t }

@@ -1,7 +1,9 @@
 // Merges of the blocks of a list that say whether one changed. The list is looked at up to the first blocks that change, and
 // merged from there on.
 ghost use Rattle.std.specs.Prelude.{◌≡◌, ℕ, ◌+◌, ◌*◌, ◌^◌, ◌<◌, ◌≤◌, ◌↔◌, ◌||◌, All, IfNone, IfSome, false, length, map, min, true, vec_capacity};
-ghost use Rattle.bit_blocks.specs.{Bits.blocks_for, BlockMerges.{both_at, except_at, other_at, AreKept, CanMerge, HasMerged, HaveBecome, Stay}, Digits.is_one, Storage.{value_at, is_used}, declared.block.merge.Merge.Merge};
+ghost use Rattle.bit_blocks.specs.Bits.{blocks_for};
+ghost use Rattle.bit_blocks.specs.BlockMerges.{both_at, except_at, other_at, AreKept, CanMerge, HasMerged, HaveBecome, Stay};
+ghost use Rattle.bit_blocks.specs.{Digits.is_one, Storage.{value_at, is_used}, declared.block.merge.Merge.Merge};
 ghost use Rattle.bit_words.specs.Summary.{IsSummary, IsStoredSummary};
 
 use crate::summary::merges::touched::changes_touched;

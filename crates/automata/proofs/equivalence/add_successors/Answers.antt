@@ -20,7 +20,8 @@ loop-symbol-preserved g c =
     let places = it.places in
     record {
       end = it.end;
-      explores = pair_on a b queue _ at c.loop-symbol.symbol from c.step.result c.step-in-loop-symbol.result _ _ it.explores inside lt from_is c.step.ensures.value c.step-in-loop-symbol.ensures.value change after;
+      explores = pair_on a b queue _ at c.loop-symbol.symbol from c.step.result c.step-in-loop-symbol.result _ _ it.explores
+          inside lt from_is c.step.ensures.value c.step-in-loop-symbol.ensures.value change after;
       more = let longer = as_many queue _ _ _ after in omega (arith, longer, it.more);
       same = λ i early. same_pair queue _ _ _ i after (omega (arith, early, it.more)) ∙ it.same i early;
       places = record { rows = change.rows ∙ places.rows; columns = change.columns ∙ places.columns };

@@ -10,7 +10,9 @@ returns-then-is_accepting-clause-differ g c =
     let word = c.in_ok-word_of.field-0.items in
     let lt : c.loop-done.done < length queue = omega (arith, c.len.ensures, c.loop-done-test.true) in
     let spells : Spells queue c.loop-done.done word = rw c.as_slice.ensures.value at c.in_ok-word_of.ensures in
-    differ_at c.args.a.now c.args.b.now queue _ _ c.loop-done.invariant.explores c.loop-done.done c.index-pair.result.now c.is_accepting.result c.is_accepting-in-loop-done.result word lt c.index-pair.ensures c.is_accepting.ensures c.is_accepting-in-loop-done.ensures c.if-is_accepting.true spells c.states.ensures.table c.states-2.ensures.table
+    differ_at c.args.a.now c.args.b.now queue _ _ c.loop-done.invariant.explores c.loop-done.done c.index-pair.result.now
+    c.is_accepting.result c.is_accepting-in-loop-done.result word lt c.index-pair.ensures c.is_accepting.ensures
+    c.is_accepting-in-loop-done.ensures c.if-is_accepting.true spells c.states.ensures.table c.states-2.ensures.table
 
 pub loop-done-preserved : goal.loop-done-preserved
 loop-done-preserved g c =
@@ -18,7 +20,9 @@ loop-done-preserved g c =
     let after = c.in_ok-add_successors.ensures in
     let old = c.loop-done.queue.items in
     let lt : c.loop-done.done < length old = omega (arith, c.len.ensures, c.loop-done-test.true) in
-    let agree = agree_at c.args.a.now c.args.b.now old c.loop-done.done c.index-pair.result.now c.is_accepting.result c.is_accepting-in-loop-done.result lt c.index-pair.ensures c.is_accepting.ensures c.is_accepting-in-loop-done.ensures c.if-is_accepting.false in
+    let agree = agree_at c.args.a.now c.args.b.now old c.loop-done.done c.index-pair.result.now c.is_accepting.result
+    c.is_accepting-in-loop-done.result lt c.index-pair.ensures c.is_accepting.ensures c.is_accepting-in-loop-done.ensures
+    c.if-is_accepting.false in
     record {
       inside = omega (arith, after.more, lt);
       places = after.places;
@@ -31,7 +35,9 @@ returns-clause-same g c =
     let it = c.loop-done.invariant in
     let queue = c.loop-done.queue.items in
     let ended : c.loop-done.done ≡ length queue = omega (arith, it.inside) in
-    all_the_same c.args.a.now c.args.b.now queue _ _ it.explores (ap (λ n. n * symbols_of c.args.a.now c.args.b.now) ended) c.states.ensures.table c.states-2.ensures.table (λ i lt. it.agree i (omega (arith, lt, ended)))
+    all_the_same c.args.a.now c.args.b.now queue _ _ it.explores
+    (ap (λ n. n * symbols_of c.args.a.now c.args.b.now) ended) c.states.ensures.table c.states-2.ensures.table
+    (λ i lt. it.agree i (omega (arith, lt, ended)))
 
 pub first_pairs-requires-clause-none : goal.first_pairs-requires-clause-none
 first_pairs-requires-clause-none g c = c.in_ok-met.ensures.none

@@ -17,7 +17,8 @@ loop-symbol-preserved g c =
     let longer : take (i + 1) word ≡ take i word ++ get_or word i 0 ∷ [] = take_more word i 0 inside in
     let same = c.step.ensures.capacity c.loop-symbol.invariant.next in
     let image : IsImage (row_of moves (get_or word i 0)) (elements c.loop-symbol.states.values) (elements c.step.new.into.values) = rw c.unwrap.ensures at c.step.ensures.image in
-    let end : IsEnd moves (elements c.args.states.now.values) (take i word ++ get_or word i 0 ∷ []) (elements c.step.new.into.values) = end_on moves _ _ _ (take i word) (get_or word i 0) c.loop-symbol.invariant.end image in
+    let end : IsEnd moves (elements c.args.states.now.values) (take i word ++ get_or word i 0 ∷ [])
+    (elements c.step.new.into.values) = end_on moves _ _ _ (take i word) (get_or word i 0) c.loop-symbol.invariant.end image in
     record {
       end = rw (longer, c.swap.ensures.x_after) end;
       states = rw (c.swap.ensures.x_after, same) c.loop-symbol.invariant.next;

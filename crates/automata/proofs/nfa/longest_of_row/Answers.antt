@@ -9,7 +9,9 @@ loop-set-preserved g c =
     let row = c.args.row.now in
     let i = c.loop-set.set-index in
     let inside : i < length row = omega arith in
-    let long : length c.get_ref.result.now.values ≡ length (set_at row i).values = ap (λ (set : Bits). length set.values) (c.get_ref.ensures ∙ c.set-item.is ∙ get_or_default row i c.set-item.result (record { values = []; capacity = 0 }) inside) in
+    let long : length c.get_ref.result.now.values ≡ length (set_at row i).values =
+    ap (λ (set : Bits). length set.values) (c.get_ref.ensures ∙ c.set-item.is
+    ∙ get_or_default row i c.set-item.result (record { values = []; capacity = 0 }) inside) in
     let read = c.len.ensures.value in
     let most = c.max-longest.ensures in
     record {

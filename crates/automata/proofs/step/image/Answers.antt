@@ -50,7 +50,9 @@ loop-state-preserved g c =
     record {
       can_next = tt;
       finite = tt;
-      gathers = gathers_on (row_of_sets row) _ _ _ _ _ x c.loop-state.invariant.gathers c.in-Some.ensures.steps.first.is_in c.in-Some.ensures.steps.first.others (nowhere (row_of_sets row) _ x (row_past row x past));
+      gathers = gathers_on (row_of_sets row) _ _ _ _ _ x c.loop-state.invariant.gathers
+          c.in-Some.ensures.steps.first.is_in c.in-Some.ensures.steps.first.others
+          (nowhere (row_of_sets row) _ x (row_past row x past));
       capacity = c.loop-state.invariant.capacity;
     }
 

@@ -20,7 +20,9 @@ returns-in_err-number-clause-too_many g c =
     let inside : symbol < length nfa.moves = omega arith in
     let image : IsImage (row_of nfa.moves symbol) (set_of sets c.args.state) set = rw c.set.ensures at c.in_ok-step.ensures in
     let reach = reached_on nfa sets _ c.loop-symbol.invariant.builds c.args.state symbol set c.loop-symbol.invariant.inside inside image in
-    more_than nfa sets _ c.loop-symbol.invariant.builds set (c.sets_ascend.ensures.elements c.step.new.into.values) reach (c.in_err-number.ensures.too_many.0 (ap Err fault)).0 c.sets_are_their_members.ensures.set c.args.most (c.in_err-number.ensures.too_many.0 (ap Err fault)).1)
+    more_than nfa sets _ c.loop-symbol.invariant.builds set (c.sets_ascend.ensures.elements c.step.new.into.values) reach
+    (c.in_err-number.ensures.too_many.0 (ap Err fault)).0 c.sets_are_their_members.ensures.set c.args.most
+    (c.in_err-number.ensures.too_many.0 (ap Err fault)).1)
 
 pub loop-symbol-preserved : goal.loop-symbol-preserved
 loop-symbol-preserved g c =
@@ -35,7 +37,10 @@ loop-symbol-preserved g c =
     let before = c.loop-symbol.invariant.whole in
     record {
       end = c.loop-symbol.invariant.end;
-      builds = rw c.in_ok-push.ensures.items (row_on nfa sets _ c.args.state symbol set c.in_ok-number.number c.number_of.new.self c.loop-symbol.invariant.builds (c.sets_ascend.ensures.elements c.step.new.into.values) c.sets_are_their_members.ensures.set before inside c.loop-symbol.invariant.inside image c.in_ok-number.ensures.ok);
+      builds = rw c.in_ok-push.ensures.items (row_on nfa sets _ c.args.state symbol set c.in_ok-number.number
+          c.number_of.new.self c.loop-symbol.invariant.builds
+          (c.sets_ascend.ensures.elements c.step.new.into.values) c.sets_are_their_members.ensures.set before
+          inside c.loop-symbol.invariant.inside image c.in_ok-number.ensures.ok);
       whole = omega (arith, longer, before, length_push c.loop-symbol.next.items c.in_ok-number.number);
       inside = omega (arith, more, c.loop-symbol.invariant.inside);
       few = c.in_ok-number.ensures.limit refl c.loop-symbol.invariant.few;

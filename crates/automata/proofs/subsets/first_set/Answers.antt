@@ -15,7 +15,10 @@ returns-in_err-number_of-clause-too_many g c =
     more_than_none c.args.nfa.now (elements c.starts.result.now.values) (c.sets_ascend.ensures.elements c.starts.result.now.values) c.starts.ensures c.args.most (omega (arith, full, empty)))
 
 pub returns-clause-builds : goal.returns-clause-builds
-returns-clause-builds g c = builds_first c.args.nfa.now (elements c.starts.result.now.values) (c.sets_ascend.ensures.elements c.starts.result.now.values) c.starts.ensures _ _ (rw c.new-numbering.ensures at c.in_ok-number_of.ensures.ok)
+returns-clause-builds g c =
+    builds_first c.args.nfa.now (elements c.starts.result.now.values)
+    (c.sets_ascend.ensures.elements c.starts.result.now.values) c.starts.ensures _ _
+    (rw c.new-numbering.ensures at c.in_ok-number_of.ensures.ok)
 
 -- no set is numbered, so that the starts are new
 pub returns-in_err-number_of-clause-no_states : goal.returns-in_err-number_of-clause-no_states

@@ -3,10 +3,15 @@ use Rattle.bit_matrix.proofs.{PartLemmas.{IsPut, is_put, kept_part, part_merged,
 use Rattle.bit_matrix.proofs.merges.merge_others.Goals as goal
 
 -- the blocks that are merged stand between others
-put : (g : _) (c : After-merge_blocks g) → IsPut c.args.write (map g.B.BitBlock.number c.split_at_mut-part.result.0.now) (map g.B.BitBlock.number c.merge_blocks.new.blocks) (map g.B.BitBlock.number c.args.blocks.now) (map g.B.BitBlock.number (c.split_at_mut-back.result.0.now ++ (c.merge_blocks.new.blocks ++ c.split_at_mut-part.result.1.now)))
+put : (g : _) (c : After-merge_blocks g) → IsPut c.args.write (map g.B.BitBlock.number c.split_at_mut-part.result.0.now)
+    (map g.B.BitBlock.number c.merge_blocks.new.blocks) (map g.B.BitBlock.number c.args.blocks.now)
+    (map g.B.BitBlock.number
+    (c.split_at_mut-back.result.0.now ++ (c.merge_blocks.new.blocks ++ c.split_at_mut-part.result.1.now)))
 put g c =
     let whole = c.split_at_mut-back.ensures.value ∙ ap (λ ys. c.split_at_mut-back.result.0.now ++ ys) c.split_at_mut-part.ensures.value in
-    rw whole (is_put g.B.BitBlock.number c.split_at_mut-back.result.0.now c.split_at_mut-part.result.0.now c.merge_blocks.new.blocks c.split_at_mut-part.result.1.now c.args.write c.split_at_mut-back.ensures.front_len c.merge_blocks.ensures.has.len)
+    rw whole (is_put g.B.BitBlock.number c.split_at_mut-back.result.0.now c.split_at_mut-part.result.0.now
+    c.merge_blocks.new.blocks c.split_at_mut-part.result.1.now c.args.write c.split_at_mut-back.ensures.front_len
+    c.merge_blocks.ensures.has.len)
 
 long : (g : _) (c : After-merge_blocks g) → length (map g.B.BitBlock.number c.split_at_mut-part.result.0.now) ≡ length c.args.others.now
 long g c = length-map c.split_at_mut-part.result.0.now g.B.BitBlock.number ∙ c.split_at_mut-part.ensures.front_len

@@ -1,6 +1,6 @@
 use Rattle.std.proofs.{Common.{◌≡◌, ◌+◌, ◌<◌, length, map, sym, ap₂, ◌∙◌, arith}, lemmas.List.{length-map}}
 use Rattle.bit_blocks.specs.{Digits.is_one, Merges.merge_of_values}
-use Rattle.bit_matrix.proofs.PartLemmas.{block_merged, still_write, told_more}
+use Rattle.bit_matrix.proofs.PartLemmas.{block_merged, still_write, reported_more}
 use Rattle.bit_matrix.proofs.merges.merge_same.Goals as goal
 
 pub loop-k-preserved : goal.loop-k-preserved
@@ -16,8 +16,10 @@ loop-k-preserved g c =
     let was = now ∙ still_write m w c.args.start c.args.start k ms ms ns before.merged in
     let within : c.args.start + k < length ns = omega (arith, length-map c.loop-k.blocks f) in
     record {
-      merged = block_merged m w c.args.start c.args.start k _ ms ms ns _ within c.put_in.ensures.numbers before.merged (λ j inside. c.of_blocks-merged.ensures.digits j inside ∙ ap₂ (λ a b. merge_of_values m (is_one a j) (is_one b j)) was was);
-      none = told_more c.args.start k _ _ ms ns _ _ _ within c.put_in.ensures.numbers (sym now) (sym was) before.none c.or_mismatch-mismatch.ensures.none;
+      merged = block_merged m w c.args.start c.args.start k _ ms ms ns _ within c.put_in.ensures.numbers before.merged
+          (λ j inside. c.of_blocks-merged.ensures.digits j inside
+          ∙ ap₂ (λ a b. merge_of_values m (is_one a j) (is_one b j)) was was);
+      none = reported_more c.args.start k _ _ ms ns _ _ _ within c.put_in.ensures.numbers (sym now) (sym was) before.none c.or_mismatch-mismatch.ensures.none;
       of_block = c.or_mismatch-mismatch.ensures.of_block;
       each = c.put_in.ensures.each;
       len = c.put_in.ensures.len ∙ before.len;

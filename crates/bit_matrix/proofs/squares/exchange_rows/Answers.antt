@@ -11,7 +11,10 @@ loop-g-preserved g c =
     let before = c.loop-g.invariant in
     let one = rw (c.block_at.ensures.of_number, c.block_at-in-loop-g.ensures.of_number) at c.exchange-above.ensures.exchanged in
     record {
-      exchanged = exchanged_more _ _ _ _ c.args.upper c.args.lower c.loop-g.g _ _ (map f c.args.blocks.now) ns (map f c.put_in.new.blocks) _ (omega (arith, c.requires.apart, c.loop-g-test.true)) (omega (arith, long, before.len, c.requires.inside, c.loop-g-test.true)) before.exchanged one c.put_in.ensures.numbers c.put_in-in-loop-g.ensures.numbers
+      exchanged = exchanged_more _ _ _ _ c.args.upper c.args.lower c.loop-g.g _ _ (map f c.args.blocks.now) ns
+          (map f c.put_in.new.blocks) _ (omega (arith, c.requires.apart, c.loop-g-test.true))
+          (omega (arith, long, before.len, c.requires.inside, c.loop-g-test.true)) before.exchanged one c.put_in.ensures.numbers
+          c.put_in-in-loop-g.ensures.numbers
           (length-map c.put_in.new.blocks f ∙ c.put_in.ensures.len ∙ (omega (arith, long)));
       each = c.put_in-in-loop-g.ensures.each;
       len = c.put_in-in-loop-g.ensures.len ∙ c.put_in.ensures.len ∙ before.len;

@@ -38,7 +38,9 @@ pub overflow_mul-lower : goal.overflow_mul-lower
 overflow_mul-lower g c =
     let w = g.B.BitBlock.width in
     let inside : c.loop-i.i < w / c.args.count = omega (arith, c.loop-i-test.true, ap (λ n. n / c.args.count) c.bits.ensures) in
-    let fits = lower_fits w c.args.size c.args.count c.requires.size (omega (arith, c.requires.square)) c.requires.whole c.loop-i.i c.args.a c.args.b inside c.requires.order c.requires.square c.args.stride in
+    let fits = lower_fits w c.args.size c.args.count c.requires.size
+    (omega (arith, c.requires.square)) c.requires.whole c.loop-i.i c.args.a c.args.b inside c.requires.order
+    c.requires.square c.args.stride in
     omega (arith, fits, c.requires.long)
 
 pub exchange_rows-requires-clause-apart : goal.exchange_rows-requires-clause-apart
@@ -51,7 +53,9 @@ pub exchange_rows-requires-clause-inside : goal.exchange_rows-requires-clause-in
 exchange_rows-requires-clause-inside g c =
     let w = g.B.BitBlock.width in
     let inside : c.loop-i.i < w / c.args.count = omega (arith, c.loop-i-test.true, ap (λ n. n / c.args.count) c.bits.ensures) in
-    let fits = lower_fits w c.args.size c.args.count c.requires.size (omega (arith, c.requires.square)) c.requires.whole c.loop-i.i c.args.a c.args.b inside c.requires.order c.requires.square c.args.stride in
+    let fits = lower_fits w c.args.size c.args.count c.requires.size
+    (omega (arith, c.requires.square)) c.requires.whole c.loop-i.i c.args.a c.args.b inside c.requires.order
+    c.requires.square c.args.stride in
     omega (arith, fits, c.requires.long, c.loop-i.invariant.len)
 
 pub exchange_rows-requires-clause-within : goal.exchange_rows-requires-clause-within
@@ -73,7 +77,9 @@ loop-i-preserved g c =
     let inside : c.loop-i.i < w / c.args.count = omega (arith, c.loop-i-test.true, ap (λ n. n / c.args.count) c.bits.ensures) in
     let is = lower_is w c.args.size c.args.count c.requires.size (omega (arith, c.requires.square)) c.requires.whole c.loop-i.i c.args.a c.args.b inside c.requires.order c.requires.square in
     record {
-      rows = rows_more w c.args.stride c.args.size c.args.count c.args.a c.args.b _ _ c.loop-i.i (map f c.args.blocks.now) (map f c.loop-i.blocks) (map f c.exchange_rows.new.blocks) c.requires.size c.requires.order c.requires.square c.loop-i.invariant.rows (rw is at c.exchange_rows.ensures.exchanged);
+      rows = rows_more w c.args.stride c.args.size c.args.count c.args.a c.args.b _ _ c.loop-i.i (map f c.args.blocks.now)
+          (map f c.loop-i.blocks) (map f c.exchange_rows.new.blocks) c.requires.size c.requires.order c.requires.square
+          c.loop-i.invariant.rows (rw is at c.exchange_rows.ensures.exchanged);
       each = c.exchange_rows.ensures.each;
       len = c.exchange_rows.ensures.len ∙ c.loop-i.invariant.len;
     }
@@ -84,4 +90,6 @@ returns-clause-exchanged g c =
     let f = g.B.BitBlock.number in
     let last : c.loop-i.i ≡ w / c.args.count = omega (arith, c.loop-i-test.false, c.loop-i.auto.i-end, ap (λ n. n / c.args.count) c.bits.ensures) in
     let rows = rw last at c.loop-i.invariant.rows in
-    pairs_exchanged w c.args.stride c.args.size c.args.count c.args.a c.args.b _ _ (map f c.args.blocks.now) (map f c.loop-i.blocks) c.requires.size c.requires.whole c.requires.order c.requires.square c.columns_of-left.ensures.digits c.columns_of-right.ensures.digits rows
+    pairs_exchanged w c.args.stride c.args.size c.args.count c.args.a c.args.b _ _ (map f c.args.blocks.now)
+    (map f c.loop-i.blocks) c.requires.size c.requires.whole c.requires.order c.requires.square
+    c.columns_of-left.ensures.digits c.columns_of-right.ensures.digits rows

@@ -4,7 +4,8 @@ use Rattle.bit_matrix.proofs.squares.exchange_squares.Given as goal
 
 abbrev pub invariant-loop-i : goal.invariant-loop-i
 invariant-loop-i g l = record {
-  rows : AreRowsExchanged g.B.BitBlock.width l.stride l.size l.count l.a l.b (g.B.BitBlock.number l.left) (g.B.BitBlock.number l.right) l.i (map g.B.BitBlock.number l.fn.blocks) (map g.B.BitBlock.number l.blocks);
+  rows : AreRowsExchanged g.B.BitBlock.width l.stride l.size l.count l.a l.b (g.B.BitBlock.number l.left)
+      (g.B.BitBlock.number l.right) l.i (map g.B.BitBlock.number l.fn.blocks) (map g.B.BitBlock.number l.blocks);
   each : All g.B.BitBlock.is_block l.blocks;
   len : length l.blocks ≡ length l.fn.blocks;
 }

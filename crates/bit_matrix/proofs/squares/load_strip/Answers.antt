@@ -11,7 +11,11 @@ loop-row-preserved g c =
     let before = c.loop-row.invariant in
     let long = length-map c.loop-row.strip f in
     record {
-      loaded = loaded_more w c.args.width c.args.stride c.args.k c.loop-row.row _ (map f c.args.blocks.now) (map f c.loop-row.strip) _ pos (omega (arith, c.loop-row-test.true, ap (λ n. n * c.args.width) c.bits.ensures)) (omega (arith, long, before.len, c.requires.long)) (rw (c.bits-in-loop-row.ensures, c.bits-in-loop-row-2.ensures) at c.put_in.ensures.numbers) c.block_of_row-block.ensures.of_number before.loaded;
+      loaded = loaded_more w c.args.width c.args.stride c.args.k c.loop-row.row _ (map f c.args.blocks.now)
+          (map f c.loop-row.strip) _ pos (omega (arith, c.loop-row-test.true, ap (λ n. n * c.args.width) c.bits.ensures))
+          (omega (arith, long, before.len, c.requires.long))
+          (rw (c.bits-in-loop-row.ensures, c.bits-in-loop-row-2.ensures) at c.put_in.ensures.numbers)
+          c.block_of_row-block.ensures.of_number before.loaded;
       each = c.put_in.ensures.each;
       len = c.put_in.ensures.len ∙ before.len;
     }

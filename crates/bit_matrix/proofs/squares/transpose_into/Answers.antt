@@ -12,7 +12,10 @@ returns-clause-transposed g c =
     let count = ap (λ n. n * c.args.width) c.bits.ensures in
     let here = c.split_at_mut-back.ensures.front_len ∙ ap (λ n. c.args.k * n) count in
     let long = length-map strip f ∙ c.split_at_mut-strip.ensures.front_len ∙ count in
-    rw whole (rows_transposed w c.args.width c.args.stride c.args.k (length front) (map f c.args.others.now) (map f strip) (map f c.transpose_strip.new.strip) _ _ here long (is_put f front strip c.transpose_strip.new.strip c.split_at_mut-strip.result.1.now (length front) (refl) c.transpose_strip.ensures.len) c.transpose_strip.ensures.transposed)
+    rw whole (rows_transposed w c.args.width c.args.stride c.args.k (length front) (map f c.args.others.now) (map f strip)
+    (map f c.transpose_strip.new.strip) _ _ here long
+    (is_put f front strip c.transpose_strip.new.strip c.split_at_mut-strip.result.1.now (length front)
+    (refl) c.transpose_strip.ensures.len) c.transpose_strip.ensures.transposed)
 
 pub returns-clause-each : goal.returns-clause-each
 returns-clause-each g c =

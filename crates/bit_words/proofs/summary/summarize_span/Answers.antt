@@ -53,7 +53,8 @@ loop-q-preserved g c =
     record {
       made = λ k low high under.
           ⊎_elim
-          (λ here. made_bit w c.args.first c.args.end q start index c.min-count.result ms ss _ _ pos put (inside g c) begins (start_is g c) at many forward c.with_used_bits.ensures.made k here low high)
+          (λ here. made_bit w c.args.first c.args.end q start index c.min-count.result ms ss _ _ pos put (inside g c) begins
+          (start_is g c) at many forward c.with_used_bits.ensures.made k here low high)
           (λ other. written_other w ss _ q _ k put other ∙ c.loop-q.invariant.made k low high (omega arith))
           (cases_eq (k / w) q);
       before = λ k low.
@@ -95,7 +96,8 @@ with_used_bits-requires-clause-of_block g c = c.block_at-own.ensures.of_block
 
 pub with_used_bits-requires-clause-index : goal.with_used_bits-requires-clause-index
 with_used_bits-requires-clause-index g c =
-    omega (arith, c.max-start.ensures, c.bits-width.ensures, g.met.B.BitBlock.width_law.positive, starts_in _ _ _ c.loop-q.q _ g.met.B.BitBlock.width_law.positive c.bits-width.ensures c.block_index-q.ensures (omega arith))
+    let pos = g.met.B.BitBlock.width_law.positive in
+    omega (arith, c.max-start.ensures, c.bits-width.ensures, pos, starts_in _ _ _ c.loop-q.q _ pos c.bits-width.ensures c.block_index-q.ensures (omega arith))
 
 pub with_used_bits-requires-clause-within : goal.with_used_bits-requires-clause-within
 with_used_bits-requires-clause-within g c =

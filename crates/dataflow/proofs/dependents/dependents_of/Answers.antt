@@ -10,7 +10,9 @@ use Rattle.dataflow.proofs.dependents.dependents_of.Goals as goal
 pub loop-number-init : goal.loop-number-init
 loop-number-init g c =
     let empty = c.in_ok-rows.ensures in
-    none_depend (map g.N.Block.flow c.args.blocks.now) (rows_of c.in_ok-rows.rows.items) (length-map c.in_ok-rows.rows.items (λ (r : SmallVec ℕ). r.items) ∙ empty.long ∙ sym (length-map c.args.blocks.now g.N.Block.flow)) empty.empty
+    none_depend (map g.N.Block.flow c.args.blocks.now) (rows_of c.in_ok-rows.rows.items)
+    (length-map c.in_ok-rows.rows.items (λ (r : SmallVec ℕ). r.items) ∙ empty.long
+    ∙ sym (length-map c.args.blocks.now g.N.Block.flow)) empty.empty
 
 pub loop-number-preserved : goal.loop-number-preserved
 loop-number-preserved g c =
@@ -18,12 +20,16 @@ loop-number-preserved g c =
     let number = c.loop-number.number in
     let rows = c.loop-number.rows in
     let new = c.add_dependent.new.rows in
-    let at : block_at (map g.N.Block.flow blocks) number ≡ g.N.Block.flow c.index-blocks-number.result = mapped g.N.Block.flow blocks number c.index-blocks-number.result (record { sources = []; generated = []; killed = [] }) c.loop-number-test.true c.index-blocks-number.is in
+    let at : block_at (map g.N.Block.flow blocks) number ≡ g.N.Block.flow c.index-blocks-number.result =
+    mapped g.N.Block.flow blocks number c.index-blocks-number.result
+    (record { sources = []; generated = []; killed = [] }) c.loop-number-test.true c.index-blocks-number.is in
     let long = c.add_dependent.auto.rows in
     let len = rows.ok in
     let value = c.as_mut_slice.ensures.len in
     rw (written_back new (drop (length new) rows.items) rows.len (omega (arith, long, len, value)))
-    (more_depend (map g.N.Block.flow blocks) number c.sources.result.now (rows_of rows.items) (rows_of new) c.loop-number.invariant (rw c.as_mut_slice.ensures.value at c.in_ok-add_dependent.ensures) (c.sources.ensures ∙ ap (λ flow. flow.sources) (sym at)))
+    (more_depend (map g.N.Block.flow blocks) number c.sources.result.now (rows_of rows.items)
+    (rows_of new) c.loop-number.invariant (rw c.as_mut_slice.ensures.value at c.in_ok-add_dependent.ensures)
+    (c.sources.ensures ∙ ap (λ flow. flow.sources) (sym at)))
 
 pub returns-clause-dependents : goal.returns-clause-dependents
 returns-clause-dependents g c =

@@ -21,10 +21,13 @@ returns-clause-solution g c =
     let whole : take sets.len (new ++ drop (length new) sets.items) ≡ new = written_back new (drop (length new) sets.items) sets.len (omega (arith, as_long, len, value)) in
     let same : length (map flow_of missing) ≡ length (map (missing_flow (length blocks) all) blocks) = ap (λ (l : List Flow). length l) c.in_ok-missing.ensures.missing in
     let solved : length sets.items ≡ length missing = rw c.as_slice.ensures.value at c.in_ok-sets.ensures.long in
-    let long : length (lists_of sets.items) ≡ length blocks = omega (arith, solved, same, length-map missing flow_of, length-map blocks (missing_flow (length blocks) all), length-map sets.items (λ (s : Bits). elements s.values)) in
+    let long : length (lists_of sets.items) ≡ length blocks =
+    omega (arith, solved, same, length-map missing flow_of, length-map blocks (missing_flow (length blocks) all), length-map sets.items (λ (s : Bits). elements s.values)) in
     let reached : AreReached (map (missing_flow (length blocks) all) blocks) (lists_of sets.items) = rw (c.as_slice.ensures.value, c.in_ok-missing.ensures.missing) at c.in_ok-sets.ensures.reached in
     let complements : AreComplements c.args.count (lists_of sets.items) (lists_of new) = rw c.as_mut_slice.ensures.value at c.in_ok-complement_each.ensures.complements in
-    let found : AreFound blocks c.args.count (lists_of new) = are_found blocks all c.members_of_merged_sets.ensures.difference c.args.count (lists_of sets.items) (lists_of new) c.in_ok-all.ensures.all long reached complements in
+    let found : AreFound blocks c.args.count (lists_of new) =
+    are_found blocks all c.members_of_merged_sets.ensures.difference c.args.count (lists_of sets.items)
+    (lists_of new) c.in_ok-all.ensures.all long reached complements in
     rw whole (are_available blocks c.args.count (lists_of new) found)
 
 pub returns-clause-available : goal.returns-clause-available
@@ -40,10 +43,13 @@ returns-clause-available g c =
     let whole : take sets.len (new ++ drop (length new) sets.items) ≡ new = written_back new (drop (length new) sets.items) sets.len (omega (arith, as_long, len, value)) in
     let same : length (map flow_of missing) ≡ length (map (missing_flow (length blocks) all) blocks) = ap (λ (l : List Flow). length l) c.in_ok-missing.ensures.missing in
     let solved : length sets.items ≡ length missing = rw c.as_slice.ensures.value at c.in_ok-sets.ensures.long in
-    let long : length (lists_of sets.items) ≡ length blocks = omega (arith, solved, same, length-map missing flow_of, length-map blocks (missing_flow (length blocks) all), length-map sets.items (λ (s : Bits). elements s.values)) in
+    let long : length (lists_of sets.items) ≡ length blocks =
+    omega (arith, solved, same, length-map missing flow_of, length-map blocks (missing_flow (length blocks) all), length-map sets.items (λ (s : Bits). elements s.values)) in
     let reached : AreReached (map (missing_flow (length blocks) all) blocks) (lists_of sets.items) = rw (c.as_slice.ensures.value, c.in_ok-missing.ensures.missing) at c.in_ok-sets.ensures.reached in
     let complements : AreComplements c.args.count (lists_of sets.items) (lists_of new) = rw c.as_mut_slice.ensures.value at c.in_ok-complement_each.ensures.complements in
-    let found : AreFound blocks c.args.count (lists_of new) = are_found blocks all c.members_of_merged_sets.ensures.difference c.args.count (lists_of sets.items) (lists_of new) c.in_ok-all.ensures.all long reached complements in
+    let found : AreFound blocks c.args.count (lists_of new) =
+    are_found blocks all c.members_of_merged_sets.ensures.difference c.args.count (lists_of sets.items)
+    (lists_of new) c.in_ok-all.ensures.all long reached complements in
     rw whole (each_available blocks c.args.count (lists_of new) found)
 
 pub returns-clause-long : goal.returns-clause-long
@@ -75,7 +81,8 @@ returns-in_err-sets-clause-none g c none _ =
     let blocks = c.args.blocks.now in
     let missing = c.in_ok-missing.missing.items in
     let same : length (map flow_of missing) ≡ length (map (missing_flow (length blocks) (elements c.in_ok-all.all.values)) blocks) = ap (λ (l : List Flow). length l) c.in_ok-missing.ensures.missing in
-    absurd (true≢false (sym (c.in_err-sets.ensures.none (rw c.as_slice.ensures.value (omega (arith, none, same, length-map missing flow_of, length-map blocks (missing_flow (length blocks) (elements c.in_ok-all.all.values))))))))
+    absurd (true≢false (sym (c.in_err-sets.ensures.none (rw c.as_slice.ensures.value
+    (omega (arith, none, same, length-map missing flow_of, length-map blocks (missing_flow (length blocks) (elements c.in_ok-all.all.values))))))))
 
 pub returns-in_err-complement_each-clause-none : goal.returns-in_err-complement_each-clause-none
 returns-in_err-complement_each-clause-none g c none _ =
@@ -83,4 +90,5 @@ returns-in_err-complement_each-clause-none g c none _ =
     let missing = c.in_ok-missing.missing.items in
     let same : length (map flow_of missing) ≡ length (map (missing_flow (length blocks) (elements c.in_ok-all.all.values)) blocks) = ap (λ (l : List Flow). length l) c.in_ok-missing.ensures.missing in
     let solved : length c.in_ok-sets.sets.items ≡ length missing = rw c.as_slice.ensures.value at c.in_ok-sets.ensures.long in
-    absurd (true≢false (sym (c.in_err-complement_each.ensures.none (rw c.as_mut_slice.ensures.value (omega (arith, none, solved, same, length-map missing flow_of, length-map blocks (missing_flow (length blocks) (elements c.in_ok-all.all.values))))))))
+    absurd (true≢false (sym (c.in_err-complement_each.ensures.none (rw c.as_mut_slice.ensures.value
+    (omega (arith, none, solved, same, length-map missing flow_of, length-map blocks (missing_flow (length blocks) (elements c.in_ok-all.all.values))))))))

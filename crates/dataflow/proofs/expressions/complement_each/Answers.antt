@@ -14,6 +14,9 @@ loop-index-preserved g c =
     let new = c.complement.new.set in
     let long = c.loop-index.auto.sets in
     let inside : i < length sets = omega (arith, long) in
-    let read : elements (get_or sets i c.index-sets-index.result).values ≡ set_at (lists_of sets) i = read_set sets i _ (get_or_default sets i c.index-sets-index.result (record { values = []; capacity = 0 }) inside) in
-    let here : IsComplement c.args.count (set_at (lists_of sets) i) (set_at (lists_of (set sets i new)) i) = λ e. ap (λ s. has s e) (written sets i new inside) ∙ c.in_ok-complement.ensures e ∙ ap (λ s. nat_lt e c.args.count && not (has s e)) read in
+    let read : elements (get_or sets i c.index-sets-index.result).values ≡ set_at (lists_of sets) i =
+    read_set sets i _ (get_or_default sets i c.index-sets-index.result (record { values = []; capacity = 0 }) inside) in
+    let here : IsComplement c.args.count (set_at (lists_of sets) i) (set_at (lists_of (set sets i new)) i) =
+    λ e. ap (λ s. has s e) (written sets i new inside) ∙ c.in_ok-complement.ensures e
+    ∙ ap (λ s. nat_lt e c.args.count && not (has s e)) read in
     complements_on c.args.count i (lists_of c.args.sets.now) (lists_of sets) (lists_of (set sets i new)) c.loop-index.invariant (as_long sets i new) (others_stay sets i new) here

@@ -15,13 +15,15 @@ loop-block-preserved g c =
     let blocks = c.args.blocks.now in
     let all = elements c.args.all.now.values in
     let block = c.block-item.result in
-    let starts : c.starts_empty-none.result ≡ starts_with_none block.predecessors.items (length blocks) = c.starts_empty-none.ensures ∙ ap (λ l. starts_with_none l (length blocks)) c.as_slice.ensures.value in
+    let starts : c.starts_empty-none.result ≡ starts_with_none block.predecessors.items (length blocks) =
+    c.starts_empty-none.ensures ∙ ap (λ l. starts_with_none l (length blocks)) c.as_slice.ensures.value in
     let chosen : elements c.if-none.missing.values ≡ (if starts_with_none block.predecessors.items (length blocks) then all else elements block.killed.values) = elim c.if-none.branch [
       | then-none+in_ok-missing w ↦ rw (w.missing-is, ← starts, w.if-none.true) (ap elements w.in_ok-missing.ensures.values)
       | else-none+in_ok-missing-2 w ↦ rw (w.missing-is, ← starts, w.if-none.false) (ap elements w.in_ok-missing-2.ensures.values)
     ] in
     let flow : List ℕ → Flow = λ generated. record { sources = block.predecessors.items; generated = generated; killed = elements block.computed.values } in
-    rw c.in_ok-push.ensures.items (push_mapped (missing_flow (length blocks) all) flow_of blocks c.loop-block.block-index block c.loop-block.missing_blocks.items _ c.loop-block-test.true c.block-item.is c.loop-block.invariant
+    rw c.in_ok-push.ensures.items (push_mapped (missing_flow (length blocks) all) flow_of blocks c.loop-block.block-index
+    block c.loop-block.missing_blocks.items _ c.loop-block-test.true c.block-item.is c.loop-block.invariant
     (ap flow (c.in_ok-difference_with.ensures.elements ∙ ap (λ s. difference s (elements block.computed.values)) chosen)))
 
 pub returns-clause-missing : goal.returns-clause-missing

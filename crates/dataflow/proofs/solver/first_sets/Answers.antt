@@ -12,7 +12,9 @@ loop-block-preserved g c =
     let inside : i < length c.args.blocks.now = omega arith in
     let same : elements c.clone_from.new.self.values ≡ (g.N.Block.flow c.block-item.result).generated = ap elements c.in_ok-clone_from.ensures.ok ∙ c.generated.ensures.elements in
     record {
-      generated = rw c.in_ok-push.ensures.items (push_mapped (λ block. (g.N.Block.flow block).generated) (λ (set : Bits). elements set.values) c.args.blocks.now i c.block-item.result c.loop-block.sets.items c.clone_from.new.self inside c.block-item.is c.loop-block.invariant.generated same);
+      generated = rw c.in_ok-push.ensures.items (push_mapped (λ block. (g.N.Block.flow block).generated)
+          (λ (set : Bits). elements set.values) c.args.blocks.now i c.block-item.result c.loop-block.sets.items
+          c.clone_from.new.self inside c.block-item.is c.loop-block.invariant.generated same);
       few = rw c.in_ok-push.ensures.items (few_pushed c.loop-block.sets.items c.clone_from.new.self _ c.loop-block.invariant.few c.bounded.ensures);
     }
 

@@ -25,7 +25,9 @@ loop-next-init g c =
     let all = c.in_ok-waiting.ensures.all in
     record {
       way = c.requires.sets;
-      settled = all_wait flows (place_of count from_last) (lists_of c.args.sets.now) (elements c.in_ok-waiting.waiting.values) (λ b inside. (all (place_of count from_last b)).1 (place_inside count from_last b (omega (arith, inside, long))));
+      settled = all_wait flows (place_of count from_last) (lists_of c.args.sets.now)
+          (elements c.in_ok-waiting.waiting.values)
+          (λ b inside. (all (place_of count from_last b)).1 (place_inside count from_last b (omega (arith, inside, long))));
       below = λ p h. (all p).0 h;
       capacity = c.in_ok-waiting.ensures.capacity;
     }
@@ -41,7 +43,9 @@ put_back-requires-clause-inside g c b h =
     let as_many = length-map blocks g.N.Block.flow in
     let many = length-map rows (λ (r : SmallVec ℕ). r.items) in
     let lt : number < length rows = omega (arith, long, inside, as_many, many) in
-    let read : row_at (rows_of rows) number ≡ c.as_slice.result.now = mapped (λ (r : SmallVec ℕ). r.items) rows number c.index-dependents-number.result [] lt c.index-dependents-number.is ∙ sym c.as_slice.ensures in
+    let read : row_at (rows_of rows) number ≡ c.as_slice.result.now =
+    mapped (λ (r : SmallVec ℕ). r.items) rows number c.index-dependents-number.result [] lt c.index-dependents-number.is
+    ∙ sym c.as_slice.ensures in
     let below : b < length (map g.N.Block.flow blocks) = dependents.inside b number (ap (λ s. has s b) read ∙ h) in
     omega (arith, below, as_many)
 
@@ -53,14 +57,19 @@ loop-next-smaller g c =
     let inside = c.place-number.ensures.inside in
     let few = c.bounded.ensures in
     let takes = c.in_ok-take_in.ensures.takes in
-    let smaller : lacking (lists_of c.take_in.new.sets) * 2 ^ 64 + length (elements c.if-branch.waiting.values) < lacking (lists_of c.loop-next.sets) * 2 ^ 64 + length (elements c.loop-next.waiting.values) =
+    let smaller : lacking (lists_of c.take_in.new.sets) * 2 ^
+    64 + length (elements c.if-branch.waiting.values) < lacking (lists_of c.loop-next.sets) * 2 ^
+    64 + length (elements c.loop-next.waiting.values) =
     elim c.if-branch.branch [
       | then-branch w ↦
-          let less : lacking (lists_of c.take_in.new.sets) < lacking (lists_of c.loop-next.sets) = nearer (map g.N.Block.flow blocks) _ number _ _ c.loop-next.invariant.way takes (omega (arith, inside, as_many)) (c.in_ok-take_in.ensures.grew w.if-branch.true) in
+          let less : lacking (lists_of c.take_in.new.sets) < lacking (lists_of c.loop-next.sets) =
+          nearer (map g.N.Block.flow blocks) _ number _ _ c.loop-next.invariant.way takes (omega (arith, inside, as_many))
+          (c.in_ok-take_in.ensures.grew w.if-branch.true) in
           omega (arith, less, few)
       | else-branch w ↦
           let same : lacking (lists_of c.take_in.new.sets) ≡ lacking (lists_of c.loop-next.sets) = ap lacking (c.in_ok-take_in.ensures.same w.if-branch.false) in
-          let fewer : length (elements c.remove.new.self.values) + 1 ≡ length (elements c.loop-next.waiting.values) = one_less _ _ c.remove.result c.remove.ensures.count (c.remove.ensures.returned ∙ c.in-Some.ensures.some) in
+          let fewer : length (elements c.remove.new.self.values) + 1 ≡ length (elements c.loop-next.waiting.values) =
+          one_less _ _ c.remove.result c.remove.ensures.count (c.remove.ensures.returned ∙ c.in-Some.ensures.some) in
           let now : length (elements c.if-branch.waiting.values) ≡ length (elements c.remove.new.self.values) = ap (λ (set : Bits). length (elements set.values)) w.waiting-is in
           omega (arith, same, fewer, now)
     ]
@@ -84,7 +93,9 @@ loop-next-preserved g c =
     let long : length flows ≡ count = length-map blocks g.N.Block.flow in
     let low : p < count = it.below p c.in-Some.ensures.some in
     let inside = c.place-number.ensures.inside in
-    let at : block_at flows number ≡ g.N.Block.flow c.index-blocks-number.result = mapped g.N.Block.flow blocks number c.index-blocks-number.result (record { sources = []; generated = []; killed = [] }) inside c.index-blocks-number.is in
+    let at : block_at flows number ≡ g.N.Block.flow c.index-blocks-number.result =
+    mapped g.N.Block.flow blocks number c.index-blocks-number.result
+    (record { sources = []; generated = []; killed = [] }) inside c.index-blocks-number.is in
     let takes : TakesIn (block_at flows number) number old new = rw at c.in_ok-take_in.ensures.takes in
     let capacity = c.remove.ensures.capacity in
     let enough = it.capacity in
@@ -95,11 +106,16 @@ loop-next-preserved g c =
           let rows_long = dependents.long in
           let many = length-map rows (λ (r : SmallVec ℕ). r.items) in
           let lt : number < length rows = omega (arith, rows_long, inside, long, many) in
-          let read : row_at (rows_of rows) number ≡ w.as_slice.result.now = mapped (λ (r : SmallVec ℕ). r.items) rows number w.index-dependents-number.result [] lt w.index-dependents-number.is ∙ sym w.as_slice.ensures in
+          let read : row_at (rows_of rows) number ≡ w.as_slice.result.now =
+          mapped (λ (r : SmallVec ℕ). r.items) rows number w.index-dependents-number.result [] lt
+          w.index-dependents-number.is ∙ sym w.as_slice.ensures in
           let kept_capacity = w.put_back.ensures.capacity in
           rw w.waiting-is (record {
             way = on_the_way flows (place_of count from_last) number p old new takes it.way (few_after old new number (2 ^ 64) takes.others it.way.few (c.in_ok-take_in.ensures.few w.if-branch.true));
-            settled = visited_grown flows count from_last number p old new was rest long low c.place-number.ensures.value takes c.remove.ensures.members it.settled (elements w.put_back.new.waiting.values) back.kept (λ b source. back.adds b (ap (λ s. has s b) (sym read) ∙ dependents.all b number (omega (arith, inside, long)) source));
+            settled = visited_grown flows count from_last number p old new was rest long low c.place-number.ensures.value
+                takes c.remove.ensures.members it.settled (elements w.put_back.new.waiting.values) back.kept
+                (λ b source. back.adds b (ap (λ s. has s b) (sym read)
+                ∙ dependents.all b number (omega (arith, inside, long)) source));
             below = λ q h. elim (back.only q h) [
               | inl before ↦ it.below q (waited was rest p c.remove.ensures.members q before)
               | inr (b, is_in, is) ↦ rw is (place_inside count from_last b (let in_row = dependents.inside b number (ap (λ s. has s b) read ∙ is_in) in omega (arith, in_row, long)))

@@ -6,7 +6,9 @@ use Rattle.dataflow.proofs.TakeLemmas.{written_back}
 use Rattle.dataflow.proofs.solver.solve.Goals as goal
 
 pub settle-requires-clause-sets : goal.settle-requires-clause-sets
-settle-requires-clause-sets g c = rw c.as_mut_slice.ensures.value (first_way g.N.Block.flow c.args.blocks.now (lists_of c.in_ok-sets.sets.items) c.in_ok-sets.ensures.generated c.in_ok-sets.ensures.few)
+settle-requires-clause-sets g c =
+    rw c.as_mut_slice.ensures.value (first_way g.N.Block.flow c.args.blocks.now
+    (lists_of c.in_ok-sets.sets.items) c.in_ok-sets.ensures.generated c.in_ok-sets.ensures.few)
 
 pub returns-clause-solution : goal.returns-clause-solution
 returns-clause-solution g c =

@@ -22,8 +22,11 @@ returns-clause-takes g c =
     let none = c.replace-own.new.dest in
     let own = c.transfer.new.into in
     let empty : elements none.values ≡ [] = ap elements (ap (λ set_of. set_of.values) c.replace-own.ensures.after ∙ c.new_general.ensures.values) in
-    let transfers : Transfers block.sources block.killed (lists_of (set sets b none)) (elements c.replace-own.result.values) (elements own.values) = rw (c.sources.ensures, c.killed.ensures) at c.in_ok-grew.ensures.transfers in
-    takes_transfer block b (lists_of sets) (lists_of (set sets b none)) (lists_of (set (set sets b none) b own)) (as_many_back sets b none own c.requires) (written sets b none c.requires ∙ empty) (others_stay sets b none) (others_back sets b none own c.requires)
+    let transfers : Transfers block.sources block.killed (lists_of (set sets b none)) (elements c.replace-own.result.values)
+    (elements own.values) = rw (c.sources.ensures, c.killed.ensures) at c.in_ok-grew.ensures.transfers in
+    takes_transfer block b (lists_of sets) (lists_of (set sets b none)) (lists_of (set (set sets b none) b own))
+    (as_many_back sets b none own c.requires) (written sets b none c.requires ∙ empty) (others_stay sets b none)
+    (others_back sets b none own c.requires)
     (rw (← taken g c, put_back sets b none own c.requires) transfers)
 
 pub returns-clause-same : goal.returns-clause-same

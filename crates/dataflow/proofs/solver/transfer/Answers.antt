@@ -22,7 +22,8 @@ loop-source-preserved g c =
     elim c.match-get.branch [
       | in-Some+in_ok-grew w ↦
           let read = read_set sets x w.in-Some.set.now (w.in-Some.ensures.lookup.3.1 (record { values = []; capacity = 0 })) in
-          let members : IsUnionWithDifference (elements c.loop-source.into.values) (set_at (lists_of sets) x) killed (elements w.union_with_difference.new.self.values) = rw read at w.in_ok-grew.ensures.members in
+          let members : IsUnionWithDifference (elements c.loop-source.into.values) (set_at (lists_of sets) x) killed
+          (elements w.union_with_difference.new.self.values) = rw read at w.in_ok-grew.ensures.members in
           rw (longer, w.into-is, w.grew-is) (record {
             transfers = transfers_on (take i sources) killed (lists_of sets) old (elements c.loop-source.into.values) it.transfers x _ members;
             same = same_on c.loop-source.grew w.in_ok-grew.field-0 old _ _ it.same w.in_ok-grew.ensures.changed;

@@ -18,7 +18,8 @@ loop-dependent-preserved c =
     let x = get_or dependents i 0 in
     let inside : i < length dependents = omega arith in
     let longer : take (i + 1) dependents ≡ take i dependents ++ x ∷ [] = take_more dependents i 0 inside in
-    let updates : Updates (elements c.loop-dependent.waiting.values) (elements c.insert.new.self.values) (place_of count c.args.from_last x) true = rw (c.unwrap.ensures, c.place.ensures.value) at c.insert.ensures.members in
+    let updates : Updates (elements c.loop-dependent.waiting.values) (elements c.insert.new.self.values)
+    (place_of count c.args.from_last x) true = rw (c.unwrap.ensures, c.place.ensures.value) at c.insert.ensures.members in
     let below = c.place.ensures.inside in
     let same = c.loop-dependent.invariant.capacity in
     let enough = c.requires.capacity in

@@ -49,5 +49,7 @@ invariant_of-self-then-slot-len g c =
     let long = rw ok at c.insert.ensures.length in
     let added = rw ok at c.insert.ensures.elements in (
       omega (arith, long, inside, c.insert.ensures.grows.capacity, c.self.invariant.0),
-      subst (λ t. HasNoneBut t then.0 then.1) (sym added) (none_but_given s c.self.inside.given c.self.inside.searched slot then.0 then.1 c.contains-is_free.result (c.members_of_sets.ensures.put s slot) c.self.invariant.1 c.contains-is_free.ensures.value c.after_giving.ensures),
+      subst (λ t. HasNoneBut t then.0 then.1) (sym added)
+          (none_but_given s c.self.inside.given c.self.inside.searched slot then.0 then.1 c.contains-is_free.result
+          (c.members_of_sets.ensures.put s slot) c.self.invariant.1 c.contains-is_free.ensures.value c.after_giving.ensures),
     )

@@ -1,7 +1,5 @@
 use Rattle.std.proofs.Common.{ℕ, ◌-◌, ◌^◌, ◌<◌}
-use Rattle.bit_set.specs.Sets.{elements}
 use Rattle.free_slots.specs.Slots.{IsFreeRun}
-use Rattle.free_slots.proofs.SlotLemmas.{table_of}
 use Rattle.free_slots.proofs.Slots.lowest_run.Given as goal
 
 -- no so many begin below the number

@@ -10,7 +10,9 @@ returns-clause-lowest g c =
     let s = elements values in
     let from = c.args.slot in
     let at = c.in_ok-taken.ensures.elements.1 in
-    rw (← c.self.view_is) (lowest_from values from c.in_ok-taken.taken _ (c.members_of_sets.ensures.those_from s from) (c.sets_ascend.ensures.those_from s from (c.sets_ascend.ensures.elements values)) (c.members_of_sets.ensures.elements values) at)
+    rw (← c.self.view_is) (lowest_from values from c.in_ok-taken.taken _ (c.members_of_sets.ensures.those_from s from)
+    (c.sets_ascend.ensures.those_from s from (c.sets_ascend.ensures.elements values))
+    (c.members_of_sets.ensures.elements values) at)
 
 pub returns-clause-happens : goal.returns-clause-happens
 returns-clause-happens g c =
@@ -20,7 +22,9 @@ returns-clause-happens g c =
     let taken = c.in_ok-taken.taken in
     let at = c.in_ok-taken.ensures.elements.1 in
     rw (← c.self.view_is) (
-      lowest_from values from taken _ (c.members_of_sets.ensures.those_from s from) (c.sets_ascend.ensures.those_from s from (c.sets_ascend.ensures.elements values)) (c.members_of_sets.ensures.elements values) at,
+      lowest_from values from taken _ (c.members_of_sets.ensures.those_from s from)
+          (c.sets_ascend.ensures.those_from s from (c.sets_ascend.ensures.elements values))
+          (c.members_of_sets.ensures.elements values) at,
       left values c.remove.new.self.values (without s taken) c.remove.ensures.length c.remove.ensures.elements,
     )
 
@@ -41,5 +45,7 @@ invariant_of-self g c =
     let at = c.in_ok-taken.ensures.elements.1 in
     let least = least_from s from (c.members_of_sets.ensures.those_from s from) taken _ (c.sets_ascend.ensures.those_from s from (c.sets_ascend.ensures.elements values)) at in (
       omega (arith, c.remove.ensures.length, c.remove.ensures.capacity, c.self.invariant.0),
-      subst (λ t. HasNoneBut t given c.after_taking-self-inside.result) (sym c.remove.ensures.elements) (none_but_taken s given c.self.inside.searched from c.after_taking-self-inside.result taken (c.members_of_sets.ensures.without s taken) c.self.invariant.1 least.2 c.after_taking-self-inside.ensures),
+      subst (λ t. HasNoneBut t given c.after_taking-self-inside.result) (sym c.remove.ensures.elements)
+          (none_but_taken s given c.self.inside.searched from c.after_taking-self-inside.result taken
+          (c.members_of_sets.ensures.without s taken) c.self.invariant.1 least.2 c.after_taking-self-inside.ensures),
     )

@@ -11,4 +11,6 @@ pub returns-clause-closed : goal.returns-clause-closed
 returns-clause-closed g c =
     let first = c.transitive_closure.ensures in
     let own = c.put_each_in_its_row.ensures in
-    reflexive_is_closed c.args.reaches.now c.put_each_in_its_row.new.matrix (is_reflexive_closure c.args.reaches.now c.transitive_closure.new.reaches c.put_each_in_its_row.new.matrix first.closure own.matrix first.rows first.columns own.bits)
+    reflexive_is_closed c.args.reaches.now c.put_each_in_its_row.new.matrix
+    (is_reflexive_closure c.args.reaches.now c.transitive_closure.new.reaches c.put_each_in_its_row.new.matrix first.closure
+    own.matrix first.rows first.columns own.bits)

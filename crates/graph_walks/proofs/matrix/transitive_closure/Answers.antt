@@ -31,7 +31,8 @@ loop-row-2-preserved g c =
     let now = c.take_in-in-loop-row-2.ensures in
     let count = c.rows-rows.ensures.value in
     record {
-      follows = follows_all_on c.args.reaches.now c.loop-row-2.reaches c.take_in-in-loop-row-2.new.reaches c.loop-row-2.row now.others now.way (rw count at now.follows) (omega (arith, count, c.loop-row-2-test.true)) before.follows;
+      follows = follows_all_on c.args.reaches.now c.loop-row-2.reaches c.take_in-in-loop-row-2.new.reaches c.loop-row-2.row
+          now.others now.way (rw count at now.follows) (omega (arith, count, c.loop-row-2-test.true)) before.follows;
       rows = now.rows ∙ before.rows;
       columns = now.columns ∙ before.columns;
     }

@@ -14,6 +14,8 @@ returns-in_err-insert-clause-element g c =
 
 pub returns-clause-no_element : goal.returns-clause-no_element
 returns-clause-no_element g c done path =
-    let start : has (elements c.insert.new.self.values) c.args.start ≡ true = rw (c.in_ok-insert.ensures.elements, c.new_general-reached.ensures.values) (or_left (eqb c.args.start c.args.start) false (eq-eqb c.args.start c.args.start refl)) in
+    let start : has (elements c.insert.new.self.values) c.args.start ≡ true =
+    rw (c.in_ok-insert.ensures.elements, c.new_general-reached.ensures.values)
+    (or_left (eqb c.args.start c.args.start) false (eq-eqb c.args.start c.args.start refl)) in
     let low : greatest < greatest = c.bounded.ensures.low greatest ((c.in_ok-explore.ensures.paths greatest).1 (c.args.start, start, path)) in
     absurd (omega arith)

@@ -19,7 +19,9 @@ pub loop-item-preserved : goal.loop-item-preserved
 loop-item-preserved g c =
     let mid = elements c.loop-item.reached.values in
     let present : has mid c.in-Some.item ≡ true = is_present _ _ c.in_ok-put_new.ensures.returned c.if-branch.false in
-    let same : put mid c.in-Some.item ≡ mid = put_present mid c.in-Some.item c.members_of_sets.ensures.put c.sets_ascend.ensures.put c.sets_are_their_members.ensures.set (c.sets_ascend.ensures.elements c.loop-item.reached.values) present in
+    let same : put mid c.in-Some.item ≡ mid =
+    put_present mid c.in-Some.item c.members_of_sets.ensures.put c.sets_ascend.ensures.put
+    c.sets_are_their_members.ensures.set (c.sets_ascend.ensures.elements c.loop-item.reached.values) present in
     record {
       taken = rw c.in_ok-put_new.ensures.elements (taken_again _ _ _ mid _ c.in-Some.item c.loop-item.invariant.taken c.members_of_sets.ensures.put present same);
       edges = omega (arith, length_push c.loop-item.yielded c.in-Some.item);

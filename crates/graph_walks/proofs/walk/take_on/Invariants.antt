@@ -4,4 +4,5 @@ use Rattle.graph_walks.specs.Explored.{TakesOn}
 use Rattle.graph_walks.proofs.walk.take_on.Given as goal
 
 abbrev pub invariant-loop-item : goal.invariant-loop-item
-invariant-loop-item g l = record { taken : TakesOn l.yielded (elements l.fn.reached.values) l.fn.stack.items (elements l.reached.values) l.stack.items; edges : l.edges ≡ l.fn.edges + length l.yielded }
+invariant-loop-item g
+    l = record { taken : TakesOn l.yielded (elements l.fn.reached.values) l.fn.stack.items (elements l.reached.values) l.stack.items; edges : l.edges ≡ l.fn.edges + length l.yielded }

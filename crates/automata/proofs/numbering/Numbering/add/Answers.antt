@@ -18,7 +18,9 @@ invariant_of-self-2 g c =
     let key : elements c.in_ok-key.key.values ≡ elements c.args.set.now.values = ap (λ v. elements v) c.in_ok-key.ensures.values in
     let copy : elements c.in_ok-copy.copy.values ≡ elements c.args.set.now.values = ap (λ v. elements v) c.in_ok-copy.ensures.values in
     let as_many : c.len-number.result ≡ length (row_of_sets sets) = omega (arith, c.len-number.ensures, length-map sets (λ (set : Bits). elements set.values)) in
-    let list : row_of_sets c.push_reserved.new.self.items ≡ row_of_sets sets ++ elements c.args.set.now.values ∷ [] = pushed sets c.reserve.new.self.items c.push_reserved.new.self.items c.in_ok-copy.copy (elements c.args.set.now.values) c.push_reserved.ensures.items c.reserve.ensures.items copy in
+    let list : row_of_sets c.push_reserved.new.self.items ≡ row_of_sets sets ++ elements c.args.set.now.values ∷ [] =
+    pushed sets c.reserve.new.self.items c.push_reserved.new.self.items c.in_ok-copy.copy
+    (elements c.args.set.now.values) c.push_reserved.ensures.items c.reserve.ensures.items copy in
     let updates = rw key at c.in_ok-insert.ensures.updates.0 in
     rw list (finds_on _ _ c.self.invariant c.sets_compare.ensures.equal c.sets_compare.ensures.same c.args.set.now c.len-number.result as_many none _ updates)
 
@@ -29,8 +31,12 @@ returns-clause-ok g c =
     let none = not_found _ _ c.self.invariant c.args.set.now new in
     let copy : elements c.in_ok-copy.copy.values ≡ elements c.args.set.now.values = ap (λ v. elements v) c.in_ok-copy.ensures.values in
     let as_many : c.len-number.result ≡ length (row_of_sets sets) = omega (arith, c.len-number.ensures, length-map sets (λ (set : Bits). elements set.values)) in
-    let list : row_of_sets c.push_reserved.new.self.items ≡ row_of_sets sets ++ elements c.args.set.now.values ∷ [] = pushed sets c.reserve.new.self.items c.push_reserved.new.self.items c.in_ok-copy.copy (elements c.args.set.now.values) c.push_reserved.ensures.items c.reserve.ensures.items copy in
-    let numbered : Numbers (row_of_sets sets) (elements c.args.set.now.values) c.len-number.result (row_of_sets c.push_reserved.new.self.items) = rw list (numbers_new _ _ c.self.invariant c.args.set.now c.len-number.result as_many none) in
+    let list : row_of_sets c.push_reserved.new.self.items ≡ row_of_sets sets ++ elements c.args.set.now.values ∷ [] =
+    pushed sets c.reserve.new.self.items c.push_reserved.new.self.items c.in_ok-copy.copy
+    (elements c.args.set.now.values) c.push_reserved.ensures.items c.reserve.ensures.items copy in
+    let numbered : Numbers (row_of_sets sets) (elements c.args.set.now.values) c.len-number.result
+    (row_of_sets c.push_reserved.new.self.items) = rw list
+    (numbers_new _ _ c.self.invariant c.args.set.now c.len-number.result as_many none) in
     rw (← c.self.view_is) numbered
 
 pub invariant_of-self : goal.invariant_of-self

@@ -22,7 +22,9 @@ loop-distance-preserved g c =
       of_block = of_block;
       onward = omega (arith, c.saturating_add-distance.ensures, before.onward);
       filled = λ i high.
-          filled_more _ i c.loop-distance.distance _ _ _ _ (highest_within _ _ i (law.number_law c.args.self c.requires.of_block).0 high) (law.number_law c.bitor-filled.result of_block).0 (law.number_law c.loop-distance.filled before.of_block).0
+          filled_more _ i c.loop-distance.distance _ _ _ _
+          (highest_within _ _ i (law.number_law c.args.self c.requires.of_block).0 high)
+          (law.number_law c.bitor-filled.result of_block).0 (law.number_law c.loop-distance.filled before.of_block).0
           c.shift_right.ensures.of_digits digits (omega (arith, c.saturating_add-distance.ensures)) (before.filled i high);
     }
 
@@ -33,7 +35,10 @@ counted g c =
     let filled = c.loop-distance.filled in
     let high = highest_found g.Self.BitBlock.width (g.Self.BitBlock.number c.args.self) c.requires.not_zero (law.number_law c.args.self c.requires.of_block).0 in
     let i : ℕ = high.0 in
-    let whole = filled_whole _ i c.loop-distance.distance _ (highest_within _ _ i (law.number_law c.args.self c.requires.of_block).0 high.1) (law.number_law filled c.loop-distance.invariant.of_block).0 (omega (arith, c.loop-distance-test.false, c.bits.ensures)) (c.loop-distance.invariant.filled i high.1) in
+    let whole = filled_whole _ i c.loop-distance.distance _
+    (highest_within _ _ i (law.number_law c.args.self c.requires.of_block).0 high.1)
+    (law.number_law filled c.loop-distance.invariant.of_block).0 (omega (arith, c.loop-distance-test.false, c.bits.ensures))
+    (c.loop-distance.invariant.filled i high.1) in
     (i, high.1, c.count_ones.ensures ∙ ap count_ones whole ∙ ones_below (i + 1))
 
 pub overflow_sub-result : goal.overflow_sub-result

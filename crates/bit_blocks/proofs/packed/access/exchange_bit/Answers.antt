@@ -8,7 +8,10 @@ returns-clause-was g c =
     let f = g.B.BitBlock.number in
     let law = g.met.B.BitBlock in
     let read : f c.block_at-block.result ≡ get_or (map f xs) c.block_index.result 0 = rw c.deref.ensures.value at c.block_at-block.ensures.of_number in
-    bit_before g.B.BitBlock.width (f c.block_at-block.result) (f c.write_bit-written.result) _ c.args.bit c.same.result (law.number_law c.block_at-block.result c.block_at-block.ensures.of_block).0 (law.number_law c.write_bit-written.result c.write_bit-written.ensures.of_block).0 c.write_bit-written.ensures.digit c.write_bit-written.ensures.other_digits c.same.ensures
+    bit_before g.B.BitBlock.width (f c.block_at-block.result) (f c.write_bit-written.result) _ c.args.bit c.same.result
+    (law.number_law c.block_at-block.result c.block_at-block.ensures.of_block).0
+    (law.number_law c.write_bit-written.result c.write_bit-written.ensures.of_block).0 c.write_bit-written.ensures.digit
+    c.write_bit-written.ensures.other_digits c.same.ensures
     ∙ value_read _ _ _ _ _ _ c.block_index.ensures refl read
 
 pub block_at-block-requires-clause-in_bounds : goal.block_at-block-requires-clause-in_bounds

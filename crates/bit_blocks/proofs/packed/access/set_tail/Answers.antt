@@ -12,7 +12,8 @@ pub returns-else-block_index-k-clause-values : goal.returns-else-block_index-k-c
 returns-else-block_index-k-clause-values g c = λ i within.
     value_at-raised _ _ _ c.args.len c.args.end _ _ _ _ g.met.B.BitBlock.width_law.positive c.block_index-k.ensures c.bit_index-index.ensures.value (omega arith) (rw length-map (omega arith))
     (rw c.deref.ensures.value at c.block_at-last.ensures.of_number) c.put_block-else-block_index-k.ensures.numbers
-    (digits_from _ c.args.len c.args.end _ _ _ _ g.met.B.BitBlock.width_law.positive c.block_index-k.ensures c.requires.forward (omega arith) c.with_ones_from.ensures.digits) i (rw length-map (omega arith))
+    (digits_from _ c.args.len c.args.end _ _ _ _ g.met.B.BitBlock.width_law.positive c.block_index-k.ensures
+    c.requires.forward (omega arith) c.with_ones_from.ensures.digits) i (rw length-map (omega arith))
 
 pub returns-then-index-eq0-clause-values : goal.returns-then-index-eq0-clause-values
 returns-then-index-eq0-clause-values g c = λ i within. raised_none _ _ c.args.len c.args.end _ i g.met.B.BitBlock.width_law.positive c.requires.count (omega arith) within

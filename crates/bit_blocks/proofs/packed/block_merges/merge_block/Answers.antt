@@ -5,7 +5,9 @@ use Rattle.bit_blocks.proofs.packed.block_merges.merge_block.Goals as goal
 pub returns-clause-has : goal.returns-clause-has
 returns-clause-has g c =
     let k = c.args.k in
-    let put = merged_put _ g.B.BitBlock.width g.B.BitBlock.number _ k _ _ _ _ _ (omega arith) c.put_in.ensures.numbers c.put_in.ensures.each c.put_in.ensures.len c.block_at.ensures.of_number c.of_blocks-merged.ensures.digits in
+    let put = merged_put _ g.B.BitBlock.width g.B.BitBlock.number _ k _ _ _ _ _
+    (omega arith) c.put_in.ensures.numbers c.put_in.ensures.each c.put_in.ensures.len c.block_at.ensures.of_number
+    c.of_blocks-merged.ensures.digits in
     merged_same _ _ _ _ k (k + 1) _ _ _ _ (λ q j from below index. let here : k ≡ q = omega arith in c.block.ensures.digits j index ∙ ap (λ p. g.S.Others.digit c.args.others p j) here) put
 
 pub returns-clause-of_number : goal.returns-clause-of_number

@@ -20,7 +20,10 @@ loop-k-preserved g c =
     record {
       count = omega (arith, more.len, before.count, next);
       capacity = omega (arith, more.capacity, before.capacity);
-      digits = λ q j within index. bytes_more g.B.BitBlock.width _ k _ s _ (map g.B.BitBlock.number c.args.blocks.now) _ _ g.T.ByteOrder.place g.met.B.BitBlock.width_law c.bits-step.ensures (omega arith) before.count c.block_at.ensures.of_number more.kept more.digits before.digits q j (omega (arith, within, before.count, next)) index;
+      digits = λ q j within index. bytes_more g.B.BitBlock.width _ k _ s _
+          (map g.B.BitBlock.number c.args.blocks.now) _ _ g.T.ByteOrder.place g.met.B.BitBlock.width_law c.bits-step.ensures
+          (omega arith) before.count c.block_at.ensures.of_number more.kept more.digits before.digits q j
+          (omega (arith, within, before.count, next)) index;
     }
 
 pub block_at-requires-2-clause-in_bounds : goal.block_at-requires-2-clause-in_bounds
@@ -43,4 +46,7 @@ returns-clause-values g c = λ q j within index.
     let pos : 0 < s = omega (arith, whole_bytes _ _ width c.bits-step.ensures, width.positive) in
     let fewer = mod-lt n pos in
     let split = div-add-mod' n s in
-    bytes_more g.B.BitBlock.width _ (n / s) _ (n % s) _ (map g.B.BitBlock.number c.args.blocks.now) _ _ g.T.ByteOrder.place width c.bits-step.ensures (omega (arith, fewer)) count c.block_at-2.ensures.of_number more.kept more.digits (rw end at before.digits) q j (omega (arith, within, count, split)) index
+    bytes_more g.B.BitBlock.width _ (n / s) _ (n % s) _
+    (map g.B.BitBlock.number c.args.blocks.now) _ _ g.T.ByteOrder.place width c.bits-step.ensures
+    (omega (arith, fewer)) count c.block_at-2.ensures.of_number more.kept more.digits (rw end at before.digits) q j
+    (omega (arith, within, count, split)) index

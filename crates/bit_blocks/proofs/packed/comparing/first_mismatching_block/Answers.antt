@@ -7,4 +7,6 @@ mismatch_between-found-requires-clause-before g c = λ k below.
     let f = g.B.BitBlock.number in
     let xs = c.args.a.now in
     let before = same_before g.B.BitBlock.width f c.min-both.result _ xs _ c.differing_place.ensures in
-    (same_numbers g.B.BitBlock.width f g.B.BitBlock.is_block 0 _ xs c.args.b.now (λ x block. (g.met.B.BitBlock.number_law x block).0) c.requires.left c.requires.right).0 before k (omega arith) (rw c.unwrap_or-start.ensures at below)
+    (same_numbers g.B.BitBlock.width f g.B.BitBlock.is_block 0 _ xs c.args.b.now
+    (λ x block. (g.met.B.BitBlock.number_law x block).0) c.requires.left c.requires.right).0 before k (omega arith)
+    (rw c.unwrap_or-start.ensures at below)

@@ -10,7 +10,8 @@ returns-then-count-lt-GROUP g c =
     let ms = map f xs in
     let ns = map f ys in
     let both = same_numbers g.B.BitBlock.width f g.B.BitBlock.is_block 0 (length xs) xs ys (λ x block. (g.met.B.BitBlock.number_law x block).0) c.requires.can.each c.requires.can.others in
-    none_tells ((k : ℕ) → k < length xs → get_or ms k 0 ≡ get_or ns k 0) _ (IsFirstBlockMismatch ms ns) _ _ (sym c.is_none.ensures) c.mismatch_between.ensures (λ all. both.1 (λ k _ below. all k below)) (λ k first all.
+    none_tells ((k : ℕ) → k < length xs → get_or ms k 0 ≡ get_or ns k 0) _ (IsFirstBlockMismatch ms ns) _ _
+    (sym c.is_none.ensures) c.mismatch_between.ensures (λ all. both.1 (λ k _ below. all k below)) (λ k first all.
     first.here
     (⊎_elim
     (λ below. both.0 all k (omega arith) below)

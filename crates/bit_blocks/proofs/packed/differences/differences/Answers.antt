@@ -14,7 +14,8 @@ loop-k-preserved g c =
     let k = c.loop-k.k in
     let read = c.block_at.ensures in
     let other = c.block.ensures in
-    let one = same_one g.B.BitBlock.width g.B.BitBlock.number k _ _ (g.S.Others.digit c.args.others) _ read.of_number (law.number_law c.block_at.result read.of_block).0 (law.number_law c.block.result other.of_block).0 other.digits in
+    let one = same_one g.B.BitBlock.width g.B.BitBlock.number k _ _ (g.S.Others.digit c.args.others) _ read.of_number
+    (law.number_law c.block_at.result read.of_block).0 (law.number_law c.block.result other.of_block).0 other.digits in
     record {
       of_block = c.or_mismatch-difference.ensures.of_block;
       same = same_so_far _ _ c.args.start k _ _ _ _ _ _ c.loop-k.auto.k one c.loop-k.invariant.same c.or_mismatch-difference.ensures.none;

@@ -10,7 +10,8 @@ parted number n xs rest is =
     ∙ ap (ones_in number) (take-append-drop n xs)
 
 pub add_ones-requires-clause-fits : goal.add_ones-requires-clause-fits
-add_ones-requires-clause-fits g c = omega (arith, parted g.B.BitBlock.number (length c.args.blocks.now / 8 * 8) c.args.blocks.now _ c.split_at.ensures.back, c.ones_of_groups-ones.ensures, c.requires.fits)
+add_ones-requires-clause-fits g c =
+    omega (arith, parted g.B.BitBlock.number (length c.args.blocks.now / 8 * 8) c.args.blocks.now _ c.split_at.ensures.back, c.ones_of_groups-ones.ensures, c.requires.fits)
 
 pub returns : goal.returns
 returns g c = omega (arith, parted g.B.BitBlock.number (length c.args.blocks.now / 8 * 8) c.args.blocks.now _ c.split_at.ensures.back, c.ones_of_groups-ones.ensures, c.add_ones.ensures)

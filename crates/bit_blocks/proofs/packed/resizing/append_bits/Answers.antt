@@ -20,7 +20,8 @@ returns-then-bit g c =
     let added = ones_added _ _ _ _ _ _ _ c.requires.packed.tail c.set_tail.ensures.values (λ i within. c.push_ones.ensures.kept i (omega (arith, size, within)))
     (λ i past. c.push_ones.ensures.added i (omega (arith, size, past))) in
     record {
-      kept = ones_kept _ _ _ _ c.args.old _ (vec_len c.args.blocks.now) g.met.B.BitBlock.width_law.positive (omega arith) c.set_tail.ensures.values (λ i within. c.push_ones.ensures.kept i (omega (arith, size, within)));
+      kept = ones_kept _ _ _ _ c.args.old _ (vec_len c.args.blocks.now) g.met.B.BitBlock.width_law.positive
+          (omega arith) c.set_tail.ensures.values (λ i within. c.push_ones.ensures.kept i (omega (arith, size, within)));
       added = λ i after below. added i after ∙ below_true c.args.len i below ∙ sym c.if-bit.true;
       packed = record {
         each = c.push_ones.ensures.each;

@@ -22,7 +22,8 @@ returns-else-index-ne0-clause-kept g c = λ i within.
 
 pub returns-else-index-ne0-clause-added : goal.returns-else-index-ne0-clause-added
 returns-else-index-ne0-clause-added g c = λ i past.
-    whole_pushed _ _ _ c.args.len _ _ i g.met.B.BitBlock.width_law.positive (omega arith) (rw length-map (omega arith)) c.all_ones.ensures.of_number c.push_copies.ensures.numbers (rw length-map (omega arith))
+    whole_pushed _ _ _ c.args.len _ _ i g.met.B.BitBlock.width_law.positive (omega arith)
+    (rw length-map (omega arith)) c.all_ones.ensures.of_number c.push_copies.ensures.numbers (rw length-map (omega arith))
 
 pub returns-then-index-ne0-clause-each : goal.returns-then-index-ne0-clause-each
 returns-then-index-ne0-clause-each g c =

@@ -8,15 +8,20 @@ returns-then-same g c =
     let w = g.B.BitBlock.width in
     let ms = map g.B.BitBlock.number c.args.blocks.now in
     let n = g.B.BitBlock.number c.block_or_zero.result in
-    none_from w (value_at w ms) (is_one n) c.args.from c.block_index-k.result c.bit_index.result _ w (λ j index. read_block w ms _ _ n j c.block_index-k.ensures c.block_or_zero.ensures.of_number index) c.block_index-k.ensures c.bit_index.ensures.value
+    none_from w (value_at w ms) (is_one n) c.args.from c.block_index-k.result c.bit_index.result _ w
+    (λ j index. read_block w ms _ _ n j c.block_index-k.ensures c.block_or_zero.ensures.of_number index)
+    c.block_index-k.ensures c.bit_index.ensures.value
     c.with_zeros_below-rest.ensures.digits (eqb-true _ _ (sym c.same.ensures ∙ c.if-same.true) ∙ c.zero.ensures.of_number)
 
-found : (g : Over) (c : After-bits g) → IsFirstFrom (value_at g.B.BitBlock.width (map g.B.BitBlock.number c.args.blocks.now)) c.args.from (c.block_index-k.result * c.bits.result + c.lowest_one-index.result)
+found : (g : Over) (c : After-bits g) → IsFirstFrom (value_at g.B.BitBlock.width
+    (map g.B.BitBlock.number c.args.blocks.now)) c.args.from (c.block_index-k.result * c.bits.result + c.lowest_one-index.result)
 found g c =
     let w = g.B.BitBlock.width in
     let ms = map g.B.BitBlock.number c.args.blocks.now in
     let n = g.B.BitBlock.number c.block_or_zero.result in
-    first_from w (value_at w ms) (is_one n) c.args.from c.block_index-k.result c.bit_index.result _ c.bits.result (λ j index. read_block w ms _ _ n j c.block_index-k.ensures c.block_or_zero.ensures.of_number index) c.block_index-k.ensures c.bit_index.ensures.value
+    first_from w (value_at w ms) (is_one n) c.args.from c.block_index-k.result c.bit_index.result _ c.bits.result
+    (λ j index. read_block w ms _ _ n j c.block_index-k.ensures c.block_or_zero.ensures.of_number index)
+    c.block_index-k.ensures c.bit_index.ensures.value
     c.lowest_one-index.result c.bits.ensures c.lowest_one-index.ensures.within c.with_zeros_below-rest.ensures.digits c.lowest_one-index.ensures.lowest
 
 pub overflow_mul-result : goal.overflow_mul-result

@@ -12,7 +12,8 @@ pub loop-k-init : goal.loop-k-init
 loop-k-init g c = λ j from before. c.in_default.ensures j from (omega (arith, before, ap (λ k. k * g.B.BitBlock.width) c.block_index-k.ensures))
 
 pub overflow_mul-k : goal.overflow_mul-k
-overflow_mul-k g c = omega (arith, block_begins _ c.args.len c.loop-k.k c.bits.result _ g.met.B.BitBlock.width_law.positive c.bits.ensures c.requires.packed.count c.loop-k-test.true, c.requires.packed.fits)
+overflow_mul-k g c =
+    omega (arith, block_begins _ c.args.len c.loop-k.k c.bits.result _ g.met.B.BitBlock.width_law.positive c.bits.ensures c.requires.packed.count c.loop-k-test.true, c.requires.packed.fits)
 
 pub zero_in_block-requires-in-loop-k-clause-in_bounds : goal.zero_in_block-requires-in-loop-k-clause-in_bounds
 zero_in_block-requires-in-loop-k-clause-in_bounds g c =
@@ -37,7 +38,9 @@ returns-in-Some-zero_in_block g c =
 pub loop-k-preserved : goal.loop-k-preserved
 loop-k-preserved g c =
     let w = g.B.BitBlock.width in
-    none_more w c.args.from c.loop-k.k c.bits.result (λ i. not (value_at w (map g.B.BitBlock.number c.args.blocks.now) i)) g.met.B.BitBlock.width_law.positive c.bits.ensures c.loop-k.invariant c.in_default-zero_in_block.ensures
+    none_more w c.args.from c.loop-k.k c.bits.result
+    (λ i. not (value_at w (map g.B.BitBlock.number c.args.blocks.now) i)) g.met.B.BitBlock.width_law.positive c.bits.ensures
+    c.loop-k.invariant c.in_default-zero_in_block.ensures
 
 pub returns : goal.returns
 returns g c =

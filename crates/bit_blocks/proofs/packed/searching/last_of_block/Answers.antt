@@ -3,9 +3,13 @@ use Rattle.bit_blocks.{specs.{Searches.IsLastBefore, Storage.value_at}, proofs.{
 use Rattle.bit_blocks.proofs.packed.searching.last_of_block.Goals.{After-bits}
 use Rattle.bit_blocks.proofs.packed.searching.last_of_block.Goals as goal
 
-found : (g : Over) (c : After-bits g) → IsLastBefore (value_at g.B.BitBlock.width (map g.B.BitBlock.number c.args.blocks.now)) (c.args.k * g.B.BitBlock.width + g.B.BitBlock.width) (c.args.k * c.bits.result + c.highest_one-index.result)
+found : (g : Over) (c : After-bits g) → IsLastBefore (value_at g.B.BitBlock.width
+    (map g.B.BitBlock.number c.args.blocks.now)) (c.args.k * g.B.BitBlock.width + g.B.BitBlock.width)
+    (c.args.k * c.bits.result + c.highest_one-index.result)
 found g c =
-    last_of_whole g.B.BitBlock.width (map g.B.BitBlock.number c.args.blocks.now) c.args.k _ c.bits.result c.highest_one-index.result c.block_or_zero.ensures.of_number c.bits.ensures c.highest_one-index.ensures.within c.highest_one-index.ensures.highest
+    last_of_whole g.B.BitBlock.width (map g.B.BitBlock.number c.args.blocks.now) c.args.k _ c.bits.result
+    c.highest_one-index.result c.block_or_zero.ensures.of_number c.bits.ensures
+    c.highest_one-index.ensures.within c.highest_one-index.ensures.highest
 
 pub overflow_mul-result : goal.overflow_mul-result
 overflow_mul-result g c = omega (arith, c.requires.fits _ (found g (goal.at.overflow_mul-result g c).After-bits).passes)

@@ -12,7 +12,8 @@ loop-k-preserved g c =
     let w = g.B.BitBlock.width in
     let k = c.loop-k.k in
     let ms = map g.B.BitBlock.number c.args.blocks.now in
-    let block = false_of_mask m w k (k * w) ((k + 1) * w) _ ms g.met.B.BitBlock.width_law.positive c.requires.nothing (omega arith) (omega arith) (mask_whole w k _ c.all_ones-ones.ensures.of_number) in
+    let block = false_of_mask m w k (k * w) ((k + 1) * w) _ ms g.met.B.BitBlock.width_law.positive c.requires.nothing
+    (omega arith) (omega arith) (mask_whole w k _ c.all_ones-ones.ensures.of_number) in
     false-parts m w (c.args.first * w) (k * w) ((k + 1) * w) _ _ ms refl refl c.loop-k.invariant (block.0 (c.masks_to_zero.ensures.0 c.if-not-masks_to_zero.false))
 
 pub returns-then-not-masks_to_zero : goal.returns-then-not-masks_to_zero
@@ -21,7 +22,8 @@ returns-then-not-masks_to_zero g c =
     let w = g.B.BitBlock.width in
     let k = c.loop-k.k in
     let ms = map g.B.BitBlock.number c.args.blocks.now in
-    let block = false_of_mask m w k (k * w) ((k + 1) * w) _ ms g.met.B.BitBlock.width_law.positive c.requires.nothing (omega arith) (omega arith) (mask_whole w k _ c.all_ones-ones.ensures.of_number) in
+    let block = false_of_mask m w k (k * w) ((k + 1) * w) _ ms g.met.B.BitBlock.width_law.positive c.requires.nothing
+    (omega arith) (omega arith) (mask_whole w k _ c.all_ones-ones.ensures.of_number) in
     let from = mul-le-mul_right w c.loop-k.auto.k in
     let next : k + 1 ≤ c.args.end = omega arith in
     let to = mul-le-mul_right w next in (

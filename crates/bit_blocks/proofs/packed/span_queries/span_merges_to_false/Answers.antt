@@ -16,7 +16,8 @@ ones_merge_to_zero-requires-clause-forward g c =
 pub ones_merge_to_zero-requires-clause-within : goal.ones_merge_to_zero-requires-clause-within
 ones_merge_to_zero-requires-clause-within g c =
     let w = g.B.BitBlock.width in
-    end_within w c.args.end c.block_index-last.result _ _ g.met.B.BitBlock.width_law.positive (parts w c.args.end c.block_index-last.result _ c.block_index-last.ensures c.bit_index-high.ensures.value) c.requires.within
+    end_within w c.args.end c.block_index-last.result _ _ g.met.B.BitBlock.width_law.positive
+    (parts w c.args.end c.block_index-last.result _ c.block_index-last.ensures c.bit_index-high.ensures.value) c.requires.within
 
 pub masks_to_zero-requires-else-high-eq0-clause-in_bounds : goal.masks_to_zero-requires-else-high-eq0-clause-in_bounds
 masks_to_zero-requires-else-high-eq0-clause-in_bounds g c =
@@ -29,17 +30,24 @@ returns-then-first-last g c =
     let first = c.block_index-first.result in
     let start = parts w c.args.start first _ c.block_index-first.ensures c.bit_index-low.ensures.value in
     let end = parts w c.args.end c.block_index-last.result _ c.block_index-last.ensures c.bit_index-high.ensures.value in
-    let mask = false_of_mask g.O.Operation.merge w first c.args.start c.args.end _ (map g.B.BitBlock.number c.args.blocks.now) g.met.B.BitBlock.width_law.positive c.requires.nothing (omega arith) (rw c.if-first-last.true (omega arith))
+    let mask = false_of_mask g.O.Operation.merge w first c.args.start c.args.end _
+    (map g.B.BitBlock.number c.args.blocks.now) g.met.B.BitBlock.width_law.positive c.requires.nothing (omega arith)
+    (rw c.if-first-last.true (omega arith))
     (mask_between w c.args.start c.args.end first _ _ _ c.block_index-first.ensures (omega arith) c.bit_index-low.ensures.value c.bit_index-high.ensures.value c.ones_between.ensures.digits) in
     (λ yes. mask.0 (c.masks_to_zero.ensures.0 yes), λ all. c.masks_to_zero.ensures.1 (mask.1 all))
 
 -- the first block, where it is not the last
-front : (g : Over) (c : After-masks_to_zero-2 g) → IsTrue c.masks_to_zero-2.result ↔ MergesSpanToFalse g.O.Operation.merge g.B.BitBlock.width c.args.start ((c.block_index-first.result + 1) * g.B.BitBlock.width) (map g.B.BitBlock.number c.args.blocks.now)
+front : (g : Over) (c : After-masks_to_zero-2 g)
+    → IsTrue c.masks_to_zero-2.result ↔ MergesSpanToFalse g.O.Operation.merge g.B.BitBlock.width c.args.start
+    ((c.block_index-first.result + 1) * g.B.BitBlock.width) (map g.B.BitBlock.number c.args.blocks.now)
 front g c =
     let w = g.B.BitBlock.width in
     let first = c.block_index-first.result in
     let start = parts w c.args.start first _ c.block_index-first.ensures c.bit_index-low.ensures.value in
-    let mask = false_of_mask g.O.Operation.merge w first c.args.start ((first + 1) * w) _ (map g.B.BitBlock.number c.args.blocks.now) g.met.B.BitBlock.width_law.positive c.requires.nothing (omega arith) (omega arith) (mask_from w c.args.start first _ _ c.block_index-first.ensures c.bit_index-low.ensures.value c.ones_from.ensures.digits) in
+    let mask = false_of_mask g.O.Operation.merge w first c.args.start ((first + 1) * w) _
+    (map g.B.BitBlock.number c.args.blocks.now) g.met.B.BitBlock.width_law.positive c.requires.nothing (omega arith)
+    (omega arith) (mask_from w c.args.start first _ _ c.block_index-first.ensures c.bit_index-low.ensures.value
+    c.ones_from.ensures.digits) in
     (λ yes. mask.0 (c.masks_to_zero-2.ensures.0 yes), λ all. c.masks_to_zero-2.ensures.1 (mask.1 all))
 
 pub returns-then-not-masks_to_zero : goal.returns-then-not-masks_to_zero
@@ -48,10 +56,13 @@ returns-then-not-masks_to_zero g c =
     let first = c.block_index-first.result in
     let last = c.block_index-last.result in
     let end = parts w c.args.end last _ c.block_index-last.ensures c.bit_index-high.ensures.value in
-    let more = mul-le-mul_right w (past_first w c.args.start c.args.end first last g.met.B.BitBlock.width_law.positive c.block_index-first.ensures c.block_index-last.ensures c.requires.some c.if-first-last.false) in
+    let more = mul-le-mul_right w (past_first w c.args.start c.args.end first last g.met.B.BitBlock.width_law.positive
+    c.block_index-first.ensures c.block_index-last.ensures c.requires.some c.if-first-last.false) in
     let tells = front g (goal.at.returns-then-not-masks_to_zero g c).After-masks_to_zero-2 in (
       λ yes. absurd (false≢true yes),
-      λ all. absurd (false≢true (sym c.if-not-masks_to_zero.true ∙ tells.1 (false-within g.O.Operation.merge w c.args.start c.args.end c.args.start ((first + 1) * w) _ (omega arith) (omega (arith, more, end)) all))),
+      λ all. absurd (false≢true (sym c.if-not-masks_to_zero.true
+          ∙ tells.1 (false-within g.O.Operation.merge w c.args.start c.args.end c.args.start ((first + 1) * w) _ (omega arith)
+          (omega (arith, more, end)) all))),
     )
 
 pub returns-then-not-ones_merge_to_zero : goal.returns-then-not-ones_merge_to_zero
@@ -62,11 +73,17 @@ returns-then-not-ones_merge_to_zero g c =
     let start = parts w c.args.start first _ c.block_index-first.ensures c.bit_index-low.ensures.value in
     let end = parts w c.args.end last _ c.block_index-last.ensures c.bit_index-high.ensures.value in (
       λ yes. absurd (false≢true yes),
-      λ all. absurd (false≢true (sym c.if-not-ones_merge_to_zero.true ∙ c.ones_merge_to_zero.ensures.1 (false-within g.O.Operation.merge w c.args.start c.args.end ((first + 1) * w) (last * w) _ (omega arith) (omega (arith, end)) all))),
+      λ all. absurd (false≢true (sym c.if-not-ones_merge_to_zero.true
+          ∙ c.ones_merge_to_zero.ensures.1 (false-within g.O.Operation.merge w c.args.start c.args.end ((first + 1) * w)
+          (last * w) _ (omega arith) (omega (arith, end)) all))),
     )
 
 -- up to the last block
-begun : (g : Over) (c : After-ones_merge_to_zero g) → MergesSpanToFalse g.O.Operation.merge g.B.BitBlock.width c.args.start ((c.block_index-first.result + 1) * g.B.BitBlock.width) (map g.B.BitBlock.number c.args.blocks.now) → c.ones_merge_to_zero.result ≡ true → MergesSpanToFalse g.O.Operation.merge g.B.BitBlock.width c.args.start (c.block_index-last.result * g.B.BitBlock.width) (map g.B.BitBlock.number c.args.blocks.now)
+begun : (g : Over) (c : After-ones_merge_to_zero g)
+    → MergesSpanToFalse g.O.Operation.merge g.B.BitBlock.width c.args.start
+    ((c.block_index-first.result + 1) * g.B.BitBlock.width) (map g.B.BitBlock.number c.args.blocks.now)
+    → c.ones_merge_to_zero.result ≡ true → MergesSpanToFalse g.O.Operation.merge g.B.BitBlock.width c.args.start
+    (c.block_index-last.result * g.B.BitBlock.width) (map g.B.BitBlock.number c.args.blocks.now)
 begun g c before holds =
     let w = g.B.BitBlock.width in
     false-parts g.O.Operation.merge w c.args.start ((c.block_index-first.result + 1) * w) (c.block_index-last.result * w) _ _ _ refl refl before (c.ones_merge_to_zero.ensures.0 holds)
@@ -82,6 +99,7 @@ returns-then-high-eq0 g c =
 
 pub returns-else-high-eq0 : goal.returns-else-high-eq0
 returns-else-high-eq0 g c =
+    let pos = g.met.B.BitBlock.width_law.positive in
     let at = goal.at.returns-else-high-eq0 g c in
     let m = g.O.Operation.merge in
     let w = g.B.BitBlock.width in
@@ -89,9 +107,12 @@ returns-else-high-eq0 g c =
     let ms = map g.B.BitBlock.number c.args.blocks.now in
     let end = parts w c.args.end last _ c.block_index-last.ensures c.bit_index-high.ensures.value in
     let start = parts w c.args.start c.block_index-first.result _ c.block_index-first.ensures c.bit_index-low.ensures.value in
-    let more = mul-le-mul_right w (past_first w c.args.start c.args.end c.block_index-first.result last g.met.B.BitBlock.width_law.positive c.block_index-first.ensures c.block_index-last.ensures c.requires.some c.if-first-last.false) in
+    let more = mul-le-mul_right w (past_first w c.args.start c.args.end c.block_index-first.result last pos
+    c.block_index-first.ensures c.block_index-last.ensures c.requires.some c.if-first-last.false) in
     let before = begun g at.After-ones_merge_to_zero ((front g at.After-masks_to_zero-2).0 c.if-not-masks_to_zero.false) c.if-not-ones_merge_to_zero.false in
-    let mask = false_of_mask m w last (last * w) c.args.end _ ms g.met.B.BitBlock.width_law.positive c.requires.nothing (omega arith) (omega (arith, end)) (mask_below w c.args.end last _ _ c.block_index-last.ensures c.bit_index-high.ensures.value c.ones_below.ensures.of_number) in (
+    let mask = false_of_mask m w last (last * w) c.args.end _ ms pos c.requires.nothing (omega arith) (omega (arith, end))
+    (mask_below w c.args.end last _ _ c.block_index-last.ensures c.bit_index-high.ensures.value
+    c.ones_below.ensures.of_number) in (
       λ yes. false-parts m w c.args.start (last * w) c.args.end _ _ ms refl refl before (mask.0 (c.masks_to_zero-else-high-eq0.ensures.0 yes)),
       λ all. c.masks_to_zero-else-high-eq0.ensures.1 (mask.1 (false-within m w c.args.start c.args.end (last * w) c.args.end ms (omega (arith, more, start)) (omega arith) all)),
     )

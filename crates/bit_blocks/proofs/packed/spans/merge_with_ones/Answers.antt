@@ -7,7 +7,9 @@ loop-k-preserved g c =
     let m = g.O.Operation.merge in
     let w = g.B.BitBlock.width in
     let k = c.loop-k.k in
-    let one = span_of_mask m w k (k * w) ((k + 1) * w) _ _ _ g.met.B.BitBlock.width_law.positive c.requires.keeps (omega arith) (omega arith) c.merge_mask.ensures.digits c.merge_mask.ensures.others (mask_whole w k _ c.all_ones-ones.ensures.of_number) in
+    let one = span_of_mask m w k (k * w) ((k + 1) * w) _ _ _ g.met.B.BitBlock.width_law.positive c.requires.keeps
+    (omega arith) (omega arith) c.merge_mask.ensures.digits c.merge_mask.ensures.others
+    (mask_whole w k _ c.all_ones-ones.ensures.of_number) in
     let from = mul-le-mul_right w c.loop-k.auto.k in
     record {
       span = span_more m w (c.args.first * w) (k * w) ((k + 1) * w) _ _ _ _ _ from (omega arith) refl refl c.loop-k.invariant.span one;

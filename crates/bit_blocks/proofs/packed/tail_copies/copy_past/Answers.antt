@@ -14,7 +14,8 @@ push_copies-requires-clause-each g c = rw c.in_ok-copy.ensures.items (All-nil g.
 pub returns-clause-numbers : goal.returns-clause-numbers
 returns-clause-numbers g c =
     IfOk-weaker c.filled_with.result _ _
-    (λ filled items. tail_copied g.B.BitBlock.number c.args.blocks.now _ c.push_copies.new.blocks.items _ c.args.count _ _ c.in_ok-copy.ensures.items c.in_ok-copy.ensures.len c.zero.ensures.of_number c.push_copies.ensures.numbers items)
+    (λ filled items. tail_copied g.B.BitBlock.number c.args.blocks.now _ c.push_copies.new.blocks.items _ c.args.count _ _
+    c.in_ok-copy.ensures.items c.in_ok-copy.ensures.len c.zero.ensures.of_number c.push_copies.ensures.numbers items)
     c.filled_with.ensures.items
 
 pub returns-clause-each : goal.returns-clause-each

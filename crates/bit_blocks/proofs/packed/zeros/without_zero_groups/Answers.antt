@@ -10,7 +10,9 @@ loop-group-preserved g c = λ k past.
     let end = length c.args.blocks.now - c.loop-group.group * 8 in
     ⊎_elim
     (λ (here : k < end).
-    zeros_same g.B.BitBlock.width g.B.BitBlock.number g.B.BitBlock.is_block (end - 8) (end - 8 + 8) c.args.blocks.now (λ x block. (g.met.B.BitBlock.number_law x block).0) c.requires.each (c.are_others.ensures.0 c.if-not-are_others.false) k (omega arith) (omega arith))
+    zeros_same g.B.BitBlock.width g.B.BitBlock.number g.B.BitBlock.is_block (end - 8) (end - 8 + 8) c.args.blocks.now
+    (λ x block. (g.met.B.BitBlock.number_law x block).0) c.requires.each (c.are_others.ensures.0 c.if-not-are_others.false) k
+    (omega arith) (omega arith))
     (λ (late : end ≤ k). c.loop-group.invariant k late)
     (cases_lt k end)
 

@@ -17,5 +17,7 @@ loop-row-preserved g c =
     let within : c.loop-row.row < length rows = omega (arith, c.loop-row-test.true, c.rows-row-end.ensures.value) in (
       so_far.0 ++ line,
       has_written_append _ _ _ _ _ _ so_far.1 (has_written_append _ _ _ _ _ _ row end),
-      append_assoc so_far.0 line _ ∙ ap (λ xss. so_far.0 ++ rows_text xss) (ap (λ x. x ∷ drop (c.loop-row.row + 1) rows) c.iter.ensures.left ∙ sym (drop_more rows c.loop-row.row [] within)) ∙ so_far.2,
+      append_assoc so_far.0 line _ ∙ ap (λ xss. so_far.0 ++ rows_text xss)
+          (ap (λ x. x ∷ drop (c.loop-row.row + 1) rows) c.iter.ensures.left ∙ sym (drop_more rows c.loop-row.row [] within))
+          ∙ so_far.2,
     )

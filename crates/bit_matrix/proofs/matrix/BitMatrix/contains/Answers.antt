@@ -16,4 +16,7 @@ pub get_bit-requires-clause-in_bounds : goal.get_bit-requires-clause-in_bounds
 get_bit-requires-clause-in_bounds g c = let block = (at g (goal.at.get_bit-requires-clause-in_bounds g c).After-self).block in rw (c.deref.ensures.value, c.bit_index_of.ensures) (omega (arith, block))
 
 pub returns : goal.returns
-returns g c = rw (c.deref.ensures.value, c.bit_index_of.ensures) at c.get_bit.ensures ∙ seen_bit g.met.B.BitBlock.width_law.positive c.self.invariant c.self.view_is c.args.row c.args.column c.requires.row c.requires.column
+returns g c =
+    rw (c.deref.ensures.value, c.bit_index_of.ensures) at c.get_bit.ensures
+    ∙ seen_bit g.met.B.BitBlock.width_law.positive c.self.invariant c.self.view_is c.args.row c.args.column c.requires.row
+    c.requires.column

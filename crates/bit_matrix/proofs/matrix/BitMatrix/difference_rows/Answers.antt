@@ -5,4 +5,6 @@ use Rattle.bit_matrix.proofs.TableLemmas.{changes_row}
 use Rattle.bit_matrix.proofs.matrix.BitMatrix.difference_rows.Goals as goal
 
 pub returns-clause-members : goal.returns-clause-members
-returns-clause-members g c = changes_row c.args.self.now _ c.args.write _ _ c.requires.write c.merge_rows.ensures.matrix (has-merge_of_sets Difference (row_of c.args.self.now c.args.write) (row_of c.args.self.now c.args.read))
+returns-clause-members g c =
+    changes_row c.args.self.now _ c.args.write _ _ c.requires.write c.merge_rows.ensures.matrix
+    (has-merge_of_sets Difference (row_of c.args.self.now c.args.write) (row_of c.args.self.now c.args.read))

@@ -23,4 +23,6 @@ loop-row-preserved g c =
 pub returns-clause-matrix : goal.returns-clause-matrix
 returns-clause-matrix g c =
     let all = c.loop-row.invariant in
-    all_rows _ c.args.rows _ (elements c.args.set.now.values) all.rows all.columns (λ q inside. all.each q inside ∙ (let yes : nat_lt q c.loop-row.row ≡ true = grind (arith, nat_tests) in ap (λ b. if b then elements c.args.set.now.values else []) yes))
+    all_rows _ c.args.rows _ (elements c.args.set.now.values) all.rows all.columns
+    (λ q inside. all.each q inside ∙ (let yes : nat_lt q c.loop-row.row ≡ true = grind (arith, nat_tests) in
+    ap (λ b. if b then elements c.args.set.now.values else []) yes))

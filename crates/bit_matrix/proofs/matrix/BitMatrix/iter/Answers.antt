@@ -4,7 +4,8 @@ use Rattle.bit_matrix.proofs.WalkLemmas.{runs_of_row}
 use Rattle.bit_matrix.proofs.matrix.BitMatrix.iter.Goals as goal
 
 pub returns-clause-left : goal.returns-clause-left
-returns-clause-left g c = same_members _ _ c.over.ensures.ascends (c.row_blocks.ensures.matrix.ascends c.args.row) (λ n. c.over.ensures.members n ∙ (let bit = c.row_blocks.ensures.bits n in grind (arith, nat_tests)))
+returns-clause-left g c =
+    same_members _ _ c.over.ensures.ascends (c.row_blocks.ensures.matrix.ascends c.args.row) (λ n. c.over.ensures.members n ∙ (let bit = c.row_blocks.ensures.bits n in grind (arith, nat_tests)))
 
 pub returns-clause-runs : goal.returns-clause-runs
 returns-clause-runs g c = runs_of_row

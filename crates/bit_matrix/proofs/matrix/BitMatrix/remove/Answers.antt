@@ -19,10 +19,13 @@ replace_bit-requires-clause-in_bounds g c = let block = (at g (goal.at.replace_b
 pub invariant_of-self : goal.invariant_of-self
 invariant_of-self g c =
     let written = rw c.bit_index_of-i.ensures at c.replace_bit.ensures.value in
-    written_table g.met.B.BitBlock.width_law.positive c.self.invariant c.self.view_is c.replace_bit.new.blocks.items c.args.row c.args.column false c.requires.row c.requires.column written c.replace_bit.ensures.in_place.each (as_long _ c.self.inside.blocks c.replace_bit.new.blocks c.replace_bit.ensures.in_place)
+    written_table g.met.B.BitBlock.width_law.positive c.self.invariant c.self.view_is c.replace_bit.new.blocks.items
+    c.args.row c.args.column false c.requires.row c.requires.column written c.replace_bit.ensures.in_place.each
+    (as_long _ c.self.inside.blocks c.replace_bit.new.blocks c.replace_bit.ensures.in_place)
 
 pub returns-clause-was : goal.returns-clause-was
-returns-clause-was g c = (rw c.bit_index_of-i.ensures at c.replace_bit.ensures.was ∙ seen_bit g.met.B.BitBlock.width_law.positive c.self.invariant c.self.view_is c.args.row c.args.column c.requires.row c.requires.column)
+returns-clause-was g c =
+    (rw c.bit_index_of-i.ensures at c.replace_bit.ensures.was ∙ seen_bit g.met.B.BitBlock.width_law.positive c.self.invariant c.self.view_is c.args.row c.args.column c.requires.row c.requires.column)
 
 pub returns-clause-matrix : goal.returns-clause-matrix
 returns-clause-matrix g c =

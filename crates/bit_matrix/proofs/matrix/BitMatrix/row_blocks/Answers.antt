@@ -14,13 +14,15 @@ returns-clause-bits g c = slice_bits g.met.B.BitBlock.width_law.positive c.self.
 
 pub returns-clause-enough : goal.returns-clause-enough
 returns-clause-enough g c =
-    let long = ap (λ n. n * g.B.BitBlock.width) (slice_length g.met.B.BitBlock.width_law.positive c.self.invariant c.self.view_is c.args.row c.requires _ (slice g (goal.at.returns-clause-enough g c).After-row_of_blocks)) in
-    omega (arith, long, enough g.met.B.BitBlock.width_law.positive c.self.invariant c.self.view_is, seen_columns g.met.B.BitBlock.width_law.positive c.self.invariant c.self.view_is)
+    let pos = g.met.B.BitBlock.width_law.positive in
+    let long = ap (λ n. n * g.B.BitBlock.width) (slice_length pos c.self.invariant c.self.view_is c.args.row c.requires _ (slice g (goal.at.returns-clause-enough g c).After-row_of_blocks)) in
+    omega (arith, long, enough pos c.self.invariant c.self.view_is, seen_columns pos c.self.invariant c.self.view_is)
 
 pub returns-clause-fits : goal.returns-clause-fits
 returns-clause-fits g c =
-    let long = ap (λ n. n * g.B.BitBlock.width) (slice_length g.met.B.BitBlock.width_law.positive c.self.invariant c.self.view_is c.args.row c.requires _ (slice g (goal.at.returns-clause-fits g c).After-row_of_blocks)) in
-    omega (arith, long, row_bits_fit g.met.B.BitBlock.width_law.positive c.self.invariant c.self.view_is c.args.row c.requires, c.self.invariant.fits)
+    let pos = g.met.B.BitBlock.width_law.positive in
+    let long = ap (λ n. n * g.B.BitBlock.width) (slice_length pos c.self.invariant c.self.view_is c.args.row c.requires _ (slice g (goal.at.returns-clause-fits g c).After-row_of_blocks)) in
+    omega (arith, long, row_bits_fit pos c.self.invariant c.self.view_is c.args.row c.requires, c.self.invariant.fits)
 
 pub returns-clause-matrix : goal.returns-clause-matrix
 returns-clause-matrix g c = seen_matrix g.met.B.BitBlock.width_law.positive c.self.invariant c.self.view_is
@@ -28,4 +30,6 @@ returns-clause-matrix g c = seen_matrix g.met.B.BitBlock.width_law.positive c.se
 pub returns-clause-len : goal.returns-clause-len
 returns-clause-len g c =
     let pos = g.met.B.BitBlock.width_law.positive in
-    slice_length pos c.self.invariant c.self.view_is c.args.row c.requires _ (slice g (goal.at.returns-clause-len g c).After-row_of_blocks) ∙ c.self.invariant.in_row ∙ ap (blocks_for g.B.BitBlock.width) (sym (seen_columns pos c.self.invariant c.self.view_is))
+    slice_length pos c.self.invariant c.self.view_is c.args.row c.requires _
+    (slice g (goal.at.returns-clause-len g c).After-row_of_blocks) ∙ c.self.invariant.in_row
+    ∙ ap (blocks_for g.B.BitBlock.width) (sym (seen_columns pos c.self.invariant c.self.view_is))

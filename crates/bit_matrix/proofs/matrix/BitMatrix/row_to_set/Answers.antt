@@ -25,7 +25,9 @@ keep_blocks-requires-clause-ones g c =
 
 pub returns-clause-length : goal.returns-clause-length
 returns-clause-length g c =
-    rw c.from_bit_vec_general.ensures.value (c.keep_blocks.ensures.len ∙ ap length c.in_ok-bits.ensures.values ∙ length-replicate c.self.inside.columns true ∙ sym (seen_columns g.met.B.BitBlock.width_law.positive c.self.invariant c.self.view_is))
+    rw c.from_bit_vec_general.ensures.value (c.keep_blocks.ensures.len ∙ ap length c.in_ok-bits.ensures.values
+    ∙ length-replicate c.self.inside.columns true
+    ∙ sym (seen_columns g.met.B.BitBlock.width_law.positive c.self.invariant c.self.view_is))
 
 pub keep_blocks-requires-clause-each : goal.keep_blocks-requires-clause-each
 keep_blocks-requires-clause-each g c = c.row_blocks.ensures.each

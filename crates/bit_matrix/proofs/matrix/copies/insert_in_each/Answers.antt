@@ -7,7 +7,10 @@ use Rattle.bit_matrix.proofs.matrix.copies.insert_in_each.Goals as goal
 
 pub loop-column-init : goal.loop-column-init
 loop-column-init g c =
-    let left : (k : ℕ) → has c.into_iter-column-iterator.result k ≡ (nat_le c.args.from k && has_at c.args.matrix.now c.args.row k) = λ k. ap (λ xs. has xs k) (c.into_iter-column-iterator.ensures.into_iter_gives ∙ c.iter_from-column-items.ensures.left) ∙ has-filter (nat_le c.args.from) (row_of c.args.matrix.now c.args.row) k in
+    let left : (k : ℕ) → has c.into_iter-column-iterator.result
+    k ≡ (nat_le c.args.from k && has_at c.args.matrix.now c.args.row k) = λ k. ap (λ xs. has xs k)
+    (c.into_iter-column-iterator.ensures.into_iter_gives ∙ c.iter_from-column-items.ensures.left)
+    ∙ has-filter (nat_le c.args.from) (row_of c.args.matrix.now c.args.row) k in
     record {
       bits = λ r k. ap (λ b. has_at c.args.transposed.now k r || (r == c.args.row && b)) (left k);
       inside = λ k is_in. sym (left k) ∙ is_in;

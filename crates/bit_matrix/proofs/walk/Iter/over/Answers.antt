@@ -11,22 +11,33 @@ in_block : (g : _) (c : After-clear_below g) →
     let f = g.B.BitBlock.number in
     let index = c.args.from / w * w in
     let rest = c.split_at-2.result.1.now in
-    IsRowWalk w f g.B.BitBlock.is_block rest c.clear_below.result index × ((n : ℕ) → has (indexes w index (f c.clear_below.result) (values_in w (map f rest))) n ≡ (nat_le c.args.from n && value_at w (map f c.args.blocks.now) n))
+    IsRowWalk w f g.B.BitBlock.is_block rest c.clear_below.result index
+    × ((n : ℕ) → has (indexes w index (f c.clear_below.result)
+    (values_in w (map f rest))) n ≡ (nat_le c.args.from n && value_at w (map f c.args.blocks.now) n))
     × IsAscending (indexes w index (f c.clear_below.result) (values_in w (map f rest)))
 in_block g c =
     let w = g.B.BitBlock.width in
     let f = g.B.BitBlock.number in
-    begun w f g.B.BitBlock.is_block c.args.blocks.now _ c.args.from (c.args.from / w) _ g.met.B.BitBlock.width_law.positive refl (rw c.bits.ensures at c.if-first-blocks.false) c.requires.fits c.requires.each c.clear_below.ensures.of_block (rw c.bits.ensures at c.split_at-2.ensures.back)
-    (λ j inside. (rw (c.bits.ensures, c.bits-2.ensures) at c.clear_below.ensures.digits j inside) ∙ ap (λ m. nat_le (c.args.from - c.args.from / w * w) j && is_one m j) (rw c.bits.ensures at c.block_at.ensures.of_number))
+    begun w f g.B.BitBlock.is_block c.args.blocks.now _ c.args.from
+    (c.args.from / w) _ g.met.B.BitBlock.width_law.positive refl
+    (rw c.bits.ensures at c.if-first-blocks.false) c.requires.fits c.requires.each c.clear_below.ensures.of_block
+    (rw c.bits.ensures at c.split_at-2.ensures.back)
+    (λ j inside. (rw (c.bits.ensures, c.bits-2.ensures) at c.clear_below.ensures.digits j inside)
+    ∙ ap (λ m. nat_le (c.args.from - c.args.from / w * w) j && is_one m j) (rw c.bits.ensures at c.block_at.ensures.of_number))
 
 -- where it is past the blocks
 past : (g : _) (c : After-zero g) →
     let w = g.B.BitBlock.width in
     let f = g.B.BitBlock.number in
     let rest = c.split_at.result.1.now in
-    IsRowWalk w f g.B.BitBlock.is_block rest c.zero.result 0 × ((n : ℕ) → has (indexes w 0 (f c.zero.result) (values_in w (map f rest))) n ≡ (nat_le c.args.from n && value_at w (map f c.args.blocks.now) n))
+    IsRowWalk w f g.B.BitBlock.is_block rest c.zero.result 0
+    × ((n : ℕ) → has (indexes w 0 (f c.zero.result) (values_in w (map f rest))) n ≡ (nat_le c.args.from n && value_at w
+    (map f c.args.blocks.now) n))
     × IsAscending (indexes w 0 (f c.zero.result) (values_in w (map f rest)))
-past g c = none_begun g.B.BitBlock.width g.B.BitBlock.number g.B.BitBlock.is_block c.args.blocks.now _ c.args.from _ g.met.B.BitBlock.width_law.positive (rw c.bits.ensures at c.if-first-blocks.true) c.zero.ensures.of_block c.zero.ensures.of_number c.split_at.ensures.back
+past g c =
+    none_begun g.B.BitBlock.width g.B.BitBlock.number g.B.BitBlock.is_block c.args.blocks.now _ c.args.from _
+    g.met.B.BitBlock.width_law.positive (rw c.bits.ensures at c.if-first-blocks.true) c.zero.ensures.of_block
+    c.zero.ensures.of_number c.split_at.ensures.back
 
 pub invariant_of-result : goal.invariant_of-result
 invariant_of-result g c = (past g (goal.at.invariant_of-result g c).After-zero).0

@@ -1,12 +1,14 @@
-use Rattle.std.proofs.{Common.{◌≡◌, [], length, map, sym, ap, ◌∙◌, arith}, lemmas.List.{drop_all}}
+use Rattle.std.proofs.{Common.{◌≡◌, [], length, map, sym, ap, ◌∙◌, arith}, lemmas.List.drop_all}
 use Rattle.bit_set.specs.Indexes.{values_in}
 use Rattle.bit_set.proofs.WalkLemmas.{indexes-ended}
-use Rattle.bit_matrix.proofs.{WalkLemmas.{row_next, row_taken}, walk.IterIterator.next.Goals.{After-split_first, After-take_lowest_one}}
+use Rattle.bit_matrix.proofs.{WalkLemmas.{row_next, row_taken}, walk.IterIterator.next.Goals.After-split_first}
 use Rattle.bit_matrix.proofs.walk.IterIterator.next.Goals as goal
 
 -- the block in hand is used up where the loop goes on
 used_up : (g : _) (c : After-split_first g) → g.B.BitBlock.number c.loop-self.self-inside.block ≡ 0
-used_up g c = (g.met.B.BitBlock.eq_law c.loop-self.self-inside.block c.zero.result c.loop-self.invariant.walk.in_hand c.zero.ensures.of_block).0 (sym c.eq.ensures ∙ c.loop-self-test.true) ∙ c.zero.ensures.of_number
+used_up g c =
+    (g.met.B.BitBlock.eq_law c.loop-self.self-inside.block c.zero.result c.loop-self.invariant.walk.in_hand
+    c.zero.ensures.of_block).0 (sym c.eq.ensures ∙ c.loop-self-test.true) ∙ c.zero.ensures.of_number
 
 pub returns-in_err-first-clause-steps : goal.returns-in_err-first-clause-steps
 returns-in_err-first-clause-steps g c =
@@ -20,7 +22,8 @@ returns-in_err-first-clause-steps g c =
 pub loop-self-preserved : goal.loop-self-preserved
 loop-self-preserved g c =
     let zero = used_up g (goal.at.loop-self-preserved g c).After-split_first in
-    let next = row_next g.B.BitBlock.width g.B.BitBlock.number g.B.BitBlock.is_block _ c.in_ok-first.rest.now _ c.in_ok-first.first.now _ c.loop-self.invariant.walk zero c.in_ok-first.ensures.cases.0 in
+    let next = row_next g.B.BitBlock.width g.B.BitBlock.number g.B.BitBlock.is_block _ c.in_ok-first.rest.now _
+    c.in_ok-first.first.now _ c.loop-self.invariant.walk zero c.in_ok-first.ensures.cases.0 in
     rw c.bits.ensures (record { walk = next.0; left = next.1 ∙ c.loop-self.invariant.left })
 
 pub overflow_add-result : goal.overflow_add-result

@@ -1,5 +1,7 @@
 use Rattle.std.proofs.{Common.{◌∙◌, ap, length, not}}
-use Rattle.bit_set.{proofs.{FusedLemmas.{elements-replaced, length-replaced, members-replaced}, MemberLemmas.counted_within, NotedLemmas.{told_of_lengthened, told_unchanged}}, specs.{Changes.{Changes, Outcome.Returned}, Order.same_sets, Sets.elements}}
+use Rattle.bit_set.proofs.{FusedLemmas.{elements-replaced, length-replaced, members-replaced}, MemberLemmas.counted_within}
+use Rattle.bit_set.proofs.ReportedLemmas.{reported_of_lengthened, reported_unchanged}
+use Rattle.bit_set.specs.{Changes.{Changes, Outcome.Returned}, Order.same_sets, Sets.elements}
 use Rattle.bit_set.proofs.set.BitSet.copy_difference.Goals as goal
 
 pub returns-clause-elements : goal.returns-clause-elements
@@ -22,10 +24,13 @@ pub returns-clause-changed : goal.returns-clause-changed
 returns-clause-changed g c =
     let long = returns-clause-length g c in
     let len = c.len.ensures.value ∙ ap (λ bits. length bits.values) c.other.view_is in
-    told_of_lengthened c.args.self.now.values c.self.inside.bits.values c.become_difference-changed.new.self.values c.len.result c.become_difference-changed.result (ap (λ bits. bits.values) c.self.view_is ∙ c.in_ok-lengthen.ensures.ok) (rw len long) c.become_difference-changed.ensures.kept
+    reported_of_lengthened c.args.self.now.values c.self.inside.bits.values c.become_difference-changed.new.self.values
+    c.len.result c.become_difference-changed.result (ap (λ bits. bits.values) c.self.view_is ∙ c.in_ok-lengthen.ensures.ok)
+    (rw len long) c.become_difference-changed.ensures.kept
 
 pub returns-clause-unchanged : goal.returns-clause-unchanged
-returns-clause-unchanged g c = told_unchanged (elements c.args.self.now.values) (elements c.become_difference-changed.new.self.values) c.become_difference-changed.result (returns-clause-changed g c)
+returns-clause-unchanged g c =
+    reported_unchanged (elements c.args.self.now.values) (elements c.become_difference-changed.new.self.values) c.become_difference-changed.result (returns-clause-changed g c)
 
 pub returns-clause-counted : goal.returns-clause-counted
 returns-clause-counted g c = counted_within c.become_difference-changed.new.self c.len-2.ensures.fits

@@ -1,5 +1,5 @@
 use Rattle.std.proofs.{Common.{rules, ◌≡◌, ◌+◌, ◌-◌, ◌≤◌, length, refl, ap, arith, mul-le-mul_right, Err, ◌∙◌}, lemmas.Result.err_from_is_err_and}
-use Rattle.bit_set.{specs.declared.faults.SetError.TheVariants.Memory, proofs.{CapacityLemmas.{Grows-changed, Grows-failed}, set.BitSet.lengthen_past.Goals.{After-grow, After-from_residual}}}
+use Rattle.bit_set.{specs.declared.faults.SetError.TheVariants.Memory, proofs.{CapacityLemmas.{Grows-changed, Grows-failed}, set.BitSet.lengthen_past.Goals.After-grow}}
 use Rattle.bit_set.proofs.set.BitSet.lengthen_past.Goals as goal
 
 pub overflow_sub-value : goal.overflow_sub-value

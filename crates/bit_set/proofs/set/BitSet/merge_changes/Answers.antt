@@ -1,5 +1,5 @@
 use Rattle.std.proofs.Common.{◌-◌, ◌∙◌, ap, length, not}
-use Rattle.bit_set.proofs.{AlgebraLemmas.{elements-lengthened, length-lengthened}, MemberLemmas.{counted_within, members_merged}, NotedLemmas.{told_of_lengthened, told_unchanged}}
+use Rattle.bit_set.proofs.{AlgebraLemmas.{elements-lengthened, length-lengthened}, MemberLemmas.{counted_within, members_merged}, ReportedLemmas.{reported_of_lengthened, reported_unchanged}}
 use Rattle.bit_set.specs.{Changes.{Changes, Outcome.Returned}, Order.same_sets, Sets.elements}
 use Rattle.bit_set.proofs.set.BitSet.merge_changes.Goals as goal
 
@@ -27,11 +27,11 @@ pub returns-clause-changed : goal.returns-clause-changed
 returns-clause-changed g c =
     let long = returns-clause-length g c in
     let len = c.len.ensures.value ∙ ap (λ bits. length bits.values) c.other.view_is in
-    told_of_lengthened c.args.self.now.values c.self.inside.bits.values c.merge_changes-changed.new.self.values c.len.result c.merge_changes-changed.result
+    reported_of_lengthened c.args.self.now.values c.self.inside.bits.values c.merge_changes-changed.new.self.values c.len.result c.merge_changes-changed.result
     (ap (λ bits. bits.values) c.self.view_is ∙ c.in_ok-lengthen.ensures.ok) (rw len long) c.merge_changes-changed.ensures.kept
 
 pub returns-clause-unchanged : goal.returns-clause-unchanged
-returns-clause-unchanged g c = told_unchanged (elements c.args.self.now.values) (elements c.merge_changes-changed.new.self.values) c.merge_changes-changed.result (returns-clause-changed g c)
+returns-clause-unchanged g c = reported_unchanged (elements c.args.self.now.values) (elements c.merge_changes-changed.new.self.values) c.merge_changes-changed.result (returns-clause-changed g c)
 
 pub returns-clause-counted : goal.returns-clause-counted
 returns-clause-counted g c = counted_within c.merge_changes-changed.new.self c.len-2.ensures.fits

@@ -1,16 +1,16 @@
-use Rattle.bit_set.{proofs.{NotedLemmas.{told_as, told_more, union_kept, union_count}, SetLemmas.IsAscending-elements}, specs.Sets.{elements, is_subset, union}}
+use Rattle.bit_set.{proofs.{ReportedLemmas.{reported_as, reported_more, union_kept, union_count}, SetLemmas.IsAscending-elements}, specs.Sets.{elements, is_subset, union}}
 use Rattle.bit_set.proofs.set.BitSet.union_changes.Goals as goal
 
 pub returns-clause-were_in : goal.returns-clause-were_in
 returns-clause-were_in g c =
     let s = elements c.args.self.now.values in
     let t = elements c.args.other.now.values in
-    told_as s (union s t) _ (is_subset t s) c.merge_changes.result c.merge_changes.ensures.elements c.merge_changes.ensures.changed
+    reported_as s (union s t) _ (is_subset t s) c.merge_changes.result c.merge_changes.ensures.elements c.merge_changes.ensures.changed
     (union_kept s t (IsAscending-elements c.args.self.now.values))
 
 pub returns-clause-count : goal.returns-clause-count
 returns-clause-count g c =
     let s = elements c.args.self.now.values in
     let t = elements c.args.other.now.values in
-    told_more s (union s t) _ (is_subset t s) c.merge_changes.result c.merge_changes.ensures.elements c.merge_changes.ensures.changed
+    reported_more s (union s t) _ (is_subset t s) c.merge_changes.result c.merge_changes.ensures.elements c.merge_changes.ensures.changed
     (union_kept s t (IsAscending-elements c.args.self.now.values)) (union_count s t (IsAscending-elements c.args.self.now.values))

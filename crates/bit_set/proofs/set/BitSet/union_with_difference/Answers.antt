@@ -1,7 +1,9 @@
 use Rattle.std.proofs.{Common.{◌∙◌, ◌-◌, ap, length, not, take}}
 use Rattle.bit_blocks.specs.{declared.block.merge.Merge.TheVariants.{Difference, Union}, Merges.merge_of}
 use Rattle.bit_set.proofs.{AlgebraLemmas.elements-lengthened, MemberLemmas.counted_within}
-use Rattle.bit_set.proofs.{NotedLemmas.{elements-except, length-lengthened-except, members-except, told_of_lengthened, told_unchanged, union_count, union_kept}, SetLemmas.IsAscending-elements}
+use Rattle.bit_set.proofs.ReportedLemmas.{elements-except, length-lengthened-except, members-except, reported_of_lengthened}
+use Rattle.bit_set.proofs.ReportedLemmas.{reported_unchanged, union_count, union_kept}
+use Rattle.bit_set.proofs.SetLemmas.{IsAscending-elements}
 use Rattle.bit_set.specs.{Changes.{Changes, Outcome.Returned}, Order.same_sets, Sets.{difference, elements, union}}
 use Rattle.bit_set.proofs.set.BitSet.union_with_difference.Goals as goal
 
@@ -28,7 +30,7 @@ pub returns-clause-changed : goal.returns-clause-changed
 returns-clause-changed g c =
     let long = returns-clause-length g c in
     let len = c.len.ensures.value ∙ ap (λ bits. length bits.values) c.other.view_is in
-    told_of_lengthened c.args.self.now.values c.self.inside.bits.values c.unite_difference-changed.new.self.values c.len.result c.unite_difference-changed.result
+    reported_of_lengthened c.args.self.now.values c.self.inside.bits.values c.unite_difference-changed.new.self.values c.len.result c.unite_difference-changed.result
     (ap (λ bits. bits.values) c.self.view_is ∙ c.in_ok-lengthen.ensures.ok) (rw len long) c.unite_difference-changed.ensures.kept
 
 pub returns-clause-count : goal.returns-clause-count
@@ -39,7 +41,7 @@ returns-clause-count g c =
     rw (tells, returns-clause-elements g c) (union_count s t (IsAscending-elements c.args.self.now.values))
 
 pub returns-clause-unchanged : goal.returns-clause-unchanged
-returns-clause-unchanged g c = told_unchanged (elements c.args.self.now.values) (elements c.unite_difference-changed.new.self.values) c.unite_difference-changed.result (returns-clause-changed g c)
+returns-clause-unchanged g c = reported_unchanged (elements c.args.self.now.values) (elements c.unite_difference-changed.new.self.values) c.unite_difference-changed.result (returns-clause-changed g c)
 
 pub returns-clause-counted : goal.returns-clause-counted
 returns-clause-counted g c = counted_within c.unite_difference-changed.new.self c.len-2.ensures.fits

@@ -1,6 +1,10 @@
 use Rattle.std.proofs.{Common.{◌∙◌, ◌-◌, ap, length, not, take}}
 use Rattle.bit_blocks.specs.{declared.block.merge.Merge.TheVariants.{Intersection, Union}, Merges.merge_of}
-use Rattle.bit_set.{proofs.{AlgebraLemmas.elements-lengthened, MemberLemmas.counted_within, FusedLemmas.{elements-common, length-lengthened-common, members-common}, NotedLemmas.{told_of_lengthened, told_unchanged, union_count, union_kept}, SetLemmas.IsAscending-elements}, specs.{Changes.{Changes, Outcome.Returned}, Order.same_sets, Sets.{elements, intersection, union}}}
+use Rattle.bit_set.proofs.{AlgebraLemmas.elements-lengthened, MemberLemmas.counted_within}
+use Rattle.bit_set.proofs.FusedLemmas.{elements-common, length-lengthened-common, members-common}
+use Rattle.bit_set.proofs.ReportedLemmas.{reported_of_lengthened, reported_unchanged, union_count, union_kept}
+use Rattle.bit_set.proofs.SetLemmas.{IsAscending-elements}
+use Rattle.bit_set.specs.{Changes.{Changes, Outcome.Returned}, Order.same_sets, Sets.{elements, intersection, union}}
 use Rattle.bit_set.proofs.set.BitSet.union_with_intersection.Goals as goal
 
 pub returns-clause-elements : goal.returns-clause-elements
@@ -26,7 +30,9 @@ pub returns-clause-changed : goal.returns-clause-changed
 returns-clause-changed g c =
     let long = returns-clause-length g c in
     let len = c.len.ensures.value ∙ ap (λ bits. length bits.values) c.other.view_is in
-    told_of_lengthened c.args.self.now.values c.self.inside.bits.values c.unite_intersection-changed.new.self.values c.len.result c.unite_intersection-changed.result (ap (λ bits. bits.values) c.self.view_is ∙ c.in_ok-lengthen.ensures.ok) (rw len long) c.unite_intersection-changed.ensures.kept
+    reported_of_lengthened c.args.self.now.values c.self.inside.bits.values c.unite_intersection-changed.new.self.values
+    c.len.result c.unite_intersection-changed.result (ap (λ bits. bits.values) c.self.view_is ∙ c.in_ok-lengthen.ensures.ok)
+    (rw len long) c.unite_intersection-changed.ensures.kept
 
 pub returns-clause-were_in : goal.returns-clause-were_in
 returns-clause-were_in g c =
@@ -41,7 +47,8 @@ returns-clause-count g c =
     rw (returns-clause-were_in g c, returns-clause-elements g c) (union_count s t (IsAscending-elements c.args.self.now.values))
 
 pub returns-clause-unchanged : goal.returns-clause-unchanged
-returns-clause-unchanged g c = told_unchanged (elements c.args.self.now.values) (elements c.unite_intersection-changed.new.self.values) c.unite_intersection-changed.result (returns-clause-changed g c)
+returns-clause-unchanged g c =
+    reported_unchanged (elements c.args.self.now.values) (elements c.unite_intersection-changed.new.self.values) c.unite_intersection-changed.result (returns-clause-changed g c)
 
 pub returns-clause-counted : goal.returns-clause-counted
 returns-clause-counted g c = counted_within c.unite_intersection-changed.new.self c.len-2.ensures.fits

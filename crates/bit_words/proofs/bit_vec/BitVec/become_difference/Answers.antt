@@ -17,16 +17,22 @@ fewer g c =
 
 -- what the blocks became
 merged : (g : Over) (c : After-become_difference g)
-    → HaveBecome g.B.BitBlock.width g.B.BitBlock.number g.B.BitBlock.is_block 0 (length c.self.inside.blocks.items) (except_at (map g.B.BitBlock.number c.other.inside.blocks.items) (map g.B.BitBlock.number c.except.inside.blocks.items)) c.self.inside.blocks.items c.become_difference.new.blocks
+    → HaveBecome g.B.BitBlock.width g.B.BitBlock.number g.B.BitBlock.is_block 0 (length c.self.inside.blocks.items)
+    (except_at (map g.B.BitBlock.number c.other.inside.blocks.items)
+    (map g.B.BitBlock.number c.except.inside.blocks.items)) c.self.inside.blocks.items c.become_difference.new.blocks
 merged g c = rw (c.as_mut_slice.ensures.value, c.deref.ensures.value, c.deref-2.ensures.value) at c.become_difference.ensures.has
 
 packed : (g : Over) (c : After-become_difference g) → IsPacked g.B.BitBlock.width g.B.BitBlock.number g.B.BitBlock.is_block c.become_difference.new.blocks c.self.inside.len
 packed g c =
-    packed_difference _ _ _ _ c.other.inside.blocks.items _ (map g.B.BitBlock.number c.except.inside.blocks.items) _ c.other.inside.len g.met.B.BitBlock.width_law.positive (fewer g c) (no_longer_from_views _ _ _ _ _ _ _ _ _ c.self.view_is c.other.view_is c.requires) c.self.invariant.packed c.other.invariant.packed.tail (merged g c)
+    packed_difference _ _ _ _ c.other.inside.blocks.items _
+    (map g.B.BitBlock.number c.except.inside.blocks.items) _ c.other.inside.len g.met.B.BitBlock.width_law.positive
+    (fewer g c) (no_longer_from_views _ _ _ _ _ _ _ _ _ c.self.view_is c.other.view_is c.requires) c.self.invariant.packed
+    c.other.invariant.packed.tail (merged g c)
 
 pub become_difference-requires-clause-can : goal.become_difference-requires-clause-can
 become_difference-requires-clause-can g c =
-    let le = blocks_for-le g.B.BitBlock.width c.other.inside.len c.self.inside.len g.met.B.BitBlock.width_law.positive (no_longer_from_views _ _ _ _ _ _ _ _ _ c.self.view_is c.other.view_is c.requires) in
+    let le = blocks_for-le g.B.BitBlock.width c.other.inside.len c.self.inside.len g.met.B.BitBlock.width_law.positive
+    (no_longer_from_views _ _ _ _ _ _ _ _ _ c.self.view_is c.other.view_is c.requires) in
     rw (c.as_mut_slice.ensures.value, c.deref.ensures.value) (record {
       fewer = omega (arith, le, c.self.invariant.packed.count, c.other.invariant.packed.count);
       each = c.self.invariant.packed.each;
@@ -56,7 +62,8 @@ returns-clause-values g c =
     let pos = g.met.B.BitBlock.width_law.positive in
     let len : c.self.inside.len ≡ length c.args.self.now.values = omega (arith, length_from_view _ _ _ _ _ c.self.view_is) in
     rw back
-    (list_of_difference _ _ _ _ _ _ c.except.inside.len shorter c.other.invariant.packed.tail c.except.invariant.packed.tail (values_of_difference _ _ _ old.items c.other.inside.blocks.items ys _ pos (fewer g here) (merged g here))
+    (list_of_difference _ _ _ _ _ _ c.except.inside.len shorter c.other.invariant.packed.tail c.except.invariant.packed.tail
+    (values_of_difference _ _ _ old.items c.other.inside.blocks.items ys _ pos (fewer g here) (merged g here))
     ∙ ap₂ (λ n u. merge_of Union (replicate n false) u) len
     (ap₂ (λ v u. merge_of Difference v.values (take (length v.values) u.values)) c.other.view_is c.except.view_is))
 
@@ -70,7 +77,9 @@ returns-clause-kept g c =
     let back : take old.len (ys ++ drop (length ys) old.items) ≡ ys = take_at ys _ old.len (omega arith) in
     let new = packed g here in
     let kept = rw c.as_mut_slice.ensures.value at c.become_difference.ensures.kept in
-    let lists = kept_lists w (map f old.items) (map f ys) c.self.inside.len (numbers_below w f _ old.items (λ x is. (g.met.B.BitBlock.number_law x is).0) c.self.invariant.packed.each) (numbers_below w f _ ys (λ x is. (g.met.B.BitBlock.number_law x is).0) new.each) c.self.invariant.packed.tail new.tail in
+    let lists = kept_lists w (map f old.items) (map f ys) c.self.inside.len
+    (numbers_below w f _ old.items (λ x is. (g.met.B.BitBlock.number_law x is).0) c.self.invariant.packed.each)
+    (numbers_below w f _ ys (λ x is. (g.met.B.BitBlock.number_law x is).0) new.each) c.self.invariant.packed.tail new.tail in
     let view = ap (λ v. v.values) c.self.view_is in
     rw back (λ no. lists.0 (kept.0 no) ∙ view, λ same. kept.1 (lists.1 (same ∙ sym view)))
 

@@ -7,7 +7,9 @@ use Rattle.bit_words.proofs.bit_vec.BitVec.count_merged.Goals as goal
 
 -- the ones of so many blocks, where both lists have no more
 trues : (g : Over) (c : After-other g) (n : ℕ) → length c.self.inside.blocks.items ≤ n → length c.other.inside.blocks.items ≤ n
-    → merged_ones c.args.merge g.B.BitBlock.width (map g.B.BitBlock.number c.self.inside.blocks.items) (map g.B.BitBlock.number c.other.inside.blocks.items) 0 n ≡ count_by (λ value. value) (merge_of c.args.merge c.args.self.now.values c.args.other.now.values)
+    → merged_ones c.args.merge g.B.BitBlock.width (map g.B.BitBlock.number c.self.inside.blocks.items)
+    (map g.B.BitBlock.number c.other.inside.blocks.items) 0 n ≡ count_by (λ value. value)
+    (merge_of c.args.merge c.args.self.now.values c.args.other.now.values)
 trues g c n long also =
     let w = g.B.BitBlock.width in
     let pos = g.met.B.BitBlock.width_law.positive in
@@ -19,7 +21,9 @@ trues g c n long also =
 pub ones_of_merge-requires-clause-fits : goal.ones_of_merge-requires-clause-fits
 ones_of_merge-requires-clause-fits g c = λ n.
     rw (c.deref.ensures.value, c.deref-3.ensures.value)
-    (merged_fits c.args.merge g.B.BitBlock.width _ _ _ _ n _ _ _ _ g.met.B.BitBlock.width_law.positive c.self.view_is c.other.view_is c.self.invariant.packed.tail c.other.invariant.packed.tail c.self.invariant.packed.fits c.other.invariant.packed.fits)
+    (merged_fits c.args.merge g.B.BitBlock.width _ _ _ _ n _ _ _ _ g.met.B.BitBlock.width_law.positive c.self.view_is
+    c.other.view_is c.self.invariant.packed.tail c.other.invariant.packed.tail c.self.invariant.packed.fits
+    c.other.invariant.packed.fits)
 
 pub returns : goal.returns
 returns g c =

@@ -16,12 +16,13 @@ returns g c = rw (← c.self.view_is) (rw c.deref.ensures.value at c.ones_by_sum
 
 pub ones_by_summary-requires : goal.ones_by_summary-requires
 ones_by_summary-requires g c =
-    let values = values_of g.B.BitBlock.width (map g.B.BitBlock.number c.self.inside.blocks.items) c.self.inside.len in
+    let w = g.B.BitBlock.width in
+    let values = values_of w (map g.B.BitBlock.number c.self.inside.blocks.items) c.self.inside.len in
     let counted = ones g (goal.at.ones_by_summary-requires g c).After-self in
     rw (c.deref.ensures.value, c.deref-2.ensures.value) (record {
       each = c.self.invariant.packed.each;
       summary = stored_each _ _ _ _ _ c.self.invariant.summary;
       enough = stored_enough _ _ _ _ _ g.met.B.BitBlock.width_law.positive c.self.invariant.summary;
       digit = λ long k _. (c.self.invariant.summary.long long).digit k;
-      fits = omega (arith, counted, count_by-le-length (λ value. value) values, length-values_of g.B.BitBlock.width (map g.B.BitBlock.number c.self.inside.blocks.items) c.self.inside.len, c.self.invariant.packed.fits);
+      fits = omega (arith, counted, count_by-le-length (λ value. value) values, length-values_of w (map g.B.BitBlock.number c.self.inside.blocks.items) c.self.inside.len, c.self.invariant.packed.fits);
     })

@@ -64,7 +64,10 @@ invariant_of-self g c =
       summary = rw c.deref-3.ensures.value at c.cut_summary.ensures.summary;
       start = λ many.
           false_before_less _ _ _ _
-          (λ i none. value_at-cut w c.used_by_summary-count.result (map g.B.BitBlock.number c.self.inside.blocks.items) _ c.truncate_blocks.ensures.numbers (rw c.deref.ensures.value at c.used_by_summary-count.ensures.zeros) i ∙ none) (c.self.invariant.start (omega (arith, many, c.truncate_blocks.ensures.len, c.used_by_summary-count.ensures)));
+          (λ i none. value_at-cut w c.used_by_summary-count.result
+          (map g.B.BitBlock.number c.self.inside.blocks.items) _ c.truncate_blocks.ensures.numbers
+          (rw c.deref.ensures.value at c.used_by_summary-count.ensures.zeros) i
+          ∙ none) (c.self.invariant.start (omega (arith, many, c.truncate_blocks.ensures.len, c.used_by_summary-count.ensures)));
     }
 
 pub returns : goal.returns

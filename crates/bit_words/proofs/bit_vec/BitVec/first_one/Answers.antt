@@ -19,19 +19,24 @@ returns-then-is_short g c =
 
 pub returns-in_err-chunk : goal.returns-in_err-chunk
 returns-in_err-chunk g c =
+    let w = g.B.BitBlock.width in
     let long = many g (goal.at.returns-in_err-chunk g c).Else-is_short in
     let ms = map g.B.BitBlock.number c.self.inside.blocks.items in
-    let none = no_chunk g.B.BitBlock.width g.B.BitBlock.number g.B.BitBlock.is_block c.self.inside.blocks.items c.self.inside.summary.items g.met.B.BitBlock.width_law.positive
+    let none = no_chunk w g.B.BitBlock.number g.B.BitBlock.is_block c.self.inside.blocks.items c.self.inside.summary.items g.met.B.BitBlock.width_law.positive
     (c.self.invariant.summary.long long) c.self.inside.search_start (λ x is. (g.met.B.BitBlock.number_law x is).0) c.self.invariant.packed.each (c.self.invariant.start long)
     (rw c.deref-2.ensures.value at c.in_err-chunk.ensures) in
     rw c.from_residual.ensures
-    (finds_from_same (value_at g.B.BitBlock.width ms) (λ i. get_or c.args.self.now.values i false) 0 None (λ i. sym (value_in_view _ _ _ ms _ c.self.view_is c.self.invariant.packed.tail i)) (λ i _. none i))
+    (finds_from_same (value_at w ms) (λ i. get_or c.args.self.now.values i false) 0 None (λ i. sym (value_in_view _ _ _ ms _ c.self.view_is c.self.invariant.packed.tail i)) (λ i _. none i))
 
 pub first_of_chunk-requires-clause-first : goal.first_of_chunk-requires-clause-first
 first_of_chunk-requires-clause-first g c =
     let long = many g (goal.at.first_of_chunk-requires-clause-first g c).Else-is_short in
     rw c.deref-4.ensures.value
-    (first_chunk g.B.BitBlock.width g.B.BitBlock.number g.B.BitBlock.is_block c.self.inside.blocks.items c.self.inside.summary.items g.met.B.BitBlock.width_law.positive (c.self.invariant.summary.long long) c.self.inside.search_start _ (λ x is. (g.met.B.BitBlock.number_law x is).0) c.self.invariant.packed.each (c.self.invariant.start long) (rw c.deref-2.ensures.value at c.in_ok-chunk.ensures))
+    (first_chunk g.B.BitBlock.width g.B.BitBlock.number g.B.BitBlock.is_block c.self.inside.blocks.items
+    c.self.inside.summary.items g.met.B.BitBlock.width_law.positive
+    (c.self.invariant.summary.long long) c.self.inside.search_start _
+    (λ x is. (g.met.B.BitBlock.number_law x is).0) c.self.invariant.packed.each (c.self.invariant.start long)
+    (rw c.deref-2.ensures.value at c.in_ok-chunk.ensures))
 
 pub returns : goal.returns
 returns g c =

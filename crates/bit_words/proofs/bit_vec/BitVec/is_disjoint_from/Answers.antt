@@ -27,5 +27,7 @@ intersection_by_summaries-requires g c =
       others = c.other.invariant.packed.each;
       summary = c.self.invariant.summary;
       other_summary = c.other.invariant.summary;
-      fits = λ n. merged_fits Intersection g.B.BitBlock.width _ _ _ _ n _ _ _ _ g.met.B.BitBlock.width_law.positive c.self.view_is c.other.view_is c.self.invariant.packed.tail c.other.invariant.packed.tail c.self.invariant.packed.fits c.other.invariant.packed.fits;
+      fits = λ n. merged_fits Intersection g.B.BitBlock.width _ _ _ _ n _ _ _ _ g.met.B.BitBlock.width_law.positive
+          c.self.view_is c.other.view_is c.self.invariant.packed.tail c.other.invariant.packed.tail
+          c.self.invariant.packed.fits c.other.invariant.packed.fits;
     })

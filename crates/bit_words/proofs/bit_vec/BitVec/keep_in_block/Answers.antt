@@ -87,7 +87,9 @@ invariant_of-self-2 g c =
       packed = kept_packed _ _ _ _ _ _ c.self.inside.blocks c.put_block.new.blocks g.met.B.BitBlock.width_law.positive c.self.invariant.packed
           (kept g at.After-put_block (inside g at.After-self)) c.put_block.ensures.in_place;
       summary = keeps_all _ _ _ _ _ (omega (arith, long, c.put_block.ensures.in_place.len)) (
-          kept_summary g.B.BitBlock.width c.args.k _ g.B.BitBlock.number g.B.BitBlock.is_block c.self.inside.blocks c.put_block.new.blocks c.self.inside.summary c.update_summary_at.new.summary (omega (arith, here, c.put_block.ensures.in_place.len)) c.put_block.ensures.numbers
+          kept_summary g.B.BitBlock.width c.args.k _ g.B.BitBlock.number g.B.BitBlock.is_block c.self.inside.blocks
+          c.put_block.new.blocks c.self.inside.summary c.update_summary_at.new.summary
+          (omega (arith, here, c.put_block.ensures.in_place.len)) c.put_block.ensures.numbers
           c.put_block.ensures.in_place (c.self.invariant.summary.long long) (rw c.deref-2.ensures.value at c.update_summary_at.ensures.value) c.update_summary_at.ensures.in_place);
       start = λ _. false_before_less _ _ _ _ (kept_less _ _ _ _ _ g.met.B.BitBlock.width_law.positive (kept g at.After-put_block (inside g at.After-self))) (c.self.invariant.start long);
     }

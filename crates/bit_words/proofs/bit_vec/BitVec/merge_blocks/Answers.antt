@@ -9,7 +9,8 @@ use Rattle.bit_words.proofs.bit_vec.BitVec.merge_blocks.Goals as goal
 
 pub merge_named-requires-clause-can : goal.merge_named-requires-clause-can
 merge_named-requires-clause-can g c =
-    let le = blocks_for-le g.B.BitBlock.width c.other.inside.len c.self.inside.len g.met.B.BitBlock.width_law.positive (no_longer_from_views _ _ _ _ _ _ _ _ _ c.self.view_is c.other.view_is c.requires) in
+    let le = blocks_for-le g.B.BitBlock.width c.other.inside.len c.self.inside.len g.met.B.BitBlock.width_law.positive
+    (no_longer_from_views _ _ _ _ _ _ _ _ _ c.self.view_is c.other.view_is c.requires) in
     rw (c.as_mut_slice.ensures.value, c.deref.ensures.value) (record {
       fewer = omega (arith, le, c.self.invariant.packed.count, c.other.invariant.packed.count);
       each = c.self.invariant.packed.each;
@@ -24,11 +25,15 @@ merge_named-requires-clause-other_summary g c = rw (c.deref.ensures.value, c.der
 
 -- what each value became
 each : (g : Over) (c : After-merge_named g) → (i : ℕ)
-    → value_at g.B.BitBlock.width (map g.B.BitBlock.number c.merge_named.new.blocks) i ≡ merge_of_values c.args.merge (value_at g.B.BitBlock.width (map g.B.BitBlock.number c.self.inside.blocks.items) i) (value_at g.B.BitBlock.width (map g.B.BitBlock.number c.other.inside.blocks.items) i)
+    → value_at g.B.BitBlock.width (map g.B.BitBlock.number c.merge_named.new.blocks) i ≡ merge_of_values c.args.merge
+    (value_at g.B.BitBlock.width (map g.B.BitBlock.number c.self.inside.blocks.items) i)
+    (value_at g.B.BitBlock.width (map g.B.BitBlock.number c.other.inside.blocks.items) i)
 each g c =
     let pos = g.met.B.BitBlock.width_law.positive in
     let le = blocks_for-le g.B.BitBlock.width c.other.inside.len c.self.inside.len pos (no_longer_from_views _ _ _ _ _ _ _ _ _ c.self.view_is c.other.view_is c.requires) in
-    merges_of_values _ _ _ _ c.self.inside.blocks.items c.other.inside.blocks.items _ pos (omega (arith, le, c.self.invariant.packed.count, c.other.invariant.packed.count)) (rw (c.as_mut_slice.ensures.value, c.deref.ensures.value) at c.merge_named.ensures.has)
+    merges_of_values _ _ _ _ c.self.inside.blocks.items c.other.inside.blocks.items _ pos
+    (omega (arith, le, c.self.invariant.packed.count, c.other.invariant.packed.count))
+    (rw (c.as_mut_slice.ensures.value, c.deref.ensures.value) at c.merge_named.ensures.has)
 
 pub invariant_of-self : goal.invariant_of-self
 invariant_of-self g c =

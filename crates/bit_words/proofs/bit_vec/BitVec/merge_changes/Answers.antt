@@ -1,7 +1,7 @@
 use Rattle.std.proofs.{Common.{◌≡◌, ℕ, ◌∙◌, sym, ap, ap₂, ◌++◌, map, drop, length, take, arith}, lemmas.List.take_at}
 use Rattle.bit_blocks.specs.{Merges.{merge_of, merge_of_values}, Storage.{value_at, IsPacked}}
 use Rattle.bit_blocks.proofs.{BitsLemmas.blocks_for-le, MergeLemmas.{merged_lists, merged_zero_tail}}
-use Rattle.bit_blocks.proofs.{BlockMergeLemmas.{kept_lists, merges_of_values}, VectorLemmas.length_from_view}
+use Rattle.bit_blocks.proofs.BlockMergeLemmas.{kept_lists, merges_of_values}
 use Rattle.bit_blocks.proofs.VectorLemmas.{no_longer_from_views, numbers_below}
 use Rattle.bit_words.proofs.bit_vec.BitVec.merge_changes.{Given.Over, Goals.After-change_named}
 use Rattle.bit_words.proofs.StartLemmas.{false_before_none}
@@ -9,7 +9,8 @@ use Rattle.bit_words.proofs.bit_vec.BitVec.merge_changes.Goals as goal
 
 pub change_named-requires-clause-can : goal.change_named-requires-clause-can
 change_named-requires-clause-can g c =
-    let le = blocks_for-le g.B.BitBlock.width c.other.inside.len c.self.inside.len g.met.B.BitBlock.width_law.positive (no_longer_from_views _ _ _ _ _ _ _ _ _ c.self.view_is c.other.view_is c.requires) in
+    let le = blocks_for-le g.B.BitBlock.width c.other.inside.len c.self.inside.len g.met.B.BitBlock.width_law.positive
+    (no_longer_from_views _ _ _ _ _ _ _ _ _ c.self.view_is c.other.view_is c.requires) in
     rw (c.as_mut_slice.ensures.value, c.deref.ensures.value) (record {
       fewer = omega (arith, le, c.self.invariant.packed.count, c.other.invariant.packed.count);
       each = c.self.invariant.packed.each;
@@ -24,11 +25,15 @@ change_named-requires-clause-other_summary g c = rw (c.deref.ensures.value, c.de
 
 -- what each value became
 each : (g : Over) (c : After-change_named g) → (i : ℕ)
-    → value_at g.B.BitBlock.width (map g.B.BitBlock.number c.change_named.new.blocks) i ≡ merge_of_values c.args.merge (value_at g.B.BitBlock.width (map g.B.BitBlock.number c.self.inside.blocks.items) i) (value_at g.B.BitBlock.width (map g.B.BitBlock.number c.other.inside.blocks.items) i)
+    → value_at g.B.BitBlock.width (map g.B.BitBlock.number c.change_named.new.blocks) i ≡ merge_of_values c.args.merge
+    (value_at g.B.BitBlock.width (map g.B.BitBlock.number c.self.inside.blocks.items) i)
+    (value_at g.B.BitBlock.width (map g.B.BitBlock.number c.other.inside.blocks.items) i)
 each g c =
     let pos = g.met.B.BitBlock.width_law.positive in
     let le = blocks_for-le g.B.BitBlock.width c.other.inside.len c.self.inside.len pos (no_longer_from_views _ _ _ _ _ _ _ _ _ c.self.view_is c.other.view_is c.requires) in
-    merges_of_values _ _ _ _ c.self.inside.blocks.items c.other.inside.blocks.items _ pos (omega (arith, le, c.self.invariant.packed.count, c.other.invariant.packed.count)) (rw (c.as_mut_slice.ensures.value, c.deref.ensures.value) at c.change_named.ensures.has)
+    merges_of_values _ _ _ _ c.self.inside.blocks.items c.other.inside.blocks.items _ pos
+    (omega (arith, le, c.self.invariant.packed.count, c.other.invariant.packed.count))
+    (rw (c.as_mut_slice.ensures.value, c.deref.ensures.value) at c.change_named.ensures.has)
 
 -- the blocks that they became
 packed : (g : Over) (c : After-change_named g) → IsPacked g.B.BitBlock.width g.B.BitBlock.number g.B.BitBlock.is_block c.change_named.new.blocks c.self.inside.len
@@ -70,7 +75,9 @@ returns-clause-kept g c =
     let back : take old.len (ys ++ drop (length ys) old.items) ≡ ys = take_at ys _ old.len (omega arith) in
     let new = packed g (goal.at.returns-clause-kept g c).After-change_named in
     let kept = rw c.as_mut_slice.ensures.value at c.change_named.ensures.kept in
-    let lists = kept_lists w (map f old.items) (map f ys) c.self.inside.len (numbers_below w f _ old.items (λ x is. (g.met.B.BitBlock.number_law x is).0) c.self.invariant.packed.each) (numbers_below w f _ ys (λ x is. (g.met.B.BitBlock.number_law x is).0) new.each) c.self.invariant.packed.tail new.tail in
+    let lists = kept_lists w (map f old.items) (map f ys) c.self.inside.len
+    (numbers_below w f _ old.items (λ x is. (g.met.B.BitBlock.number_law x is).0) c.self.invariant.packed.each)
+    (numbers_below w f _ ys (λ x is. (g.met.B.BitBlock.number_law x is).0) new.each) c.self.invariant.packed.tail new.tail in
     let view = ap (λ v. v.values) c.self.view_is in
     rw back (λ no. lists.0 (kept.0 no) ∙ view, λ same. kept.1 (lists.1 (same ∙ sym view)))
 

@@ -106,7 +106,9 @@ invariant_of-self-2 g c =
       packed = replaced_packed w c.self.inside.len c.args.i g.B.BitBlock.number g.B.BitBlock.is_block c.self.inside.blocks c.exchange_bit-was.new.blocks _
           (in_list g at.After-self) c.self.invariant.packed was.value was.in_place;
       summary = keeps_all _ _ _ _ _ (omega arith) (
-          changed_summary w c.args.i c.block_index-k.result _ _ g.B.BitBlock.number g.B.BitBlock.is_block c.self.inside.blocks c.exchange_bit-was.new.blocks c.self.inside.summary c.update_summary_bit.new.summary g.met.B.BitBlock.width_law.positive (λ x is. (g.met.B.BitBlock.number_law x is).0)
+          changed_summary w c.args.i c.block_index-k.result _ _ g.B.BitBlock.number g.B.BitBlock.is_block
+          c.self.inside.blocks c.exchange_bit-was.new.blocks c.self.inside.summary c.update_summary_bit.new.summary
+          g.met.B.BitBlock.width_law.positive (λ x is. (g.met.B.BitBlock.number_law x is).0)
           c.self.invariant.packed.each c.block_index-k.ensures (omega (arith, inside)) was.value was.in_place (c.self.invariant.summary.long long)
           (ap (λ m. not (m == 0)) number) c.update_summary_bit.ensures.value c.update_summary_bit.ensures.in_place);
       start = λ _.

@@ -13,7 +13,8 @@ own_capacity g c =
     c.saturating_mul.ensures ∙ ap (λ n. min (n * c.bits.result) (2 ^ 64 - 1)) len ∙ ap (λ n. min (count * n) (2 ^ 64 - 1)) c.bits.ensures
 
 lowered : (g : Over) (c : After-shrink_shared_capacity g)
-    → capacity_of g.B.BitBlock.width (shared_capacity g.B.BitBlock.width (vec_capacity c.shrink_shared_capacity.new.blocks) (vec_capacity c.shrink_shared_capacity.new.summary)) ≤ c.args.self.now.capacity
+    → capacity_of g.B.BitBlock.width (shared_capacity g.B.BitBlock.width (vec_capacity c.shrink_shared_capacity.new.blocks)
+    (vec_capacity c.shrink_shared_capacity.new.summary)) ≤ c.args.self.now.capacity
 lowered g c = rw (capacity_from_view _ _ _ c.self.view_is)
     (capacity_le g.B.BitBlock.width _ _ (shared_le g.B.BitBlock.width _ _ _ _ c.shrink_shared_capacity.ensures.capacity c.shrink_shared_capacity.ensures.summary_capacity))
 

@@ -3,7 +3,7 @@ use Rattle.bit_blocks.{specs.Storage.value_at, proofs.{BitsLemmas.blocks_for-abo
 use Rattle.bit_words.specs.Summary.{short_count}
 use Rattle.bit_blocks.proofs.StorageLemmas.{values_of-set}
 use Rattle.bit_words.proofs.{SameCapacity.same_capacity, StartLemmas.{false_before_chunk, false_before_written, first_chunk, no_chunk, true_within}, SummaryLemmas.{keeps_all, keeps_none}}
-use Rattle.bit_words.proofs.bit_vec.BitVec.take_first_one.{Given.Over, Goals.{After-self, Else-is_short}}
+use Rattle.bit_words.proofs.bit_vec.BitVec.take_first_one.{Given.Over, Goals.Else-is_short}
 use Rattle.bit_words.proofs.bit_vec.BitVec.take_first_one.Goals as goal
 
 -- where the list is not short a summary is stored
@@ -14,7 +14,9 @@ pub returns-in_err-i-clause-first : goal.returns-in_err-i-clause-first
 returns-in_err-i-clause-first g c =
     let ms = map g.B.BitBlock.number c.self.inside.blocks.items in
     rw c.from_residual.ensures
-    (finds_from_same (value_at g.B.BitBlock.width ms) (λ i. get_or c.args.self.now.values i false) 0 None (λ i. sym (value_in_view _ _ _ ms _ c.self.view_is c.self.invariant.packed.tail i)) (rw c.deref.ensures.value at c.in_err-i.ensures))
+    (finds_from_same (value_at g.B.BitBlock.width ms) (λ i. get_or c.args.self.now.values i false) 0 None
+    (λ i. sym (value_in_view _ _ _ ms _ c.self.view_is c.self.invariant.packed.tail i))
+    (rw c.deref.ensures.value at c.in_err-i.ensures))
 
 pub returns-in_err-i-clause-values : goal.returns-in_err-i-clause-values
 returns-in_err-i-clause-values g c = rw c.from_residual.ensures refl

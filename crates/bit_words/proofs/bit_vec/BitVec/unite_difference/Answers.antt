@@ -3,7 +3,6 @@ use Rattle.bit_blocks.specs.{declared.block.merge.Merge.TheVariants.{Difference,
 use Rattle.bit_blocks.specs.{BlockMerges.{except_at, HasMerged}, Storage.IsPacked}
 use Rattle.bit_blocks.proofs.BitsLemmas.{blocks_for-le}
 use Rattle.bit_blocks.proofs.BlockMergeLemmas.{kept_lists, lists_merged_except, packed_merged, values_merged_except}
-use Rattle.bit_blocks.proofs.VectorLemmas.{length_from_view}
 use Rattle.bit_blocks.proofs.VectorLemmas.{no_longer_from_views, numbers_below}
 use Rattle.bit_words.proofs.bit_vec.BitVec.unite_difference.{Given.Over, Goals.After-unite_difference}
 use Rattle.bit_words.proofs.StartLemmas.{false_before_none}
@@ -18,16 +17,22 @@ fewer g c =
 
 -- what the blocks became
 merged : (g : Over) (c : After-unite_difference g)
-    → HasMerged Union g.B.BitBlock.width g.B.BitBlock.number g.B.BitBlock.is_block 0 (length c.self.inside.blocks.items) (except_at (map g.B.BitBlock.number c.other.inside.blocks.items) (map g.B.BitBlock.number c.except.inside.blocks.items)) c.self.inside.blocks.items c.unite_difference.new.blocks
+    → HasMerged Union g.B.BitBlock.width g.B.BitBlock.number g.B.BitBlock.is_block 0 (length c.self.inside.blocks.items)
+    (except_at (map g.B.BitBlock.number c.other.inside.blocks.items)
+    (map g.B.BitBlock.number c.except.inside.blocks.items)) c.self.inside.blocks.items c.unite_difference.new.blocks
 merged g c = rw (c.as_mut_slice.ensures.value, c.deref.ensures.value, c.deref-2.ensures.value) at c.unite_difference.ensures.has
 
 packed : (g : Over) (c : After-unite_difference g) → IsPacked g.B.BitBlock.width g.B.BitBlock.number g.B.BitBlock.is_block c.unite_difference.new.blocks c.self.inside.len
 packed g c =
-    packed_merged _ _ _ _ _ c.other.inside.blocks.items _ (map g.B.BitBlock.number c.except.inside.blocks.items) _ c.other.inside.len g.met.B.BitBlock.width_law.positive (fewer g c) (no_longer_from_views _ _ _ _ _ _ _ _ _ c.self.view_is c.other.view_is c.requires) c.self.invariant.packed c.other.invariant.packed.tail (merged g c)
+    packed_merged _ _ _ _ _ c.other.inside.blocks.items _
+    (map g.B.BitBlock.number c.except.inside.blocks.items) _ c.other.inside.len g.met.B.BitBlock.width_law.positive
+    (fewer g c) (no_longer_from_views _ _ _ _ _ _ _ _ _ c.self.view_is c.other.view_is c.requires) c.self.invariant.packed
+    c.other.invariant.packed.tail (merged g c)
 
 pub unite_difference-requires-clause-can : goal.unite_difference-requires-clause-can
 unite_difference-requires-clause-can g c =
-    let le = blocks_for-le g.B.BitBlock.width c.other.inside.len c.self.inside.len g.met.B.BitBlock.width_law.positive (no_longer_from_views _ _ _ _ _ _ _ _ _ c.self.view_is c.other.view_is c.requires) in
+    let le = blocks_for-le g.B.BitBlock.width c.other.inside.len c.self.inside.len g.met.B.BitBlock.width_law.positive
+    (no_longer_from_views _ _ _ _ _ _ _ _ _ c.self.view_is c.other.view_is c.requires) in
     rw (c.as_mut_slice.ensures.value, c.deref.ensures.value) (record {
       fewer = omega (arith, le, c.self.invariant.packed.count, c.other.invariant.packed.count);
       each = c.self.invariant.packed.each;
@@ -65,7 +70,9 @@ returns-clause-values g c =
     let shorter = no_longer_from_views _ _ _ _ _ _ _ _ _ c.self.view_is c.other.view_is c.requires in
     let pos = g.met.B.BitBlock.width_law.positive in
     rw back
-    (lists_merged_except Union _ _ _ _ _ _ _ c.except.inside.len shorter c.self.invariant.packed.tail c.other.invariant.packed.tail c.except.invariant.packed.tail (values_merged_except Union _ _ _ old.items c.other.inside.blocks.items ys _ pos (fewer g here) (merged g here))
+    (lists_merged_except Union _ _ _ _ _ _ _ c.except.inside.len shorter c.self.invariant.packed.tail
+    c.other.invariant.packed.tail c.except.invariant.packed.tail
+    (values_merged_except Union _ _ _ old.items c.other.inside.blocks.items ys _ pos (fewer g here) (merged g here))
     ∙ ap₂ (λ v u. merge_of Union v.values u) c.self.view_is
     (ap₂ (λ v u. merge_of Difference v.values (take (length v.values) u.values)) c.other.view_is c.except.view_is))
 
@@ -79,7 +86,9 @@ returns-clause-kept g c =
     let back : take old.len (ys ++ drop (length ys) old.items) ≡ ys = take_at ys _ old.len (omega arith) in
     let new = packed g here in
     let kept = rw c.as_mut_slice.ensures.value at c.unite_difference.ensures.kept in
-    let lists = kept_lists w (map f old.items) (map f ys) c.self.inside.len (numbers_below w f _ old.items (λ x is. (g.met.B.BitBlock.number_law x is).0) c.self.invariant.packed.each) (numbers_below w f _ ys (λ x is. (g.met.B.BitBlock.number_law x is).0) new.each) c.self.invariant.packed.tail new.tail in
+    let lists = kept_lists w (map f old.items) (map f ys) c.self.inside.len
+    (numbers_below w f _ old.items (λ x is. (g.met.B.BitBlock.number_law x is).0) c.self.invariant.packed.each)
+    (numbers_below w f _ ys (λ x is. (g.met.B.BitBlock.number_law x is).0) new.each) c.self.invariant.packed.tail new.tail in
     let view = ap (λ v. v.values) c.self.view_is in
     rw back (λ no. lists.0 (kept.0 no) ∙ view, λ same. kept.1 (lists.1 (same ∙ sym view)))
 

@@ -11,7 +11,8 @@ returns-in-Some g c =
     record {
       of_block = c.clear_from.ensures.of_block;
       digits = CoversUsed-stored g.B.BitBlock.width g.B.BitBlock.number g.B.BitBlock.is_block c.args.start c.args.end
-          (g.B.BitBlock.number c.clear_from.result) c.in-Some.used c.args.blocks.now c.args.summary.now.left c.next-pulled.new.self.left c.requires.in_bounds pulled.item c.requires.stored c.clear_from.ensures.digits;
+          (g.B.BitBlock.number c.clear_from.result) c.in-Some.used c.args.blocks.now c.args.summary.now.left
+          c.next-pulled.new.self.left c.requires.in_bounds pulled.item c.requires.stored c.clear_from.ensures.digits;
       left = sym (ap (drop 1) pulled.item);
       pulls = pulled.counted;
     }

@@ -23,7 +23,8 @@ loop-q-preserved g c =
     let reach = inside g (goal.at.loop-q-preserved g c).After-block_count-q-end in
     let within : q < length ss = rw length-map (omega (arith, reach)) in
     record {
-      done = λ p j below index. summary_put w ns ss _ 0 q _ within c.put_in.ensures.numbers c.followed.ensures.digits (λ r i late early inside. c.loop-q.invariant.done r i early inside) p j (omega arith) below index;
+      done = λ p j below index. summary_put w ns ss _ 0 q _ within c.put_in.ensures.numbers c.followed.ensures.digits
+          (λ r i late early inside. c.loop-q.invariant.done r i early inside) p j (omega arith) below index;
       past = λ p from. let other : p ≢ q = omega arith in ap (λ xs. get_or xs p 0) c.put_in.ensures.numbers ∙ get_or-set_other ss q p _ 0 other ∙ c.loop-q.invariant.past p (omega arith);
       each_sum = c.put_in.ensures.each;
       summary_len = omega arith;
@@ -37,7 +38,9 @@ followed-requires-clause-in_bounds g c =
 -- the digits of both summaries that a block of them has here
 own : (g : Over) (c : After-summary_at-excepted g) → (j : ℕ) → j < g.B.BitBlock.width
     → is_one (g.B.BitBlock.number c.block_at-own.result) j ≡ value_at g.B.BitBlock.width (map g.B.BitBlock.number c.args.summary.now) (c.loop-q.q * g.B.BitBlock.width + j)
-own g c j index = ap (λ n. is_one n j) (c.block_at-own.ensures.of_number ∙ c.loop-q.invariant.past c.loop-q.q (omega arith)) ∙ sym (value_at-index g.B.BitBlock.width (map g.B.BitBlock.number c.args.summary.now) c.loop-q.q j index)
+own g c j index =
+    ap (λ n. is_one n j) (c.block_at-own.ensures.of_number ∙ c.loop-q.invariant.past c.loop-q.q (omega arith))
+    ∙ sym (value_at-index g.B.BitBlock.width (map g.B.BitBlock.number c.args.summary.now) c.loop-q.q j index)
 
 pub followed-requires-clause-kept : goal.followed-requires-clause-kept
 followed-requires-clause-kept g c = λ j index also.

@@ -30,7 +30,8 @@ loop-q-preserved g c =
           (λ (high : end * w ≤ k).
           cleared.after k (omega (arith, to, high)) ∙ before.rest k reached
           ∙ zero_from_unused _
-          (sym (c.requires.summary.digit k) ∙ zero_chunks w end n number c.args.summary.now _ g.met.B.BitBlock.width_law.positive c.split_at-in-loop-q.ensures.back c.zeros_before.ensures.zeros k high below))
+          (sym (c.requires.summary.digit k) ∙ zero_chunks w end n number c.args.summary.now _
+          g.met.B.BitBlock.width_law.positive c.split_at-in-loop-q.ensures.back c.zeros_before.ensures.zeros k high below))
           (cases_lt k (end * w)))
           (cases_lt k (q * w)))
           (λ (past : length c.clear_blocks.new.blocks ≤ k). get_or_past (map number c.clear_blocks.new.blocks) k 0 (rw length-map past))

@@ -14,6 +14,8 @@ loop-q-preserved g c =
       same = λ k below.
           ⊎_elim
           (from_none c.mismatch_in_chunks-found.result _ _ (sym c.is_some.ensures ∙ c.if-is_some.false) c.mismatch_in_chunks-found.ensures k)
-          (λ reached. c.requires.zeros k (omega (arith, below, mul-le-mul_right w end)) (zero_chunks w q n g.B.BitBlock.number c.args.summary.now _ g.met.B.BitBlock.width_law.positive past c.zeros_before-q.ensures.zeros k reached below))
+          (λ reached. c.requires.zeros k (omega (arith, below, mul-le-mul_right w end))
+          (zero_chunks w q n g.B.BitBlock.number c.args.summary.now _ g.met.B.BitBlock.width_law.positive past
+          c.zeros_before-q.ensures.zeros k reached below))
           (cases_lt k (q * w));
     }

@@ -1,5 +1,5 @@
-use Rattle.std.proofs.Common.{◌≡◌, ◌≤◌, ◌<◌, ◌+◌, ◌^◌, ◌∙◌, ℕ, max, length, map, ap, arith}
-use Rattle.bit_words.{specs.MergedOnes.merged_ones, proofs.MergedOnesLemmas.{merged_le, merged_parts}}
+use Rattle.std.proofs.Common.{◌≡◌, ◌+◌, ◌∙◌, ℕ, max, length, map, ap, arith}
+use Rattle.bit_words.{specs.MergedOnes.merged_ones, proofs.MergedOnesLemmas.merged_parts}
 use Rattle.bit_words.proofs.summary.counts.count_merged_blocks.Goals.{After-min-both}
 use Rattle.bit_words.proofs.summary.counts.count_merged_blocks.Goals as goal
 

@@ -6,7 +6,9 @@ use Rattle.bit_words.proofs.summary.counts.ones_of_both.Goals as goal
 
 -- with the ones of block j of them
 counted : (g : _) (c : After-count_ones-ones g)
-    → c.loop-j.ones + c.count_ones-ones.result ≡ merged_ones g.O.Operation.merge g.B.BitBlock.width (map g.B.BitBlock.number c.args.blocks.now) (map g.B.BitBlock.number c.args.others.now) c.args.start (c.args.start + (c.loop-j.j + 1))
+    → c.loop-j.ones + c.count_ones-ones.result ≡ merged_ones g.O.Operation.merge g.B.BitBlock.width
+    (map g.B.BitBlock.number c.args.blocks.now) (map g.B.BitBlock.number c.args.others.now) c.args.start
+    (c.args.start + (c.loop-j.j + 1))
 counted g c =
     let m = g.O.Operation.merge in
     let k = c.args.start + c.loop-j.j in

@@ -5,7 +5,9 @@ use Rattle.bit_words.proofs.summary.counts.ones_of_chunks.Goals as goal
 
 -- with those of chunk q
 counted : (g : _) (c : After-ones_at_chunk-ones g)
-    → c.loop-q.ones + c.ones_at_chunk-ones.result ≡ merged_ones g.O.Operation.merge g.B.BitBlock.width (map g.B.BitBlock.number c.args.blocks.now) (map g.B.BitBlock.number c.args.others.now) (c.args.first * g.B.BitBlock.width) ((c.loop-q.q + 1) * g.B.BitBlock.width)
+    → c.loop-q.ones + c.ones_at_chunk-ones.result ≡ merged_ones g.O.Operation.merge g.B.BitBlock.width
+    (map g.B.BitBlock.number c.args.blocks.now) (map g.B.BitBlock.number c.args.others.now)
+    (c.args.first * g.B.BitBlock.width) ((c.loop-q.q + 1) * g.B.BitBlock.width)
 counted g c =
     let w = g.B.BitBlock.width in
     let reached : c.args.first ≤ c.loop-q.q = omega arith in

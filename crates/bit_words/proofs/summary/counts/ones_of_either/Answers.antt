@@ -5,7 +5,8 @@ use Rattle.bit_words.proofs.summary.counts.ones_of_either.Goals as goal
 
 -- with the ones of block k
 counted : (g : _) (c : After-ones_at-ones g)
-    → c.loop-k.ones + c.ones_at-ones.result ≡ merged_ones g.O.Operation.merge g.B.BitBlock.width (map g.B.BitBlock.number c.args.blocks.now) (map g.B.BitBlock.number c.args.others.now) c.args.first (c.loop-k.k + 1)
+    → c.loop-k.ones + c.ones_at-ones.result ≡ merged_ones g.O.Operation.merge g.B.BitBlock.width
+    (map g.B.BitBlock.number c.args.blocks.now) (map g.B.BitBlock.number c.args.others.now) c.args.first (c.loop-k.k + 1)
 counted g c =
     merged_more g.O.Operation.merge g.B.BitBlock.width _ _ c.args.first c.loop-k.k (c.loop-k.k + 1) _ _ (omega arith) (omega arith) c.loop-k.invariant c.ones_at-ones.ensures
 

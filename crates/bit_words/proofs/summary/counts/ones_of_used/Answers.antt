@@ -44,8 +44,9 @@ loop-rest-preserved g c =
 
 pub returns : goal.returns
 returns g c =
+    let w = g.B.BitBlock.width in
     let same = g.met.B.BitBlock.eq_law c.loop-rest.rest c.zero.result c.loop-rest.invariant.of_block c.zero.ensures.of_block in
     let none = same.0 (not-false _ (sym c.ne.ensures ∙ c.loop-rest-test.false)) ∙ c.zero.ensures.of_number in
     let ended = left_none
-    (λ j. merged_ones g.O.Operation.merge g.B.BitBlock.width (map g.B.BitBlock.number c.args.blocks.now) (map g.B.BitBlock.number c.args.others.now) (c.args.start + j) (c.args.start + j + 1)) g.B.BitBlock.width _ none in
+    (λ j. merged_ones g.O.Operation.merge w (map g.B.BitBlock.number c.args.blocks.now) (map g.B.BitBlock.number c.args.others.now) (c.args.start + j) (c.args.start + j + 1)) w _ none in
     omega (arith, c.loop-rest.invariant.counted, ended)

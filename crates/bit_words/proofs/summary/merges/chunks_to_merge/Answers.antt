@@ -1,4 +1,4 @@
-use Rattle.std.proofs.Common.{◌≡◌, ◌*◌, ◌∙◌, false, get_or, map, length, sym, ap, arith}
+use Rattle.std.proofs.Common.{◌≡◌, ◌*◌, ◌∙◌, get_or, map, length, sym, ap, arith}
 use Rattle.bit_blocks.{specs.{Bits.blocks_for, Digits.is_one, Merges.merge_of_values}, proofs.{BitsLemmas.{blocks_for-enough, blocks_for-le}, BlockMergeLemmas.stay_none}}
 use Rattle.bit_words.proofs.summary.merges.chunks_to_merge.Goals as goal
 
@@ -8,7 +8,9 @@ returns-then-keeps_alone-clause-rest g c = record {
       let w = g.B.BitBlock.width in
       let reach : c.block_count.result * w ≡ blocks_for w c.len.result * w = ap (λ n. n * w) c.block_count.ensures in
       let a = is_one (get_or (map g.B.BitBlock.number c.args.blocks.now) k 0) j in
-      sym (ap (merge_of_values g.O.Operation.merge a) (c.len.ensures.past k j (omega (arith, blocks_for-enough w c.len.result g.met.B.BitBlock.width_law.positive, beyond, reach))) ∙ c.keeps_alone.ensures c.if-keeps_alone.true a);
+      sym (ap (merge_of_values g.O.Operation.merge a)
+      (c.len.ensures.past k j (omega (arith, blocks_for-enough w c.len.result g.met.B.BitBlock.width_law.positive, beyond, reach)))
+      ∙ c.keeps_alone.ensures c.if-keeps_alone.true a);
 }
 
 pub returns-else-keeps_alone-clause-rest : goal.returns-else-keeps_alone-clause-rest

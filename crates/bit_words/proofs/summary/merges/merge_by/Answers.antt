@@ -1,5 +1,5 @@
 use Rattle.std.proofs.Common.{arith}
-use Rattle.bit_words.proofs.SummaryLemmas.{keeps_all, keeps_none}
+use Rattle.bit_words.proofs.SummaryLemmas.{keeps_none}
 use Rattle.bit_words.proofs.summary.merges.merge_by.Goals as goal
 
 pub returns-then-is_short-clause-summary : goal.returns-then-is_short-clause-summary

@@ -11,7 +11,8 @@ loop-j-preserved g c =
     let used = c.is_nonzero.ensures ∙ ap (λ m. not (m == 0)) c.merge_block-merged.ensures.of_number in
     record {
       has = merged_more _ _ _ _ start (start + j) (start + (j + 1)) (start + j) (start + j + 1) _ _ _ _ (omega arith) (omega arith) refl (omega arith) c.loop-j.invariant.has one;
-      says = says_more _ _ _ start j _ _ _ (says_kept _ _ _ start j _ _ _ one.before c.loop-j.invariant.says) c.with_one_if-digits.ensures.of_block (c.with_one_if-digits.ensures.same ∙ used) c.with_one_if-digits.ensures.others;
+      says = says_more _ _ _ start j _ _ _ (says_kept _ _ _ start j _ _ _ one.before c.loop-j.invariant.says)
+          c.with_one_if-digits.ensures.of_block (c.with_one_if-digits.ensures.same ∙ used) c.with_one_if-digits.ensures.others;
     }
 
 pub merge_block-merged-requires-clause-can : goal.merge_block-merged-requires-clause-can

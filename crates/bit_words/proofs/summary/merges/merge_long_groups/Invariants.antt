@@ -1,4 +1,4 @@
-use Rattle.std.proofs.Common.{◌≡◌, ◌+◌, ◌*◌}
+use Rattle.std.proofs.Common.{◌+◌, ◌*◌}
 use Rattle.bit_blocks.specs.BlockMerges.{HasMerged}
 use Rattle.bit_words.specs.Summary.{SaysUsed}
 use Rattle.bit_words.proofs.summary.merges.merge_long_groups.Given as goal

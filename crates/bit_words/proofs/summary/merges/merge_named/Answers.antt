@@ -1,5 +1,3 @@
-use Rattle.std.proofs.Common.{arith}
-use Rattle.bit_blocks.proofs.BlockMergeLemmas.{stay_none}
 use Rattle.bit_words.proofs.summary.merges.merge_named.Goals as goal
 
 pub returns-in-Union : goal.returns-in-Union

@@ -1,4 +1,4 @@
-use Rattle.std.proofs.{Common.{◌≡◌, ℕ, ◌+◌, ◌*◌, ◌<◌, ◌≤◌, ◌∙◌, false, true, get_or, map, length, sym, ap, arith}, lemmas.List.length-map}
+use Rattle.std.proofs.{Common.{◌≡◌, ℕ, ◌+◌, ◌*◌, ◌<◌, ◌≤◌, ◌∙◌, false, map, length, sym, ap, arith}, lemmas.List.length-map}
 use Rattle.bit_blocks.{specs.{Digits.is_one, Storage.is_used}, proofs.{StorageLemmas.value_at-index, UseLemmas.{used_from_true, used_past}}}
 use Rattle.bit_words.proofs.TouchedLemmas.{true_unless}
 use Rattle.bit_words.proofs.summary.merges.touched_at.{Given.Over, Goals.After-touched_by}
@@ -7,7 +7,9 @@ use Rattle.bit_words.proofs.summary.merges.touched_at.Goals as goal
 -- what the block of the summary says
 own : (g : Over) (c : After-touched_by g) → (p : ℕ) → p < g.B.BitBlock.width
     → is_one (g.B.BitBlock.number c.block_at.result) p ≡ is_used (map g.B.BitBlock.number c.args.blocks.now) (c.args.q * g.B.BitBlock.width + p)
-own g c p index = ap (λ n. is_one n p) c.block_at.ensures.of_number ∙ sym (value_at-index g.B.BitBlock.width (map g.B.BitBlock.number c.args.summary.now) c.args.q p index) ∙ c.requires.summary.digit (c.args.q * g.B.BitBlock.width + p)
+own g c p index =
+    let w = g.B.BitBlock.width in
+    ap (λ n. is_one n p) c.block_at.ensures.of_number ∙ sym (value_at-index w (map g.B.BitBlock.number c.args.summary.now) c.args.q p index) ∙ c.requires.summary.digit (c.args.q * w + p)
 
 pub returns-clause-within : goal.returns-clause-within
 returns-clause-within g c = λ p index one.

@@ -1,5 +1,5 @@
 use Rattle.std.proofs.Common.{◌≡◌, ℕ, ◌+◌, ◌*◌, ◌^◌, ◌<◌, ◌∙◌, false, not, ◌&&◌, get_or, map, sym, ap, arith}
-use Rattle.bit_blocks.specs.{BlockMerges.HasMerged, Digits.is_one, declared.block.merge.Merge.TheVariants.Union}
+use Rattle.bit_blocks.specs.{BlockMerges.HasMerged, Digits.is_one}
 use Rattle.bit_blocks.proofs.{Masks.is_one-zero, VectorLemmas.numbers_below}
 use Rattle.bit_words.proofs.TouchedLemmas.{united_use}
 use Rattle.bit_words.proofs.summary.merges.unite_whole.{Given.Over, Goals.After-merge_between}
@@ -11,7 +11,9 @@ begin q bits w e = ap (λ x. q * x) e
 
 -- the chunk
 merged : (g : Over) (c : After-merge_between g)
-    → HasMerged g.O.Operation.merge g.B.BitBlock.width g.B.BitBlock.number g.B.BitBlock.is_block (c.args.q * g.B.BitBlock.width) ((c.args.q + 1) * g.B.BitBlock.width) (g.S.Others.digit c.args.others) c.args.blocks.now c.merge_between.new.blocks
+    → HasMerged g.O.Operation.merge g.B.BitBlock.width g.B.BitBlock.number g.B.BitBlock.is_block
+    (c.args.q * g.B.BitBlock.width) ((c.args.q + 1) * g.B.BitBlock.width)
+    (g.S.Others.digit c.args.others) c.args.blocks.now c.merge_between.new.blocks
 merged g c =
     let w = g.B.BitBlock.width in
     let at : c.args.q * c.bits.result ≡ c.args.q * w = begin c.args.q _ _ c.bits.ensures in

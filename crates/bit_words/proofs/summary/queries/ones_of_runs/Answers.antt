@@ -8,14 +8,18 @@ pub ones_of-ones-requires-clause-fits : goal.ones_of-ones-requires-clause-fits
 ones_of-ones-requires-clause-fits g c =
     let xs = c.args.blocks.now in
     let end = (c.loop-q.q + c.chunks_before_zero-used.result) * g.B.BitBlock.width in
-    let more = chunks_counted g.B.BitBlock.number _ _ c.chunks_before_zero-used.result _ xs _ c.first_chunks-in-loop-q.result.0.now c.loop-q.invariant.counted c.first_chunks-in-loop-q.ensures.first c.first_chunks.ensures.rest in
+    let more = chunks_counted g.B.BitBlock.number _ _ c.chunks_before_zero-used.result _ xs _
+    c.first_chunks-in-loop-q.result.0.now c.loop-q.invariant.counted c.first_chunks-in-loop-q.ensures.first
+    c.first_chunks.ensures.rest in
     omega (arith, more, sum_by-take-le (λ x. count_ones (g.B.BitBlock.number x)) xs end, c.requires.fits)
 
 pub overflow_add-ones : goal.overflow_add-ones
 overflow_add-ones g c =
     let xs = c.args.blocks.now in
     let end = (c.loop-q.q + c.chunks_before_zero-used.result) * g.B.BitBlock.width in
-    let more = chunks_counted g.B.BitBlock.number _ _ c.chunks_before_zero-used.result _ xs _ c.first_chunks-in-loop-q.result.0.now c.loop-q.invariant.counted c.first_chunks-in-loop-q.ensures.first c.first_chunks.ensures.rest in
+    let more = chunks_counted g.B.BitBlock.number _ _ c.chunks_before_zero-used.result _ xs _
+    c.first_chunks-in-loop-q.result.0.now c.loop-q.invariant.counted c.first_chunks-in-loop-q.ensures.first
+    c.first_chunks.ensures.rest in
     omega (arith, more, c.ones_of-ones.ensures, sum_by-take-le (λ x. count_ones (g.B.BitBlock.number x)) xs end, c.requires.fits)
 
 pub loop-q-preserved : goal.loop-q-preserved

@@ -15,7 +15,8 @@ returns-clause-zeros g c = λ k past.
     c.min-end.ensures ∙ ap (λ n. min n (length xs)) (c.saturating_mul.ensures ∙ ap (λ n. min (c.used_blocks-chunks.result * n) (2 ^ 64 - 1)) c.bits.ensures) in
     ⊎_elim
     (λ within. sym (front_read w number is_block xs end k within) ∙ c.used_blocks-2.ensures.zeros k past)
-    (λ outside. zero_past_chunks w number is_block xs c.args.summary.now c.used_blocks-chunks.result end k g.met.B.BitBlock.width_law.positive (c.requires.summary.long long) c.used_blocks-chunks.ensures.zeros at outside)
+    (λ outside. zero_past_chunks w number is_block xs c.args.summary.now c.used_blocks-chunks.result end k
+    g.met.B.BitBlock.width_law.positive (c.requires.summary.long long) c.used_blocks-chunks.ensures.zeros at outside)
     (cases_lt k end)
 
 pub returns-clause-last : goal.returns-clause-last

@@ -6,7 +6,8 @@ pub returns-in_err-k : goal.returns-in_err-k
 returns-in_err-k g c =
     let w = g.B.BitBlock.width in
     rw c.from_residual.ensures
-    (none_past_block w (map g.B.BitBlock.number c.args.blocks.now) c.args.from (c.args.from / w) g.met.B.BitBlock.width_law.positive c.in_default.ensures (rw c.block_index.ensures at c.in_err-k.ensures))
+    (none_past_block w (map g.B.BitBlock.number c.args.blocks.now) c.args.from
+    (c.args.from / w) g.met.B.BitBlock.width_law.positive c.in_default.ensures (rw c.block_index.ensures at c.in_err-k.ensures))
 
 pub returns : goal.returns
 returns g c =

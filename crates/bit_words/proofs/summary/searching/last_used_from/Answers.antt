@@ -5,7 +5,8 @@ use Rattle.bit_words.proofs.summary.searching.last_used_from.Goals as goal
 
 pub last_one-requires-clause-fits : goal.last_one-requires-clause-fits
 last_one-requires-clause-fits g c = λ i.
-    stored_fits g.B.BitBlock.width g.B.BitBlock.number g.B.BitBlock.is_block c.args.start c.args.end i c.args.blocks.now c.args.summary.now g.met.B.BitBlock.width_law.positive c.requires.chunk c.requires.to c.requires.fits c.requires.stored
+    stored_fits g.B.BitBlock.width g.B.BitBlock.number g.B.BitBlock.is_block c.args.start c.args.end i c.args.blocks.now
+    c.args.summary.now g.met.B.BitBlock.width_law.positive c.requires.chunk c.requires.to c.requires.fits c.requires.stored
 
 pub returns-else-is_short : goal.returns-else-is_short
 returns-else-is_short g c =

@@ -19,8 +19,12 @@ returns-then-count-capacity-clause-full g c =
 
 pub returns-clause-exact : goal.returns-clause-exact
 returns-clause-exact g c =
-    made_exact g.B.BitBlock.width (vec_capacity c.args.blocks.now) (vec_capacity c.args.summary.now) c.args.count (vec_capacity c.shrink_to.new.self) _ _ _ g.met.B.BitBlock.width_law.positive (omega arith) (omega arith) c.reserve_shared-2.ensures.capacity
+    made_exact g.B.BitBlock.width (vec_capacity c.args.blocks.now) (vec_capacity c.args.summary.now) c.args.count
+    (vec_capacity c.shrink_to.new.self) _ _ _ g.met.B.BitBlock.width_law.positive (omega arith)
+    (omega arith) c.reserve_shared-2.ensures.capacity
 
 pub returns-then-count-capacity-clause-err : goal.returns-then-count-capacity-clause-err
 returns-then-count-capacity-clause-err g c =
-    shared_cut g.B.BitBlock.width (vec_capacity c.args.blocks.now) (vec_capacity c.args.summary.now) c.args.count (vec_capacity c.shrink_to.new.self) g.met.B.BitBlock.width_law.positive (omega arith) c.shrink_to.ensures.lower_bound c.shrink_to.ensures.capacity
+    shared_cut g.B.BitBlock.width (vec_capacity c.args.blocks.now) (vec_capacity c.args.summary.now) c.args.count
+    (vec_capacity c.shrink_to.new.self) g.met.B.BitBlock.width_law.positive
+    (omega arith) c.shrink_to.ensures.lower_bound c.shrink_to.ensures.capacity

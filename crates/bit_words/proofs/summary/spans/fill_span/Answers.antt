@@ -40,7 +40,9 @@ merge_span-requires-2-clause-each g c = stored_each _ _ _ _ _ c.requires.summary
 pub update_summary_at-requires-clause-in_bounds : goal.update_summary_at-requires-clause-in_bounds
 update_summary_at-requires-clause-in_bounds g c =
     rw (c.deref.ensures.value, c.block_index-first.ensures)
-    (in_list g.B.BitBlock.width c.args.start c.args.end (vec_len c.args.blocks.now) _ g.met.B.BitBlock.width_law.positive c.requires.some c.requires.within (omega (arith, c.merge_span.ensures.in_place.len)))
+    (in_list g.B.BitBlock.width c.args.start c.args.end
+    (vec_len c.args.blocks.now) _ g.met.B.BitBlock.width_law.positive c.requires.some
+    c.requires.within (omega (arith, c.merge_span.ensures.in_place.len)))
 
 pub update_summary_at-requires-clause-each : goal.update_summary_at-requires-clause-each
 update_summary_at-requires-clause-each g c = c.merge_span-2.ensures.in_place.each
@@ -51,7 +53,8 @@ update_summary_at-requires-clause-blocks g c = rw c.deref.ensures.value c.merge_
 pub update_summary_at-requires-2-clause-in_bounds : goal.update_summary_at-requires-2-clause-in_bounds
 update_summary_at-requires-2-clause-in_bounds g c =
     rw (c.deref-2.ensures.value, c.block_index-last.ensures)
-    (in_list g.B.BitBlock.width (c.args.end - 1) c.args.end (vec_len c.args.blocks.now) _ g.met.B.BitBlock.width_law.positive (omega arith) c.requires.within (omega (arith, c.merge_span.ensures.in_place.len)))
+    (in_list g.B.BitBlock.width (c.args.end - 1) c.args.end (vec_len c.args.blocks.now) _ g.met.B.BitBlock.width_law.positive
+    (omega arith) c.requires.within (omega (arith, c.merge_span.ensures.in_place.len)))
 
 pub update_summary_at-requires-2-clause-each : goal.update_summary_at-requires-2-clause-each
 update_summary_at-requires-2-clause-each g c = c.update_summary_at.ensures.in_place.each

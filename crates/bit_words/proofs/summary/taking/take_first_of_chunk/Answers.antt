@@ -30,7 +30,9 @@ block g c =
     let w = g.B.BitBlock.width in
     let f = g.B.BitBlock.number in
     first_used w f g.B.BitBlock.is_block c.args.blocks.now.items c.args.summary.now.items g.met.B.BitBlock.width_law.positive c.requires.summary c.args.chunk _ c.requires.first
-    (first_of_whole w (map f c.args.summary.now.items) c.args.chunk _ c.bits.result c.take_lowest_one.result (rw c.deref.ensures.value at c.block_at-used.ensures.of_number) c.bits.ensures c.take_lowest_one.ensures.within c.take_lowest_one.ensures.lowest)
+    (first_of_whole w (map f c.args.summary.now.items) c.args.chunk _ c.bits.result c.take_lowest_one.result
+    (rw c.deref.ensures.value at c.block_at-used.ensures.of_number) c.bits.ensures
+    c.take_lowest_one.ensures.within c.take_lowest_one.ensures.lowest)
 
 inside : (g : Over) (c : After-take_lowest_one g) → c.args.chunk * c.bits.result + c.take_lowest_one.result < length c.args.blocks.now.items
 inside g c =
@@ -78,7 +80,9 @@ returns-clause-first g c =
 
 -- the bit of that block in the summary is left where the block is not 0 now
 left : (g : Over) (c : After-put_block g)
-    → WritesValue g.B.BitBlock.width (map g.B.BitBlock.number c.args.summary.now.items) (map g.B.BitBlock.number c.put_block.new.blocks.items) (c.args.chunk * c.bits.result + c.take_lowest_one.result) c.is_nonzero.result
+    → WritesValue g.B.BitBlock.width (map g.B.BitBlock.number c.args.summary.now.items)
+    (map g.B.BitBlock.number c.put_block.new.blocks.items)
+    (c.args.chunk * c.bits.result + c.take_lowest_one.result) c.is_nonzero.result
 left g c =
     let f = g.B.BitBlock.number in
     let taken = c.take_lowest_one in
@@ -93,6 +97,8 @@ returns-clause-summary g c =
     let at = goal.at.returns-clause-summary g c in
     let taken = c.take_first_of_block-i.ensures in
     let number = taken.of_number in
-    changed_summary g.B.BitBlock.width c.take_first_of_block-i.result.0 _ false c.is_nonzero.result g.B.BitBlock.number g.B.BitBlock.is_block c.args.blocks.now c.take_first_of_block-i.new.blocks c.args.summary.now c.put_block.new.blocks g.met.B.BitBlock.width_law.positive (λ x is. (g.met.B.BitBlock.number_law x is).0)
+    changed_summary g.B.BitBlock.width c.take_first_of_block-i.result.0 _ false c.is_nonzero.result g.B.BitBlock.number
+    g.B.BitBlock.is_block c.args.blocks.now c.take_first_of_block-i.new.blocks c.args.summary.now c.put_block.new.blocks
+    g.met.B.BitBlock.width_law.positive (λ x is. (g.met.B.BitBlock.number_law x is).0)
     c.requires.each (sym taken.in_its_block) (inside g at.After-take_lowest_one) taken.value taken.in_place c.requires.summary (c.is_nonzero.ensures ∙ ap (λ m. not (m == 0)) number)
     (left g at.After-put_block) c.put_block.ensures.in_place

@@ -13,8 +13,11 @@ returns-then-self-other-clause-tells g c = tells_same _ c.args.self.now c.args.o
 pub returns-clause-same : goal.returns-clause-same
 returns-clause-same g c =
     let f = g.B.BitBlock.number in
-    let blocks : IsTrue c.same_blocks.result ↔ ((k : ℕ) → get_or (map f c.self.inside.blocks.items) k 0 ≡ get_or (map f c.other.inside.blocks.items) k 0) = rw (c.deref.ensures.value, c.deref-2.ensures.value) at c.same_blocks.ensures in
-    let tables = same_tables g.met.B.BitBlock.width_law.positive c.self.invariant c.self.view_is c.other.invariant c.other.view_is (sym c.if-self-other.false) (sym c.if-self-other-2.false) (λ x is. (g.met.B.BitBlock.number_law x is).0) in
+    let blocks : IsTrue c.same_blocks.result ↔ ((k : ℕ)
+    → get_or (map f c.self.inside.blocks.items) k 0 ≡ get_or (map f c.other.inside.blocks.items) k
+    0) = rw (c.deref.ensures.value, c.deref-2.ensures.value) at c.same_blocks.ensures in
+    let tables = same_tables g.met.B.BitBlock.width_law.positive c.self.invariant c.self.view_is c.other.invariant
+    c.other.view_is (sym c.if-self-other.false) (sym c.if-self-other-2.false) (λ x is. (g.met.B.BitBlock.number_law x is).0) in
     (λ yes. tables.0 (blocks.0 yes), λ same. blocks.1 (tables.1 same))
 
 pub returns-clause-tells : goal.returns-clause-tells

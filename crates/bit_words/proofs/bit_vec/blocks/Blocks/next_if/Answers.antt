@@ -24,15 +24,20 @@ returns g c =
     let (at, blocks, counted, still) = joined g (goal.at.returns g c).Joined-wanted in
     let i = c.if-wanted.self-inside.at in
     let xs = c.if-wanted.self-inside.blocks.now in
-    let given : c.args.wanted ≡ true → c.if-wanted-2.result ≡ c.in-Some.next.now = elim c.if-wanted-2.branch [ then-wanted-2 w ↦ λ on. w.result-is | else-wanted-2 w ↦ λ on. absurd (true≢false (sym on ∙ w.if-wanted-2.false)) ] in
+    let given : c.args.wanted ≡ true → c.if-wanted-2.result ≡ c.in-Some.next.now =
+    elim c.if-wanted-2.branch
+    [ then-wanted-2 w ↦ λ on. w.result-is | else-wanted-2 w ↦ λ on. absurd (true≢false (sym on ∙ w.if-wanted-2.false)) ] in
     let zero : c.args.wanted ≡ false → g.B.BitBlock.is_block c.if-wanted-2.result ×
-    (g.B.BitBlock.number c.if-wanted-2.result ≡ 0) = elim c.if-wanted-2.branch [ then-wanted-2 w ↦ λ off. absurd (true≢false (sym w.if-wanted-2.true ∙ off)) | else-wanted-2 w ↦ λ off. rw w.result-is (w.zero-else-wanted-2.ensures.of_block, w.zero-else-wanted-2.ensures.of_number) ] in
+    (g.B.BitBlock.number c.if-wanted-2.result ≡ 0) = elim c.if-wanted-2.branch
+    [ then-wanted-2 w ↦ λ off. absurd (true≢false (sym w.if-wanted-2.true ∙ off)) | else-wanted-2 w ↦ λ off. rw w.result-is (w.zero-else-wanted-2.ensures.of_block, w.zero-else-wanted-2.ensures.of_number) ] in
     record {
       pulled = λ on.
           let one : c.from.result ≡ 1 = c.from.ensures ∙ ap bool_byte on in
           record {
             item = rw (given on)
-                (sym (ap (λ s. s.left) c.self.view_is) ∙ sym (ap₂ drop at blocks) ∙ sym c.as_slice.ensures ∙ from_first i c.from.result xs c.as_slice.result.now _ c.as_slice.ensures c.in-Some.ensures.item.3.0 c.in-Some.ensures.item.1 one);
+                (sym (ap (λ s. s.left) c.self.view_is) ∙ sym (ap₂ drop at blocks) ∙ sym c.as_slice.ensures
+                ∙ from_first i c.from.result xs c.as_slice.result.now _ c.as_slice.ensures c.in-Some.ensures.item.3.0
+                c.in-Some.ensures.item.1 one);
             counted = omega (arith, counted on, ap (λ s. s.pulls) c.self.view_is);
           };
       zeros = λ off. zero off;

@@ -1,9 +1,9 @@
-use Rattle.std.proofs.Common.{◌≡◌, ℕ, ◌+◌, ◌-◌, ◌*◌, ◌/◌, ◌<◌, ◌≤◌, ◌++◌, All, not, ◌==◌, Bool, true, false, drop, length, min, max, take_all, refl, sym, ap, ap₂, subst, ◌∙◌, arith}
+use Rattle.std.proofs.Common.{◌≡◌, ℕ, ◌+◌, ◌-◌, ◌/◌, ◌<◌, ◌++◌, All, not, ◌==◌, Bool, true, false, drop, length, min, max, take_all, refl, sym, ap, ap₂, subst, ◌∙◌, arith}
 use Rattle.std.proofs.lemmas.{Bool.Decides.nat_tests, List.Elements.All-get_or, Option.{get_or_from_slice_get, slice_get_within}}
 use Rattle.bit_blocks.{specs.Bits.blocks_for, proofs.{BitsLemmas.blocks_for-le, UseLemmas.packed_blocks, VectorLemmas.length_from_view}}
 use Rattle.bit_words.specs.{Nonzero.nonzero_from, Pending.{left_from, next_at}}
 use Rattle.bit_words.proofs.{CutLemmas.{IsSplitAt, split-with, split-without}, GrowthLemmas.stored_within_capacity, LastLemmas.{IsPending-cut_at, left-cut_at}, PendingLemmas.summary_left-cut}
-use Rattle.bit_words.proofs.bit_vec.nonzero.Nonzero.between.Goals.{After-clear_from-block, After-keep_before, then-may_have, else-may_have}
+use Rattle.bit_words.proofs.bit_vec.nonzero.Nonzero.between.Goals.{After-keep_before, then-may_have, else-may_have}
 use Rattle.bit_words.proofs.bit_vec.nonzero.Nonzero.between.Goals as goal
 use mir.Val.{bool_byte}
 
@@ -13,7 +13,9 @@ one_if_some false m is = grind (arith, nat_tests, is)
 
 -- what is left before the last block, of it and past it
 parts : (g : _) (c : After-keep_before g)
-    → IsSplitAt g.B.BitBlock.number (next_at g.B.BitBlock.width c.after-pending.result.index (g.B.BitBlock.number c.after-pending.result.bits)) c.args.last c.after-pending.result.end c.min-end.result (g.B.BitBlock.number c.if-may_have.whole) c.as_slice-blocks.result.now
+    → IsSplitAt g.B.BitBlock.number (next_at g.B.BitBlock.width c.after-pending.result.index
+    (g.B.BitBlock.number c.after-pending.result.bits)) c.args.last c.after-pending.result.end c.min-end.result
+    (g.B.BitBlock.number c.if-may_have.whole) c.as_slice-blocks.result.now
 parts g c =
     let w = g.B.BitBlock.width in
     let number = g.B.BitBlock.number in
@@ -22,7 +24,8 @@ parts g c =
     let to = c.min-end.ensures ∙ ap (λ n. min n it.end) c.max.ensures in
     elim c.if-may_have.branch [
       | then-may_have b ↦ rw b.whole-is
-          (split-with number w g.B.BitBlock.is_block it.index it.end c.args.last c.min-end.result b.at-whole.result it.bits c.as_slice-blocks.result.now is to (grind (arith, c.may_have.ensures.left, b.if-may_have.true)) b.at-whole.ensures)
+          (split-with number w g.B.BitBlock.is_block it.index it.end c.args.last c.min-end.result b.at-whole.result it.bits
+          c.as_slice-blocks.result.now is to (grind (arith, c.may_have.ensures.left, b.if-may_have.true)) b.at-whole.ensures)
       | else-may_have b ↦ rw (b.whole-is, b.zero-whole.ensures.of_number)
           (split-without number w g.B.BitBlock.is_block it.index it.end c.args.last c.min-end.result it.bits c.as_slice-blocks.result.now is to (c.may_have.ensures.out b.if-may_have.false))
     ]
@@ -109,6 +112,8 @@ invariant_of-walk g c =
     let it = c.after-pending.result in
     let walk = c.after-pending.ensures.walk in
     rw (c.keep_before.ensures.end, c.keep_before.ensures.index)
-    (IsPending-cut_at g.B.BitBlock.width g.B.BitBlock.number g.B.BitBlock.is_block it.index it.end c.min-end.result it.bits c.keep_before.new.self.bits c.as_slice-blocks.result.now it.summary.left c.keep_before.new.self.summary.left g.met.B.BitBlock.width_law.positive
+    (IsPending-cut_at g.B.BitBlock.width g.B.BitBlock.number g.B.BitBlock.is_block it.index it.end c.min-end.result it.bits
+    c.keep_before.new.self.bits c.as_slice-blocks.result.now it.summary.left c.keep_before.new.self.summary.left
+    g.met.B.BitBlock.width_law.positive
     (omega (arith, c.min-end.ensures, c.max.ensures, walk.hand.within)) (omega (arith, c.min-end.ensures))
     (record { before = walk; of_block = c.keep_before.ensures.of_block; cut = c.keep_before.ensures.digits; left = c.keep_before.ensures.stored }))

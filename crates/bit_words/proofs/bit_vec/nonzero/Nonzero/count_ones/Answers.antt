@@ -56,14 +56,17 @@ ones_of-requires g c =
 -- all ones are those past the chunk in hand and those of it
 both : (g : Over) (c : After-ones_of g) → c.ones_by_summary-ones.result + c.ones_of.result ≡ ones_left g.B.BitBlock.number c.args.self.left
 both g c =
+    let w = g.B.BitBlock.width in
     let number = g.B.BitBlock.number in
     let lowest = c.take_lowest_one.ensures in
-    let all = left-ones_split g.B.BitBlock.width number g.B.BitBlock.is_block c.self.inside.pending.index c.take_lowest_one.result _ _ _ lowest.lowest lowest.within
+    let all = left-ones_split w number g.B.BitBlock.is_block c.self.inside.pending.index c.take_lowest_one.result _ _ _ lowest.lowest lowest.within
     (ap (λ walk. walk.left) c.self.view_is) in
     let rest = c.ones_by_summary-ones.ensures
-    ∙ ap (ones_in number) (c.first_blocks.ensures.rest ∙ ap (drop g.B.BitBlock.width) (c.split_at-2.ensures.back ∙ ap (drop c.self.inside.pending.index) c.split_at.ensures.front)) in
+    ∙ ap (ones_in number) (c.first_blocks.ensures.rest ∙ ap (drop w) (c.split_at-2.ensures.back ∙ ap (drop c.self.inside.pending.index) c.split_at.ensures.front)) in
     let chunk = c.ones_of.ensures ∙ ap (ones_in number)
-    (c.split_at-3.ensures.back ∙ ap (drop c.take_lowest_one.result) (c.first_blocks.ensures.first ∙ ap (take g.B.BitBlock.width) (c.split_at-2.ensures.back ∙ ap (drop c.self.inside.pending.index) c.split_at.ensures.front))) in
+    (c.split_at-3.ensures.back ∙ ap (drop c.take_lowest_one.result)
+    (c.first_blocks.ensures.first ∙ ap (take w)
+    (c.split_at-2.ensures.back ∙ ap (drop c.self.inside.pending.index) c.split_at.ensures.front))) in
     omega (arith, all, rest, chunk)
 
 pub overflow_add-result : goal.overflow_add-result

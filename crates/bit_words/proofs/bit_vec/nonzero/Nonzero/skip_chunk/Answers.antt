@@ -2,12 +2,14 @@ use Rattle.std.proofs.Common.{◌≡◌, ◌+◌, ◌++◌, count_ones, length, 
 use Rattle.std.proofs.{lemmas.List.{length-append, Sums.sum_by-append}, Math.Seq.{drop-append_seam, take-append_seam}}
 use Rattle.bit_blocks.specs.Storage.{ones_in}
 use Rattle.bit_words.specs.{Nonzero.ones_left, Pending.{left_from, next_at}}
-use Rattle.bit_words.proofs.{SkipLemmas.{IsPastChunk, past_chunk}, bit_vec.nonzero.Nonzero.skip_chunk.{Given.Over, Goals.{After-first_blocks, After-pass_chunk}}}
+use Rattle.bit_words.proofs.{SkipLemmas.{IsPastChunk, past_chunk}, bit_vec.nonzero.Nonzero.skip_chunk.{Given.Over, Goals.After-first_blocks}}
 use Rattle.bit_words.proofs.bit_vec.nonzero.Nonzero.skip_chunk.Goals as goal
 
 -- the chunk, and what is past it
 past : (g : Over) (c : After-first_blocks g)
-    → IsPastChunk g.B.BitBlock.width g.B.BitBlock.number g.B.BitBlock.is_block c.self.inside.pending.index c.self.inside.pending.end c.self.inside.pending.bits c.in_ok-next_chunk.field-0 c.self.inside.blocks.now c.self.inside.pending.summary.left
+    → IsPastChunk g.B.BitBlock.width g.B.BitBlock.number g.B.BitBlock.is_block c.self.inside.pending.index
+    c.self.inside.pending.end c.self.inside.pending.bits c.in_ok-next_chunk.field-0 c.self.inside.blocks.now
+    c.self.inside.pending.summary.left
 past g c =
     past_chunk g.B.BitBlock.width g.B.BitBlock.number g.B.BitBlock.is_block _ _ _ _ _ _ g.met.B.BitBlock.width_law.positive
     (λ x is. (g.met.B.BitBlock.number_law x is).0) c.self.invariant c.in_ok-next_chunk.ensures
@@ -20,15 +22,18 @@ counted g c =
     ap (ones_in g.B.BitBlock.number) (c.first_blocks.ensures.first ∙ ap (take w) (c.split_at.ensures.back ∙ ap (λ p. drop p c.self.inside.blocks.now) start)) ∙ sym (past g c).ones
 
 parts : (g : Over) (c : After-first_blocks g)
-    → c.args.self.now.left ≡ (past g c).chunk ++ left_from g.B.BitBlock.number (next_at g.B.BitBlock.width (c.self.inside.pending.index + g.B.BitBlock.width) (g.B.BitBlock.number c.self.inside.pending.bits)) c.self.inside.pending.end c.self.inside.blocks.now
+    → c.args.self.now.left ≡ (past g c).chunk ++ left_from g.B.BitBlock.number
+    (next_at g.B.BitBlock.width (c.self.inside.pending.index + g.B.BitBlock.width)
+    (g.B.BitBlock.number c.self.inside.pending.bits)) c.self.inside.pending.end c.self.inside.blocks.now
 parts g c = sym (ap (λ v. v.left) c.self.view_is) ∙ (past g c).split
 
 pub ones_of-ones-requires-clause-fits : goal.ones_of-ones-requires-clause-fits
 ones_of-ones-requires-clause-fits g c =
+    let w = g.B.BitBlock.width in
     let number = g.B.BitBlock.number in
     let at = (goal.at.ones_of-ones-requires-clause-fits g c).After-first_blocks in
     let all = ap (ones_left number) (parts g at) in
-    omega (arith, counted g at, all, sum_by-append (λ entry. count_ones (number entry.1)) (past g at).chunk (left_from number (next_at g.B.BitBlock.width (c.self.inside.pending.index + g.B.BitBlock.width) (number c.self.inside.pending.bits)) c.self.inside.pending.end c.self.inside.blocks.now), c.requires.fits)
+    omega (arith, counted g at, all, sum_by-append (λ entry. count_ones (number entry.1)) (past g at).chunk (left_from number (next_at w (c.self.inside.pending.index + w) (number c.self.inside.pending.bits)) c.self.inside.pending.end c.self.inside.blocks.now), c.requires.fits)
 
 pub invariant_of-self : goal.invariant_of-self
 invariant_of-self g c =

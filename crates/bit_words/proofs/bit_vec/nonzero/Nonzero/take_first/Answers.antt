@@ -29,7 +29,9 @@ kept g c =
 -- it comes, or is 0
 item : (g : Over) (c : After-at-block g) (zero : Bool) → (g.B.BitBlock.number c.at-block.result == 0) ≡ zero
     → c.args.self.now.left
-    ≡ (if zero then left_from g.B.BitBlock.number (next_at g.B.BitBlock.width c.next_block.new.self.index (g.B.BitBlock.number c.next_block.new.self.bits)) c.next_block.new.self.end c.loop-k.self-inside.blocks.now
+    ≡ (if zero then left_from g.B.BitBlock.number
+    (next_at g.B.BitBlock.width c.next_block.new.self.index
+    (g.B.BitBlock.number c.next_block.new.self.bits)) c.next_block.new.self.end c.loop-k.self-inside.blocks.now
     else (c.in-Some.k, c.at-block.result) ∷ left_from g.B.BitBlock.number
     (next_at g.B.BitBlock.width c.next_block.new.self.index (g.B.BitBlock.number c.next_block.new.self.bits)) c.next_block.new.self.end c.loop-k.self-inside.blocks.now)
 item g c zero test =

@@ -9,7 +9,8 @@ count_end-requires g c =
 pub returns-then-is_none-clause-steps : goal.returns-then-is_none-clause-steps
 returns-then-is_none-clause-steps g c =
     let end = c.count_end.ensures in
-    pulled_none c.args.self.now c.take_first-next.new.self c.count_end.new.self c.take_first-next.result c.if-is_none.ensures c.take_first-next.ensures.steps end.blocks end.left end.pulls end.summary_pulls end.summary_left
+    pulled_none c.args.self.now c.take_first-next.new.self c.count_end.new.self c.take_first-next.result c.if-is_none.ensures
+    c.take_first-next.ensures.steps end.blocks end.left end.pulls end.summary_pulls end.summary_left
 
 pub returns-else-is_none-clause-steps : goal.returns-else-is_none-clause-steps
 returns-else-is_none-clause-steps g c =

@@ -5,7 +5,8 @@ use Rattle.bit_words.proofs.bit_vec.pending.Pending.after.Goals as goal
 
 -- what is stored of the summary from the block for the first one on
 stored : (g : Over) (c : After-over-rest g)
-    → IsStoredFrom g.B.BitBlock.width g.B.BitBlock.number g.B.BitBlock.is_block (c.args.first / g.B.BitBlock.width * g.B.BitBlock.width) (length c.args.blocks.now) c.args.blocks.now c.over-rest.result.left
+    → IsStoredFrom g.B.BitBlock.width g.B.BitBlock.number g.B.BitBlock.is_block
+    (c.args.first / g.B.BitBlock.width * g.B.BitBlock.width) (length c.args.blocks.now) c.args.blocks.now c.over-rest.result.left
 stored g c =
     let w = g.B.BitBlock.width in
     let pos = g.met.B.BitBlock.width_law.positive in

@@ -20,4 +20,6 @@ returns-then-not-is_nonzero g c = λ j from below.
 
 pub returns : goal.returns
 returns g c =
-    last_in_hand g.B.BitBlock.width g.B.BitBlock.number g.B.BitBlock.is_block c.args.self.now.index c.args.self.now.end c.highest_one.result c.args.self.now.bits c.args.blocks.now c.requires.hand c.highest_one.ensures.highest c.highest_one.ensures.within c.in_default.ensures
+    last_in_hand g.B.BitBlock.width g.B.BitBlock.number g.B.BitBlock.is_block c.args.self.now.index c.args.self.now.end
+    c.highest_one.result c.args.self.now.bits c.args.blocks.now c.requires.hand c.highest_one.ensures.highest
+    c.highest_one.ensures.within c.in_default.ensures

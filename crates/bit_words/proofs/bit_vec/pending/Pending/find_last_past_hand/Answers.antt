@@ -13,7 +13,9 @@ returns-in_err-found g c =
 pub returns : goal.returns
 returns g c =
     rw c.bits-2.ensures
-    (last_from_start g.B.BitBlock.number c.args.blocks.now (c.args.self.now.index + g.B.BitBlock.width) c.args.self.now.end _ c.in_ok-found.found (rw c.bits-2.ensures at c.last_used_from.ensures) c.in_ok-found.was)
+    (last_from_start g.B.BitBlock.number c.args.blocks.now
+    (c.args.self.now.index + g.B.BitBlock.width) c.args.self.now.end _ c.in_ok-found.found
+    (rw c.bits-2.ensures at c.last_used_from.ensures) c.in_ok-found.was)
 
 pub last_used_from-requires : goal.last_used_from-requires
 last_used_from-requires g c =

@@ -14,7 +14,8 @@ returns-clause-walk g c =
       | then-has_last w ↦
           let dropped = w.drop_last.ensures in
           rw (w.self-is, dropped.bits, dropped.index)
-          (IsPending-last g.B.BitBlock.width g.B.BitBlock.number g.B.BitBlock.is_block _ _ _ _ _ _ _ g.met.B.BitBlock.width_law.positive (w.if-has_last.ensures.past refl) dropped.end c.requires.walk dropped.stored)
+          (IsPending-last g.B.BitBlock.width g.B.BitBlock.number g.B.BitBlock.is_block _ _ _ _ _ _ _
+          g.met.B.BitBlock.width_law.positive (w.if-has_last.ensures.past refl) dropped.end c.requires.walk dropped.stored)
       | else-has_last+in_ok-search_last w ↦ rw w.self-is w.in_ok-search_last.ensures.walk
     ]
 

@@ -19,8 +19,11 @@ record IsPassed (g : Over) (c : After-bits g) : Type 0 where
   used_up : g.B.BitBlock.number c.loop-self.self.bits ≡ 0
   walk : IsPending g.B.BitBlock.width g.B.BitBlock.number g.B.BitBlock.is_block (reached g c) c.loop-self.self.end c.loop-self.self.bits c.args.blocks.now c.pass_zero_chunks.new.summary.left
   at : next_at g.B.BitBlock.width c.loop-self.self.index (g.B.BitBlock.number c.loop-self.self.bits) ≤ reached g c + g.B.BitBlock.width
-  same : left_from g.B.BitBlock.number (next_at g.B.BitBlock.width c.loop-self.self.index (g.B.BitBlock.number c.loop-self.self.bits)) c.loop-self.self.end c.args.blocks.now ≡ left_from g.B.BitBlock.number (reached g c + g.B.BitBlock.width) c.loop-self.self.end c.args.blocks.now
-  count : blocks_for g.B.BitBlock.width (c.loop-self.self.end - (c.loop-self.self.index + g.B.BitBlock.width)) ≡ c.pass_zero_chunks.result + blocks_for g.B.BitBlock.width (c.loop-self.self.end - (reached g c + g.B.BitBlock.width))
+  same : left_from g.B.BitBlock.number (next_at g.B.BitBlock.width c.loop-self.self.index
+      (g.B.BitBlock.number c.loop-self.self.bits)) c.loop-self.self.end c.args.blocks.now ≡ left_from g.B.BitBlock.number
+      (reached g c + g.B.BitBlock.width) c.loop-self.self.end c.args.blocks.now
+  count : blocks_for g.B.BitBlock.width (c.loop-self.self.end - (c.loop-self.self.index + g.B.BitBlock.width)) ≡ c.pass_zero_chunks.result + blocks_for g.B.BitBlock.width
+      (c.loop-self.self.end - (reached g c + g.B.BitBlock.width))
 
 passed : (g : Over) (c : After-bits g) → IsPassed g c
 passed g c =
@@ -119,7 +122,8 @@ loop-self-preserved g c =
       };
       end = before.end;
       same = before.same ∙ to.same ∙ sym
-          (left-covered w number is_block start start end (number c.pull_used-self.result) xs (omega arith) (omega arith) (λ j below. absurd (omega (arith, below))) (λ j to _ before used. digits.covers j to before used));
+          (left-covered w number is_block start start end (number c.pull_used-self.result) xs (omega arith) (omega arith)
+          (λ j below. absurd (omega (arith, below))) (λ j to _ before used. digits.covers j to before used));
       onward = omega (arith, before.onward, to.at);
       pulled = omega (arith, before.pulled, pull.pulls, c.pass_zero_chunks.ensures.pulls, to.count, count_by w number is_block 1 start (start + w) end pos (omega arith) (omega (arith, more)));
       goes_on = omega (arith, before.goes_on, pull.pulls, c.pass_zero_chunks.ensures.pulls);

@@ -15,7 +15,9 @@ keep_before-requires g c =
 
 -- what is left in hand and of the summary
 cut : (g : _) (c : After-keep_before g)
-    → IsCutAt g.B.BitBlock.width g.B.BitBlock.number g.B.BitBlock.is_block c.args.self.now.index c.args.self.now.end c.unwrap_or.result c.args.self.now.bits c.keep_before.new.self.bits c.args.blocks.now c.args.self.now.summary.left c.keep_before.new.self.summary.left
+    → IsCutAt g.B.BitBlock.width g.B.BitBlock.number g.B.BitBlock.is_block c.args.self.now.index c.args.self.now.end
+    c.unwrap_or.result c.args.self.now.bits c.keep_before.new.self.bits c.args.blocks.now c.args.self.now.summary.left
+    c.keep_before.new.self.summary.left
 cut g c = record {
   before = c.requires.walk;
   of_block = c.keep_before.ensures.of_block;

@@ -24,10 +24,14 @@ ones_of_used_chunks-requires-clause-covers g c =
 
 pub ones_of_used_chunks-requires-clause-in_blocks : goal.ones_of_used_chunks-requires-clause-in_blocks
 ones_of_used_chunks-requires-clause-in_blocks g c =
-    let few = stored_few g.B.BitBlock.width _ g.B.BitBlock.number _ _ _ g.met.B.BitBlock.width_law.positive c.requires.summary (let e : length c.args.blocks.now ≤ max (length c.args.blocks.now) (length c.args.others.now) = omega arith in e) in
+    let few = stored_few g.B.BitBlock.width _ g.B.BitBlock.number _ _ _ g.met.B.BitBlock.width_law.positive
+    c.requires.summary (let e : length c.args.blocks.now ≤ max (length c.args.blocks.now)
+    (length c.args.others.now) = omega arith in e) in
     omega (arith, few, c.requires.in_summary)
 
 pub ones_of_chunks-requires-clause-in_blocks : goal.ones_of_chunks-requires-clause-in_blocks
 ones_of_chunks-requires-clause-in_blocks g c =
-    let few = stored_few g.B.BitBlock.width _ g.B.BitBlock.number _ _ _ g.met.B.BitBlock.width_law.positive c.requires.summary (let e : length c.args.blocks.now ≤ max (length c.args.blocks.now) (length c.args.others.now) = omega arith in e) in
+    let few = stored_few g.B.BitBlock.width _ g.B.BitBlock.number _ _ _ g.met.B.BitBlock.width_law.positive
+    c.requires.summary (let e : length c.args.blocks.now ≤ max (length c.args.blocks.now)
+    (length c.args.others.now) = omega arith in e) in
     omega (arith, few, c.requires.in_summary)

@@ -11,7 +11,9 @@ some g c = omega (arith, c.min-count.ensures, c.bits.ensures, g.met.B.BitBlock.w
 
 -- with those of a group more
 counted : (g : _) (c : After-ones_of_group-ones g)
-    → c.loop-first.ones + c.ones_of_group-ones.result ≡ merged_ones g.O.Operation.merge g.B.BitBlock.width (map g.B.BitBlock.number c.args.blocks.now) (map g.B.BitBlock.number c.args.others.now) 0 ((c.loop-first.first + c.min-count.result) * g.B.BitBlock.width)
+    → c.loop-first.ones + c.ones_of_group-ones.result ≡ merged_ones g.O.Operation.merge g.B.BitBlock.width
+    (map g.B.BitBlock.number c.args.blocks.now) (map g.B.BitBlock.number c.args.others.now) 0
+    ((c.loop-first.first + c.min-count.result) * g.B.BitBlock.width)
 counted g c =
     let w = g.B.BitBlock.width in
     let first = c.loop-first.first in
@@ -68,7 +70,9 @@ ones_of_chunks-requires-clause-in_blocks g c =
 
 -- with those of the chunks that are left
 all : (g : _) (c : After-ones_of_chunks g) → c.loop-first.first ≤ c.block_count-end.result
-    → c.loop-first.ones + c.ones_of_chunks.result ≡ merged_ones g.O.Operation.merge g.B.BitBlock.width (map g.B.BitBlock.number c.args.blocks.now) (map g.B.BitBlock.number c.args.others.now) 0 (c.block_count-end.result * g.B.BitBlock.width)
+    → c.loop-first.ones + c.ones_of_chunks.result ≡ merged_ones g.O.Operation.merge g.B.BitBlock.width
+    (map g.B.BitBlock.number c.args.blocks.now) (map g.B.BitBlock.number c.args.others.now) 0
+    (c.block_count-end.result * g.B.BitBlock.width)
 all g c le =
     let w = g.B.BitBlock.width in
     merged_more g.O.Operation.merge w _ _ 0 (c.loop-first.first * w) (c.block_count-end.result * w) _ _ (omega arith) (mul-le-mul_right w le) c.loop-first.invariant.counted

@@ -1,4 +1,4 @@
-use Rattle.std.proofs.Common.{◌≡◌, ◌≢◌, ◌+◌, ◌<◌, ◌∙◌, map, get_or, sym, ap, ap₂, arith, ⊎_elim}
+use Rattle.std.proofs.Common.{◌≡◌, ◌≢◌, ◌∙◌, sym, ap, ap₂, arith, ⊎_elim}
 use Rattle.std.proofs.lemmas.Bool.{cases_eq}
 use Rattle.bit_blocks.{specs.Digits.is_one, proofs.{CompareLemmas.digit_from_zero, Masks.is_one-zero, UseLemmas.zero_from_unused}}
 use Rattle.bit_words.specs.MergedOnes.{may_merge}

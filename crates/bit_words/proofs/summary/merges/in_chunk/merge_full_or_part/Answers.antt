@@ -15,7 +15,8 @@ merge_whole-requires-clause-in_others g c = omega (arith, begin c.args.q _ _ c.b
 pub returns-clause-has : goal.returns-clause-has
 returns-clause-has g c =
     let at = begin c.args.q _ _ c.bits-width.ensures in
-    merged_past _ g.B.BitBlock.width _ _ _ _ _ _ _ _ (omega (arith, at, c.bits-width.ensures)) (λ less. omega (arith, at, less, c.bits-width.ensures)) c.requires.can.fewer (rw at at c.merge_any_between.ensures.has)
+    merged_past _ g.B.BitBlock.width _ _ _ _ _ _ _ _ (omega (arith, at, c.bits-width.ensures))
+    (λ less. omega (arith, at, less, c.bits-width.ensures)) c.requires.can.fewer (rw at at c.merge_any_between.ensures.has)
 
 pub returns-clause-digits : goal.returns-clause-digits
 returns-clause-digits g c = rw (begin c.args.q _ _ c.bits-width.ensures) at c.used_from.ensures.digits

@@ -22,5 +22,8 @@ returns-then-not-is_short-clause-summary g c =
     let many = c.is_short.ensures.long c.if-not-is_short.true in
     let long : short_count w < length c.args.blocks.now = omega (arith, many, c.merge_full_or_part-digits.ensures.has.len) in
     keeps_all _ _ _ _ _ many
-    (chunk_summary _ w c.args.q _ _ _ _ _ _ _ _ g.met.B.BitBlock.width_law.positive c.merge_full_or_part-digits.ensures.has (c.requires.summary.long long) (inside g (goal.at.returns-then-not-is_short-clause-summary g c).After-is_short long) c.put_in.ensures.numbers c.put_in.ensures.each c.put_in.ensures.len
+    (chunk_summary _ w c.args.q _ _ _ _ _ _ _ _ g.met.B.BitBlock.width_law.positive
+    c.merge_full_or_part-digits.ensures.has (c.requires.summary.long long)
+    (inside g (goal.at.returns-then-not-is_short-clause-summary g c).After-is_short long) c.put_in.ensures.numbers
+    c.put_in.ensures.each c.put_in.ensures.len
     c.merge_full_or_part-digits.ensures.digits)

@@ -8,7 +8,10 @@ invariant-loop-others g l = record {
   of_left : g.B.BitBlock.is_block l.left;
   inside : (p : ℕ) → p < g.B.BitBlock.width → is_one (g.B.BitBlock.number l.left) p ≡ true → l.q * g.B.BitBlock.width + p < length l.blocks;
   stay : (p j : ℕ) → p < g.B.BitBlock.width → j < g.B.BitBlock.width → is_one (g.B.BitBlock.number l.left) p ≡ false
-      → is_one (get_or (map g.B.BitBlock.number l.blocks) (l.q * g.B.BitBlock.width + p) 0) j ≡ merge_of_values g.O.Operation.merge (is_one (get_or (map g.B.BitBlock.number l.blocks) (l.q * g.B.BitBlock.width + p) 0) j) (g.S.Others.digit l.others (l.q * g.B.BitBlock.width + p) j);
+      → is_one (get_or (map g.B.BitBlock.number l.blocks)
+      (l.q * g.B.BitBlock.width + p) 0) j ≡ merge_of_values g.O.Operation.merge
+      (is_one (get_or (map g.B.BitBlock.number l.blocks) (l.q * g.B.BitBlock.width + p) 0) j)
+      (g.S.Others.digit l.others (l.q * g.B.BitBlock.width + p) j);
 }
 
 abbrev pub decreases-loop-others : goal.decreases-loop-others

@@ -1,9 +1,10 @@
-use Rattle.std.proofs.Common.{◌≡◌, ◌+◌, ◌*◌, ◌<◌, ◌∙◌, ◌==◌, true, not, sym, ap, arith}
+use Rattle.std.proofs.Common.{◌≡◌, ◌∙◌, ◌==◌, not, ap, arith}
 use Rattle.bit_words.proofs.TouchedLemmas.{fewer_ones, partly_all, partly_more, partly_none}
 use Rattle.bit_words.proofs.summary.merges.touched.merge_touched.Goals as goal
 
 pub loop-others-init : goal.loop-others-init
-loop-others-init g c = record { of_left = c.requires.of_touched; of_digits = c.requires.of_own; partly = partly_none _ _ _ _ _ _ _ _ _ c.requires.can.each c.requires.says c.requires.within c.requires.kept }
+loop-others-init g
+    c = record { of_left = c.requires.of_touched; of_digits = c.requires.of_own; partly = partly_none _ _ _ _ _ _ _ _ _ c.requires.can.each c.requires.says c.requires.within c.requires.kept }
 
 pub loop-others-smaller : goal.loop-others-smaller
 loop-others-smaller g c =
@@ -18,7 +19,9 @@ loop-others-preserved g c =
     record {
       of_left = taken.of_block;
       of_digits = c.with_bit-digits.ensures.of_block;
-      partly = partly_more _ _ _ _ c.args.q _ _ _ _ _ _ _ _ _ taken.within taken.lowest taken.cleared (rw c.bits.ensures at merged.has) (rw c.bits.ensures at used) c.with_bit-digits.ensures.others c.loop-others.invariant.partly;
+      partly = partly_more _ _ _ _ c.args.q _ _ _ _ _ _ _ _ _ taken.within taken.lowest taken.cleared
+          (rw c.bits.ensures at merged.has) (rw c.bits.ensures at used) c.with_bit-digits.ensures.others
+          c.loop-others.invariant.partly;
     }
 
 pub returns-clause-has : goal.returns-clause-has

@@ -1,4 +1,4 @@
--- What a call returns that tells whether it changed a set, in the words of each operation, and how many elements there are
+-- What a call returns that reports whether it changed a set, in the words of each operation, and how many elements there are
 -- then.
 use Rattle.std.proofs.Common.{length-take, ◌≡◌, ℕ, ◌+◌, ◌≤◌, ◌↔◌, ◌-◌, ◌++◌, max, replicate, length-append, Bool, true, false, not, cond, List, [], ◌∷◌, filter, length, take, refl, sym, ap, ◌∙◌}
 use Rattle.std.proofs.Common.{arith, ⊎_elim, Result, Ok, Err, get_or-take}
@@ -12,42 +12,42 @@ use Rattle.bit_set.proofs.{SizeLemmas.{has-those_new, length-put_all}, SubsetLem
 
 -- ---- a call that succeeded
 
--- what it told, in other words
-pub told_as : {E : Type 0} (s t new : List ℕ) (kept : Bool) (r : Result Bool E) → OnOk r (new ≡ t)
+-- what it reported, in other words
+pub reported_as : {E : Type 0} (s t new : List ℕ) (kept : Bool) (r : Result Bool E) → OnOk r (new ≡ t)
     → IfOk r (λ changed. changed ≡ not (same_sets s new)) → same_sets s t ≡ kept → IfOk r (λ changed. changed ≡ not kept)
-told_as s t new kept (Ok changed) made tells same = tells ∙ ap (λ u. not (same_sets s u)) made ∙ ap not same
-told_as s t new kept (Err fault) made tells same = tt
+reported_as s t new kept (Ok changed) made tells same = tells ∙ ap (λ u. not (same_sets s u)) made ∙ ap not same
+reported_as s t new kept (Err fault) made tells same = tt
 
 -- how many there are more, and how many fewer
-pub told_more : {E : Type 0} (s t new : List ℕ) (kept : Bool) (r : Result Bool E) → OnOk r (new ≡ t) → IfOk r (λ changed. changed ≡ not (same_sets s new))
+pub reported_more : {E : Type 0} (s t new : List ℕ) (kept : Bool) (r : Result Bool E) → OnOk r (new ≡ t) → IfOk r (λ changed. changed ≡ not (same_sets s new))
     → same_sets s t ≡ kept → length s + cond (not kept) 1 0 ≤ length t → IfOk r (λ changed. length s + cond changed 1 0 ≤ length new)
-told_more s t new kept (Ok changed) made tells same more = rw (tells ∙ ap (λ u. not (same_sets s u)) made ∙ ap not same, made) more
-told_more s t new kept (Err fault) made tells same more = tt
+reported_more s t new kept (Ok changed) made tells same more = rw (tells ∙ ap (λ u. not (same_sets s u)) made ∙ ap not same, made) more
+reported_more s t new kept (Err fault) made tells same more = tt
 
-pub told_fewer : {E : Type 0} (s t new : List ℕ) (kept : Bool) (r : Result Bool E) → OnOk r (new ≡ t) → IfOk r (λ changed. changed ≡ not (same_sets s new))
+pub reported_fewer : {E : Type 0} (s t new : List ℕ) (kept : Bool) (r : Result Bool E) → OnOk r (new ≡ t) → IfOk r (λ changed. changed ≡ not (same_sets s new))
     → same_sets s t ≡ kept → length t + cond (not kept) 1 0 ≤ length s → IfOk r (λ changed. length new + cond changed 1 0 ≤ length s)
-told_fewer s t new kept (Ok changed) made tells same fewer = rw (tells ∙ ap (λ u. not (same_sets s u)) made ∙ ap not same, made) fewer
-told_fewer s t new kept (Err fault) made tells same fewer = tt
+reported_fewer s t new kept (Ok changed) made tells same fewer = rw (tells ∙ ap (λ u. not (same_sets s u)) made ∙ ap not same, made) fewer
+reported_fewer s t new kept (Err fault) made tells same fewer = tt
 
--- what was told of lists of one length is so of their sets
-pub told_of_lists : (old mid new : List Bool) (changed : Bool) → elements mid ≡ elements old → length new ≡ length mid
+-- what was reported of lists of one length is so of their sets
+pub reported_of_lists : (old mid new : List Bool) (changed : Bool) → elements mid ≡ elements old → length new ≡ length mid
     → ((changed ≡ false) ↔ (new ≡ mid)) → changed ≡ not (same_sets (elements old) (elements new))
-told_of_lists old mid new changed same long tells =
+reported_of_lists old mid new changed same long tells =
     let lists = bytes_decides (elements old) (elements new) in
     let back : elements old ≡ elements new → changed ≡ false = λ e. tells.1 (same_values new mid (sym e ∙ sym same) long) in
     let there : changed ≡ false → elements old ≡ elements new = λ h. sym same ∙ ap elements (sym (tells.0 h)) in
     grind arith
 
 -- lengthened with false, and then changed in place
-pub told_of_lengthened : (old mid new : List Bool) (len : ℕ) (changed : Bool) → mid ≡ old ++ replicate (len - length old) false
+pub reported_of_lengthened : (old mid new : List Bool) (len : ℕ) (changed : Bool) → mid ≡ old ++ replicate (len - length old) false
     → length new ≡ max (length old) len → ((changed ≡ false) ↔ (new ≡ mid)) → changed ≡ not (same_sets (elements old) (elements new))
-told_of_lengthened old mid new len changed is long tells =
-    told_of_lists old mid new changed (ap elements is ∙ elements-padded old (len - length old))
+reported_of_lengthened old mid new len changed is long tells =
+    reported_of_lists old mid new changed (ap elements is ∙ elements-padded old (len - length old))
     (omega (arith, long, ap length is, length-append old (replicate (len - length old) false), length-replicate (len - length old) false)) tells
 
--- and where no change was told of there was none
-pub told_unchanged : (s t : List ℕ) (changed : Bool) → changed ≡ not (same_sets s t) → changed ≡ false → t ≡ s
-told_unchanged s t changed tells none = let lists = bytes_decides s t in grind arith
+-- and where no change was reported there was none
+pub reported_unchanged : (s t : List ℕ) (changed : Bool) → changed ≡ not (same_sets s t) → changed ≡ false → t ≡ s
+reported_unchanged s t changed tells none = let lists = bytes_decides s t in grind arith
 
 -- ---- whether a set stays
 
@@ -83,7 +83,7 @@ symmetric_kept s t up =
 
 -- ---- how many there are
 
--- one at least where it is told
+-- one at least where it is reported
 some_told : (xs : List ℕ) (b : Bool) → (xs ≡ [] → b ≡ true) → cond (not b) 1 0 ≤ length xs
 some_told [] b none = let all = none refl in grind arith
 some_told (x ∷ xs) b none = grind arith

@@ -8,7 +8,7 @@ use bit_set::{BitBlock, BitSet};
 use std::alloc::{AllocError, Global};
 
 #[derive(Clone, Copy)]
-enum Noted {
+enum Reporting {
     Union,
     Intersection,
     Difference,
@@ -18,12 +18,12 @@ enum Noted {
     CopyDifference,
 }
 
-const ROWS: &[Row<OnSets<Noted>>] = &[
+const ROWS: &[Row<OnSets<Reporting>>] = &[
     Row {
         name: "union_changes",
         asks: &[Ask::Grown(5001)],
         call: OnSets {
-            call: Noted::Union,
+            call: Reporting::Union,
             capacity: Capacity::Short,
             returned: State::Of(&[3, 7, 447, 5000], 5001),
             lent: LENT,
@@ -34,7 +34,7 @@ const ROWS: &[Row<OnSets<Noted>>] = &[
         name: "union_changes_within",
         asks: &[],
         call: OnSets {
-            call: Noted::Union,
+            call: Reporting::Union,
             capacity: Capacity::Ample,
             returned: State::Of(&[3, 7, 447, 5000], 5001),
             lent: LENT,
@@ -45,7 +45,7 @@ const ROWS: &[Row<OnSets<Noted>>] = &[
         name: "intersection_changes",
         asks: &[Ask::Grown(5001)],
         call: OnSets {
-            call: Noted::Intersection,
+            call: Reporting::Intersection,
             capacity: Capacity::Short,
             returned: State::Of(&[3], 5001),
             lent: LENT,
@@ -56,7 +56,7 @@ const ROWS: &[Row<OnSets<Noted>>] = &[
         name: "difference_changes",
         asks: &[Ask::Grown(5001)],
         call: OnSets {
-            call: Noted::Difference,
+            call: Reporting::Difference,
             capacity: Capacity::Short,
             returned: State::Of(&[447], 5001),
             lent: LENT,
@@ -67,7 +67,7 @@ const ROWS: &[Row<OnSets<Noted>>] = &[
         name: "symmetric_difference_changes",
         asks: &[Ask::Grown(5001)],
         call: OnSets {
-            call: Noted::Symmetric,
+            call: Reporting::Symmetric,
             capacity: Capacity::Short,
             returned: State::Of(&[7, 447, 5000], 5001),
             lent: LENT,
@@ -78,7 +78,7 @@ const ROWS: &[Row<OnSets<Noted>>] = &[
         name: "union_with_difference",
         asks: &[Ask::Grown(5001)],
         call: OnSets {
-            call: Noted::UnionWithDifference,
+            call: Reporting::UnionWithDifference,
             capacity: Capacity::Short,
             returned: State::Of(&[3, 7, 447, 5000], 5001),
             lent: LENT,
@@ -89,7 +89,7 @@ const ROWS: &[Row<OnSets<Noted>>] = &[
         name: "union_with_difference_within",
         asks: &[],
         call: OnSets {
-            call: Noted::UnionWithDifference,
+            call: Reporting::UnionWithDifference,
             capacity: Capacity::Ample,
             returned: State::Of(&[3, 7, 447, 5000], 5001),
             lent: LENT,
@@ -100,7 +100,7 @@ const ROWS: &[Row<OnSets<Noted>>] = &[
         name: "union_with_intersection",
         asks: &[Ask::Grown(5001)],
         call: OnSets {
-            call: Noted::UnionWithIntersection,
+            call: Reporting::UnionWithIntersection,
             capacity: Capacity::Short,
             returned: State::Of(&[3, 7, 447, 5000], 5001),
             lent: LENT,
@@ -111,7 +111,7 @@ const ROWS: &[Row<OnSets<Noted>>] = &[
         name: "copy_difference",
         asks: &[Ask::Grown(5001)],
         call: OnSets {
-            call: Noted::CopyDifference,
+            call: Reporting::CopyDifference,
             capacity: Capacity::Short,
             returned: LENT,
             lent: LENT,
@@ -123,22 +123,25 @@ const ROWS: &[Row<OnSets<Noted>>] = &[
 // Each call changes the set.
 fn changed_by<B: BitBlock>(
     alloc: Global,
-    call: Noted,
+    call: Reporting,
     set: &mut BitSet<B>,
     lent: &BitSet<B>,
 ) -> Result<bool, AllocError> {
     match call {
-        Noted::Union => set.union_changes(lent),
-        Noted::Intersection => set.intersection_changes(lent),
-        Noted::Difference => set.difference_changes(lent),
-        Noted::Symmetric => set.symmetric_difference_changes(lent),
-        Noted::UnionWithDifference => set.union_with_difference(lent, &BitSet::new_general(alloc)),
-        Noted::UnionWithIntersection => set.union_with_intersection(lent, lent),
-        Noted::CopyDifference => set.copy_difference(lent, &BitSet::new_general(alloc)),
+        Reporting::Union => set.union_changes(lent),
+        Reporting::Intersection => set.intersection_changes(lent),
+        Reporting::Difference => set.difference_changes(lent),
+        Reporting::Symmetric => set.symmetric_difference_changes(lent),
+        Reporting::UnionWithDifference => set.union_with_difference(
+            lent,
+            &BitSet::new_general(alloc),
+        ),
+        Reporting::UnionWithIntersection => set.union_with_intersection(lent, lent),
+        Reporting::CopyDifference => set.copy_difference(lent, &BitSet::new_general(alloc)),
     }
 }
 
-impl<B: BitBlock> Call<B> for Noted {
+impl<B: BitBlock> Call<B> for Reporting {
     fn make(self, alloc: Global, sets: &mut Sets<B>) -> Result<bool, Fault> {
         Ok(changed_by(alloc, self, &mut sets.set, &sets.lent)?)
     }
@@ -146,5 +149,5 @@ impl<B: BitBlock> Call<B> for Noted {
 
 /// Makes these calls.
 pub fn all<B: BitBlock>(sweep: &mut Sweep<'_>) {
-    sweep.over::<OnSets<Noted>, Sets<B>>(ROWS);
+    sweep.over::<OnSets<Reporting>, Sets<B>>(ROWS);
 }
