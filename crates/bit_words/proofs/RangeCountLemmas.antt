@@ -1,8 +1,13 @@
--- The ones of whole chunks of a list, by the part of its summary that is about them.
-use Rattle.std.proofs.Common.{◌≡◌, ℕ, ◌+◌, ◌-◌, ◌*◌, ◌/◌, ◌%◌, ◌^◌, ◌<◌, ◌≤◌, ◌==◌, not, List, map, take, drop, length, get_or, sym, ap, ◌∙◌, arith, div-add-mod', div-lt_iff_lt-mul, div-mul-le_self, le_of_mul-le-mul_right, mod-lt, mul-le-mul_right}
+-- The ones of whole chunks of a list, and whether there are any, by the part of its summary that is about them.
+use Rattle.std.proofs.Common.{◌≡◌, ℕ, ◌+◌, ◌-◌, ◌*◌, ◌/◌, ◌%◌, ◌^◌, ◌<◌, ◌≤◌, ◌↔◌, ◌==◌, false, not, List, map, take, drop, length, get_or, All, sym, ap, ◌∙◌, ⊎_elim, arith}
+use Rattle.std.proofs.Common.{div-add-mod', div-lt_iff_lt-mul, div-mul-le_self, le_of_mul-le-mul_right, length-take, mod-lt, mul-le-mul_right}
+use Rattle.std.proofs.lemmas.{Bool.cases_lt, Nat.le-div, List.{get_or_past, length-map}}
 use Rattle.std.specs.List.{count_by, range_with_len}
-use Rattle.bit_blocks.specs.{Bits.blocks_for, Digits.is_one, Storage.{is_used, ones_in, value_at}}
-use Rattle.bit_blocks.proofs.{BitsLemmas.blocks_for-enough, SpanCountLemmas.{count-le, ones_of_blocks}, StorageLemmas.{value_at-index, value_at-is}, ZeroLemmas.{dropped, front_read}}
+use Rattle.bit_blocks.specs.{Bits.blocks_for, BlockMerges.MergesSpanToFalse, Digits.is_one, Storage.{is_used, ones_in, value_at}}
+use Rattle.bit_blocks.specs.declared.block.merge.Merge.TheVariants.{Intersection}
+use Rattle.bit_blocks.proofs.{BitsLemmas.blocks_for-enough, SpanCountLemmas.{count-le, ones_of_blocks}, StorageLemmas.{value_at-index, value_at-is}, ZeroLemmas.{all_zero, dropped, front_read}}
+use Rattle.bit_blocks.proofs.{CompareLemmas.zero_from_digits, Masks.is_one-zero, UseLemmas.unused_from_false, VectorLemmas.{all_zero_map, numbers_below}}
+use Rattle.bit_words.proofs.SummaryZeros.{zero_from_chunk}
 use Rattle.bit_words.specs.Summary.{IsSummary}
 
 -- a list that has so many chunks whole has as many blocks of a summary
@@ -64,3 +69,56 @@ chunk_begins w n q r block chunk =
     let in_block : q * w ≤ n = omega (arith, div-mul-le_self n w, ap (λ k. k * w) block) in
     let in_chunk : r * w ≤ q = omega (arith, div-mul-le_self q w, ap (λ k. k * w) chunk) in
     omega (arith, in_block, mul-le-mul_right w in_chunk)
+
+module _ {X : Type 0} (w first end : ℕ) (number : X → ℕ) (is_block : X → Type 0) (below : (x : X) → is_block x → number x < 2 ^ w) (pos : 0 < w) (xs ss ts : List X)
+    (each : All is_block xs) (summary : IsSummary w number is_block xs ss) (own : ts ≡ take (end - first) (drop first ss)) where
+  read_own : (k : ℕ) → k < end - first → get_or (map number ts) k 0 ≡ get_or (map number ss) (first + k) 0
+  read_own k within =
+      ap (λ zs. get_or (map number zs) k 0) own ∙ front_read w number is_block (drop first ss) (end - first) k within ∙ dropped number first k ss
+
+  -- the part of the summary is 0 where the chunks are
+  pub zero_chunks : All (λ x. number x ≡ 0) ts ↔ ((i : ℕ) → first * w * w ≤ i → i < end * w * w → value_at w (map number xs) i ≡ false)
+  zero_chunks = (
+    λ none i reached before.
+        let chunk : first ≤ i / w / w = le-div first (i / w) w pos (le-div (first * w) i w pos reached) in
+        let within : i / w / w < end = (div-lt_iff_lt-mul pos).1 ((div-lt_iff_lt-mul pos).1 before) in
+        let place : first + (i / w / w - first) ≡ i / w / w = omega (arith, chunk) in
+        let zero : get_or (map number ss) (i / w / w) 0 ≡ 0 =
+        rw place at (sym (read_own (i / w / w - first) (omega (arith, chunk, within)))) ∙ all_zero_map number ts none (i / w / w - first) in
+        value_at-is w (map number xs) i
+        ∙ ap (λ m. is_one m (i % w)) (zero_from_chunk w number is_block xs ss summary (i / w) zero)
+        ∙ is_one-zero (i % w),
+    λ falses. all_zero w number is_block ts (λ k.
+        ⊎_elim
+        (λ within.
+        read_own k within
+        ∙ zero_from_digits w (get_or (map number ss) (first + k) 0) (numbers_below w number is_block ss below summary.packed.each (first + k)) (λ j index.
+        let block = (first + k) * w + j in
+        let small = numbers_below w number is_block xs below each block in
+        sym (value_at-index w (map number ss) (first + k) j index)
+        ∙ summary.digit block
+        ∙ unused_from_false w (map number xs) block small (λ p bit.
+        let row = mul-le-mul_right w (let l : j + 1 ≤ w = omega arith in l) in
+        let all = mul-le-mul_right w (mul-le-mul_right w (let l : first + k + 1 ≤ end = omega arith in l)) in
+        falses (block * w + p) (omega arith) (omega (arith, row, all)))))
+        (λ past. get_or_past (map number ts) k 0 (omega (arith, past, ap length own, length-take (end - first) (drop first ss), length-map ts number)))
+        (cases_lt k (end - first))),
+  )
+
+-- a span that has no 1 before the chunks, in them and past them
+pub zero_parts : (w a from to b : ℕ) (ms : List ℕ) → MergesSpanToFalse Intersection w a from ms → ((i : ℕ) → from ≤ i → i < to → value_at w ms i ≡ false)
+    → MergesSpanToFalse Intersection w to b ms → MergesSpanToFalse Intersection w a b ms
+zero_parts w a from to b ms first middle last = record {
+  value = λ i reached below.
+      ⊎_elim
+      (first.value i reached)
+      (λ past. ⊎_elim (λ inside. grind (arith, middle i past inside)) (λ beyond. last.value i beyond below) (cases_lt i to))
+      (cases_lt i from);
+}
+
+-- a span within one that has none
+pub zero_within : (w a b c d : ℕ) (ms : List ℕ) → a ≤ c → d ≤ b → MergesSpanToFalse Intersection w a b ms → MergesSpanToFalse Intersection w c d ms
+zero_within w a b c d ms begun ended zero = record { value = λ i reached below. zero.value i (omega (arith, begun, reached)) (omega (arith, below, ended)) }
+
+pub none_within : (w a b c d : ℕ) (ms : List ℕ) → a ≤ c → d ≤ b → MergesSpanToFalse Intersection w a b ms → (i : ℕ) → c ≤ i → i < d → value_at w ms i ≡ false
+none_within w a b c d ms begun ended zero i reached below = grind (arith, zero.value i (omega (arith, begun, reached)) (omega (arith, below, ended)))

@@ -25,7 +25,7 @@ pub(crate) mod counts;
 pub(crate) mod inclusion;
 pub(crate) mod merges;
 pub(crate) mod queries;
-pub(crate) mod range_counts;
+pub(crate) mod range_queries;
 pub(crate) mod remaking;
 pub(crate) mod searching;
 pub(crate) mod shared_capacity;

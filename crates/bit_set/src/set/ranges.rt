@@ -112,7 +112,8 @@ impl<B: BitBlock> BitSet<B> {
         self.bits.all_in_range(range)
     }
 
-    /// Whether a number of the range is in. Reads blocks of the range up to the first that has one.
+    /// Whether a number of the range is in. Reads blocks of the range up to the first that has one; of a long range it passes
+    /// over zero blocks by the summary.
     pub fn contains_any_in_range(&self, range: Range<usize>) -> bool
         ensures returned { result ≡ not (is_disjoint (span range.start range.end) (elements self.now.values)) }
         ensures members { (result ≡ false) ↔ ((n : ℕ) → range.start ≤ n → n < range.end

@@ -3,10 +3,10 @@ ghost use Rattle.std.specs.{Prelude.{◌≡◌, ◌≢◌, ℕ, ◌<◌, ◌≤�
 ghost use Rattle.bit_blocks.specs.Ranges.{changed_in_range, values_in_range};
 
 use crate::bit_vec::BitVec;
-use crate::summary::range_counts::ones_in_range;
+use crate::summary::range_queries::{ones_in_range, range_is_zero};
 use crate::summary::spans::{fill_span, negate_span};
 use bit_blocks::block::BitBlock;
-use bit_blocks::block::operation::{Difference, Intersection, Union};
+use bit_blocks::block::operation::{Difference, Union};
 use bit_blocks::packed::span_queries::span_merges_to_false;
 use std::ops::Range;
 
@@ -74,7 +74,8 @@ impl<B: BitBlock> BitVec<B> {
         span_merges_to_false::<B, Difference>(&self.blocks, range.start, range.end)
     }
 
-    /// Whether an index in the range has a true value. Reads blocks of the range up to the first that has one there.
+    /// Whether an index in the range has a true value. Reads blocks of the range up to the first that has one there; of a long
+    /// range it passes over zero blocks by the summary.
     pub fn any_in_range(&self, range: Range<usize>) -> bool
         ensures { (result ≡ false)
             ↔ ((i : ℕ) → range.start ≤ i → i < range.end → slice_get self.now.values i ≢ Some true) }
@@ -83,6 +84,6 @@ impl<B: BitBlock> BitVec<B> {
         if range.start >= end {
             return false;
         }
-        !span_merges_to_false::<B, Intersection>(&self.blocks, range.start, end)
+        !range_is_zero(&self.blocks, &self.summary, range.start, end)
     }
 }

@@ -11,19 +11,19 @@ was : (b : Bool) → not b ≡ false → b ≡ true
 was true _ = refl
 was false known = sym known
 
-pub span_merges_to_false-requires : goal.span_merges_to_false-requires
-span_merges_to_false-requires g c =
+pub range_is_zero-requires : goal.range_is_zero-requires
+range_is_zero-requires g c =
     let whole = ap (λ n. n * g.B.BitBlock.width) c.self.invariant.packed.count in
-    rw c.deref.ensures.value (record {
+    rw (c.deref.ensures.value, c.deref-2.ensures.value) (record {
       some = c.if-range-end.false;
       within = omega (arith, blocks_for-enough g.B.BitBlock.width c.self.inside.len g.met.B.BitBlock.width_law.positive, whole, c.min-end.ensures);
       each = c.self.invariant.packed.each;
-      nothing = refl;
+      summary = c.self.invariant.summary;
     })
 
 pub returns : goal.returns
 returns g c =
-    let zero : IsTrue c.span_merges_to_false.result ↔ MergesSpanToFalse Intersection g.B.BitBlock.width c.args.range.start c.min-end.result
-    (map g.B.BitBlock.number c.self.inside.blocks.items) = rw c.deref.ensures.value at c.span_merges_to_false.ensures in
+    let zero : IsTrue c.range_is_zero.result ↔ MergesSpanToFalse Intersection g.B.BitBlock.width c.args.range.start c.min-end.result
+    (map g.B.BitBlock.number c.self.inside.blocks.items) = rw c.deref.ensures.value at c.range_is_zero.ensures in
     let none = none_in_view _ c.args.range.start c.args.range.end _ _ c.min-end.result _ _ c.self.view_is c.self.invariant.packed.tail c.min-end.ensures in
     (λ no. none.0 (zero.0 (was _ no)), λ each. ap not (zero.1 (none.1 each)))

@@ -1,5 +1,5 @@
 use Rattle.bit_words.proofs.RangeCountLemmas.{chunk_begins, past_chunk}
-use Rattle.bit_words.proofs.summary.range_counts.ones_in_range.Goals as goal
+use Rattle.bit_words.proofs.summary.range_queries.ones_in_range.Goals as goal
 
 pub ones_around_chunks-requires-clause-begun : goal.ones_around_chunks-requires-clause-begun
 ones_around_chunks-requires-clause-begun g c = past_chunk g.B.BitBlock.width c.args.start _ _ g.met.B.BitBlock.width_law.positive c.block_index.ensures c.block_index-first.ensures

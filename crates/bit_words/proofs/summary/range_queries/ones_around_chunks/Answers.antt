@@ -1,7 +1,7 @@
-use Rattle.std.{proofs.Common.{◌≡◌, ◌∙◌, ◌+◌, ◌-◌, ◌*◌, ◌≤◌, map, sym, ap, arith, mul-le-mul_right, le_of_mul-le-mul_right}, specs.List.{count_by, range_with_len}}
+use Rattle.std.{proofs.Common.{◌≡◌, ◌∙◌, ◌+◌, ◌-◌, ◌*◌, map, sym, ap, arith, mul-le-mul_right, le_of_mul-le-mul_right}, specs.List.{count_by, range_with_len}}
 use Rattle.bit_blocks.{specs.Storage.value_at, proofs.SpanCountLemmas.{count-le, count-parts}}
-use Rattle.bit_words.proofs.summary.range_counts.ones_around_chunks.{Given.Over, Goals.{After-ones_in_span, After-ones_of_whole_chunks}}
-use Rattle.bit_words.proofs.summary.range_counts.ones_around_chunks.Goals as goal
+use Rattle.bit_words.proofs.summary.range_queries.ones_around_chunks.{Given.Over, Goals.{After-ones_in_span, After-ones_of_whole_chunks}}
+use Rattle.bit_words.proofs.summary.range_queries.ones_around_chunks.Goals as goal
 
 -- those up to the end of the chunks
 begun : (g : Over) (c : After-ones_of_whole_chunks g) → c.ones_in_span-begun.result + c.ones_of_whole_chunks.result ≡ count_by (value_at g.B.BitBlock.width (map g.B.BitBlock.number c.args.blocks.now)) (range_with_len c.args.start (c.args.last * g.B.BitBlock.width * g.B.BitBlock.width - c.args.start))

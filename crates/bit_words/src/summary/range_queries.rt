@@ -1,13 +1,15 @@
-// How many ones a range of a long list has. Chunks of zeros are passed over by the summary.
-ghost use Rattle.std.specs.{Prelude.{◌≡◌, ℕ, ◌+◌, ◌-◌, ◌*◌, ◌/◌, ◌^◌, ◌<◌, ◌≤◌, All, length, map}, List.{count_by, range_with_len}};
-ghost use Rattle.bit_blocks.specs.Storage.{value_at};
+// How many ones a range of a long list has, and whether it has any. Chunks of zeros are passed over by the summary.
+ghost use Rattle.std.specs.{Prelude.{◌≡◌, ℕ, ◌+◌, ◌-◌, ◌*◌, ◌/◌, ◌^◌, ◌<◌, ◌≤◌, ◌↔◌, All, IsTrue, length, map}, List.{count_by, range_with_len}};
+ghost use Rattle.bit_blocks.specs.{BlockMerges.MergesSpanToFalse, Storage.value_at, declared.block.merge.Merge.Merge};
 ghost use Rattle.bit_words.specs.Summary.{IsStoredSummary, IsSummary};
 
 use crate::summary::is_short;
 use crate::summary::queries::{first_chunks, ones_of_runs};
 use bit_blocks::block::BitBlock;
+use bit_blocks::block::operation::Intersection;
 use bit_blocks::packed::access::block_index;
-use bit_blocks::packed::span_queries::ones_in_span;
+use bit_blocks::packed::span_queries::{ones_in_span, span_merges_to_false};
+use bit_blocks::packed::zeros::are_zero;
 
 // The ones of the chunks from `first` on and before `end`, which the list has as a whole.
 #[inline]
@@ -74,4 +76,60 @@ pub(crate) fn ones_in_range<B: BitBlock>(
         return ones_in_span(blocks, start, end);
     }
     ones_around_chunks(blocks, summary, start, first, last, end)
+}
+
+// Whether no bit from `start` on and below `end` is 1, where the chunks from `first` on and before `last` lie between these. It is
+// a call of its own, so that a short range saves no registers for it.
+#[inline(never)]
+fn are_zero_around_chunks<B: BitBlock>(
+    blocks: &[B],
+    summary: &[B],
+    start: usize,
+    first: usize,
+    last: usize,
+    end: usize,
+) -> bool
+    requires some { first ≤ last }
+    requires begun { start < first * B.width * B.width }
+    requires ended { last * B.width * B.width ≤ end }
+    requires within { end ≤ length blocks.now * B.width }
+    requires each { All B.is_block blocks.now }
+    requires summary { IsSummary B.width B.number B.is_block blocks.now summary.now }
+    ensures { IsTrue result ↔ MergesSpanToFalse Merge.Intersection B.width start end (map B.number blocks.now) }
+{
+    let width = B::bits();
+    let from = first * width * width;
+    let to = last * width * width;
+    if !span_merges_to_false::<B, Intersection>(blocks, start, from) {
+        return false;
+    }
+    if !are_zero(summary.split_at(first).1.split_at(last - first).0) {
+        return false;
+    }
+    if to == end {
+        return true;
+    }
+    span_merges_to_false::<B, Intersection>(blocks, to, end)
+}
+
+// Whether none of the bits from `start` on and below `end`, of which there are some, is 1. Stops at the first block that has one.
+#[inline]
+pub(crate) fn range_is_zero<B: BitBlock>(
+    blocks: &[B],
+    summary: &[B],
+    start: usize,
+    end: usize,
+) -> bool
+    requires some { start < end }
+    requires within { end ≤ length blocks.now * B.width }
+    requires each { All B.is_block blocks.now }
+    requires summary { IsStoredSummary B.width B.number B.is_block blocks.now summary.now }
+    ensures { IsTrue result ↔ MergesSpanToFalse Merge.Intersection B.width start end (map B.number blocks.now) }
+{
+    let first = block_index::<B>(block_index::<B>(start)) + 1;
+    let last = block_index::<B>(block_index::<B>(end));
+    if is_short::<B>(blocks.len()) || last <= first {
+        return span_merges_to_false::<B, Intersection>(blocks, start, end);
+    }
+    are_zero_around_chunks(blocks, summary, start, first, last, end)
 }

@@ -2,8 +2,8 @@ use Rattle.std.proofs.Common.{◌≡◌, ◌∙◌, ◌-◌, ◌*◌, ◌^◌, �
 use Rattle.std.proofs.lemmas.List.Elements.{All-same, All-take, All-drop}
 use Rattle.bit_blocks.proofs.VectorLemmas.{numbers_below}
 use Rattle.bit_words.proofs.RangeCountLemmas.{chunks_within, few_ones, ones_of_run, run_digit}
-use Rattle.bit_words.proofs.summary.range_counts.ones_of_whole_chunks.{Given.Over, Goals.{After-first_chunks-2, Start}}
-use Rattle.bit_words.proofs.summary.range_counts.ones_of_whole_chunks.Goals as goal
+use Rattle.bit_words.proofs.summary.range_queries.ones_of_whole_chunks.{Given.Over, Goals.{After-first_chunks-2, Start}}
+use Rattle.bit_words.proofs.summary.range_queries.ones_of_whole_chunks.Goals as goal
 
 -- the chunks, in one step
 run : (g : Over) (c : After-first_chunks-2 g) → c.first_chunks-2.result.0.now ≡ take ((c.args.end - c.args.first) * g.B.BitBlock.width) (drop (c.args.first * g.B.BitBlock.width) c.args.blocks.now)
