@@ -90,6 +90,8 @@ impl<B: BitBlock> BitSet<B> {
             ≡ symmetric_difference (elements self.old.values) (span range.start range.end)) }
         ensures members { OnOk result (UpdatesRange not (elements self.old.values) (elements self.new.values)
             range.start range.end) }
+        ensures count { OnOk result (length (those_in_range (elements self.new.values) range.start range.end)
+            + length (those_in_range (elements self.old.values) range.start range.end) ≡ range.end - range.start) }
         ensures length { OnOk result (length self.new.values
             ≡ max (length self.old.values) (span_end range.start range.end)) }
         ensures fails { IfErr result (λ fault. IsInsertFault fault (range.end - 1) self.old.capacity) }

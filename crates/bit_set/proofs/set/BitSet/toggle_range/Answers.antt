@@ -1,5 +1,5 @@
 use Rattle.std.proofs.Common.{not, refl}
-use Rattle.bit_set.proofs.{RangeLemmas.{toggled_range, members_changed}, SetLemmas.IsAscending-elements}
+use Rattle.bit_set.proofs.{RangeLemmas.{count_toggled, members_changed, toggled_range}, SetLemmas.IsAscending-elements}
 use Rattle.bit_set.specs.Changes.{Changes}
 use Rattle.bit_set.proofs.set.BitSet.toggle_range.Goals as goal
 
@@ -15,3 +15,7 @@ returns-clause-elements g c =
 pub returns-clause-changes : goal.returns-clause-changes
 unfolding Changes
 returns-clause-changes g c = (returns-clause-elements g c, refl)
+
+pub returns-clause-count : goal.returns-clause-count
+returns-clause-count g c =
+    count_toggled c.args.range.start c.args.range.end _ _ (IsAscending-elements c.args.self.now.values) (IsAscending-elements c.negate_range.new.self.values) (returns-clause-members g c)
