@@ -1,5 +1,5 @@
 // How many ones a range of a long list has, and whether it has any. Chunks of zeros are passed over by the summary.
-ghost use Rattle.std.specs.{Prelude.{◌≡◌, ℕ, ◌+◌, ◌-◌, ◌*◌, ◌/◌, ◌^◌, ◌<◌, ◌≤◌, ◌↔◌, All, IsTrue, length, map}, List.{count_by, range_with_len}};
+ghost use Rattle.std.specs.{Prelude.{◌≡◌, ◌+◌, ◌-◌, ◌*◌, ◌^◌, ◌<◌, ◌≤◌, ◌↔◌, All, IsTrue, length, map}, List.{count_by, range_with_len}};
 ghost use Rattle.bit_blocks.specs.{BlockMerges.MergesSpanToFalse, Storage.value_at, declared.block.merge.Merge.Merge};
 ghost use Rattle.bit_words.specs.Summary.{IsStoredSummary, IsSummary};
 

@@ -18,7 +18,9 @@ middle : (g : Over) (c : After-split_at-2 g) → All (λ block. g.B.BitBlock.num
     → value_at g.B.BitBlock.width (map g.B.BitBlock.number c.args.blocks.now) i ≡ false)
 middle g c =
     let part = c.split_at-2.ensures.front ∙ ap (take (c.args.last - c.args.first)) c.split_at.ensures.back in
-    zero_chunks g.B.BitBlock.width c.args.first c.args.last g.B.BitBlock.number g.B.BitBlock.is_block (λ x is. (g.met.B.BitBlock.number_law x is).0) g.met.B.BitBlock.width_law.positive c.args.blocks.now c.args.summary.now _ c.requires.each c.requires.summary part
+    zero_chunks g.B.BitBlock.width c.args.first c.args.last g.B.BitBlock.number g.B.BitBlock.is_block
+    (λ x is. (g.met.B.BitBlock.number_law x is).0) g.met.B.BitBlock.width_law.positive c.args.blocks.now c.args.summary.now _
+    c.requires.each c.requires.summary part
 
 pub span_merges_to_false-requires-clause-within : goal.span_merges_to_false-requires-clause-within
 span_merges_to_false-requires-clause-within g c =

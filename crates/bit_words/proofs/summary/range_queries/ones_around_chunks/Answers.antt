@@ -4,7 +4,10 @@ use Rattle.bit_words.proofs.summary.range_queries.ones_around_chunks.{Given.Over
 use Rattle.bit_words.proofs.summary.range_queries.ones_around_chunks.Goals as goal
 
 -- those up to the end of the chunks
-begun : (g : Over) (c : After-ones_of_whole_chunks g) → c.ones_in_span-begun.result + c.ones_of_whole_chunks.result ≡ count_by (value_at g.B.BitBlock.width (map g.B.BitBlock.number c.args.blocks.now)) (range_with_len c.args.start (c.args.last * g.B.BitBlock.width * g.B.BitBlock.width - c.args.start))
+begun : (g : Over) (c : After-ones_of_whole_chunks g)
+    → c.ones_in_span-begun.result + c.ones_of_whole_chunks.result ≡ count_by (value_at g.B.BitBlock.width
+    (map g.B.BitBlock.number c.args.blocks.now))
+    (range_with_len c.args.start (c.args.last * g.B.BitBlock.width * g.B.BitBlock.width - c.args.start))
 begun g c =
     let w = g.B.BitBlock.width in
     let f = value_at w (map g.B.BitBlock.number c.args.blocks.now) in
@@ -15,8 +18,11 @@ begun g c =
 
 -- all of them
 all : (g : Over) (c : After-ones_in_span g)
-    → c.ones_in_span-begun.result + c.ones_of_whole_chunks.result ≡ count_by (value_at g.B.BitBlock.width (map g.B.BitBlock.number c.args.blocks.now)) (range_with_len c.args.start (c.args.last * g.B.BitBlock.width * g.B.BitBlock.width - c.args.start))
-    → c.ones_in_span-begun.result + c.ones_of_whole_chunks.result + c.ones_in_span.result ≡ count_by (value_at g.B.BitBlock.width (map g.B.BitBlock.number c.args.blocks.now)) (range_with_len c.args.start (c.args.end - c.args.start))
+    → c.ones_in_span-begun.result + c.ones_of_whole_chunks.result ≡ count_by (value_at g.B.BitBlock.width
+    (map g.B.BitBlock.number c.args.blocks.now))
+    (range_with_len c.args.start (c.args.last * g.B.BitBlock.width * g.B.BitBlock.width - c.args.start))
+    → c.ones_in_span-begun.result + c.ones_of_whole_chunks.result + c.ones_in_span.result ≡ count_by (value_at g.B.BitBlock.width (map g.B.BitBlock.number c.args.blocks.now))
+    (range_with_len c.args.start (c.args.end - c.args.start))
 all g c before =
     let w = g.B.BitBlock.width in
     let f = value_at w (map g.B.BitBlock.number c.args.blocks.now) in

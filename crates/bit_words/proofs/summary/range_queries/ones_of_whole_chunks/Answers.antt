@@ -19,7 +19,8 @@ split_at-requires-2 g c =
 
 pub ones_of_runs-requires-clause-each : goal.ones_of_runs-requires-clause-each
 ones_of_runs-requires-clause-each g c =
-    All-same g.B.BitBlock.is_block _ _ (run g (goal.at.ones_of_runs-requires-clause-each g c).After-first_chunks-2) (All-take g.B.BitBlock.is_block _ _ (All-drop g.B.BitBlock.is_block _ _ c.requires.each))
+    All-same g.B.BitBlock.is_block _ _ (run g (goal.at.ones_of_runs-requires-clause-each g c).After-first_chunks-2)
+    (All-take g.B.BitBlock.is_block _ _ (All-drop g.B.BitBlock.is_block _ _ c.requires.each))
 
 pub ones_of_runs-requires-clause-summary : goal.ones_of_runs-requires-clause-summary
 ones_of_runs-requires-clause-summary g c =
@@ -43,4 +44,5 @@ ones_of_runs-requires-clause-fits g c =
 pub returns : goal.returns
 returns g c =
     let at = goal.at.returns g c in
-    c.ones_of_runs.ensures ∙ ones_of_run g.B.BitBlock.width c.args.first c.args.end _ g.B.BitBlock.is_block c.args.blocks.now _ c.requires.forward (run g at.After-first_chunks-2) (below g at.Start) c.requires.within
+    c.ones_of_runs.ensures ∙ ones_of_run g.B.BitBlock.width c.args.first c.args.end _ g.B.BitBlock.is_block c.args.blocks.now
+    _ c.requires.forward (run g at.After-first_chunks-2) (below g at.Start) c.requires.within
