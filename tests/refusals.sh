@@ -1,18 +1,19 @@
 #!/usr/bin/env bash
-# Runs the two built programs whose paths are given, `refusals` and `bitset`, with `shim.c` before the C library: each
-# call of the first with one request for memory after another failing, and held to the requests and bytes that its line
-# allows; and the second with that too, and with one read or write after another failing. What `bitset` must write is
-# said here, and not taken from it. The last line is 'N passed, M failed'.
+# Runs the three built programs whose paths are given, `refusals`, `roaring_refusals` and `bitset`, with `shim.c` before the
+# C library: each call of the first two with one request for memory after another failing, and held to the requests and
+# bytes that its line allows; and the third with that too, and with one read or write after another failing. What `bitset`
+# must write is said here, and not taken from it. The last line is 'N passed, M failed'.
 set -uo pipefail
 unset CDPATH
-if [ $# -ne 2 ]; then
-    echo 'usage: tests/refusals.sh REFUSALS BITSET' >&2
+if [ $# -ne 3 ]; then
+    echo 'usage: tests/refusals.sh REFUSALS ROARING_REFUSALS BITSET' >&2
     exit 2
 fi
 refusals="$(readlink -f "$1")"
-bitset="$(readlink -f "$2")"
+roaring_refusals="$(readlink -f "$2")"
+bitset="$(readlink -f "$3")"
 here="$(dirname "$(readlink -f "${BASH_SOURCE[0]}")")"
-stored="$(dirname "$here")/crates/refusals/stdout"
+crates="$(dirname "$here")/crates"
 # No run asks for memory so often.
 most=1000
 passed=0
@@ -40,7 +41,7 @@ if ! cc -O1 -shared -fPIC -o "$room/shim.so" "$here/shim.c"; then
     fail 'cc makes no library of tests/shim.c'
     finish
 fi
-for program in "$refusals" "$bitset"; do
+for program in "$refusals" "$roaring_refusals" "$bitset"; do
     if ! [ -x "$program" ]; then
         fail "there is no program $program"
         finish
@@ -86,16 +87,16 @@ judge() {
     return 1
 }
 
-# One call of the program `refusals`, which judges it: where all of the call's requests fail, and then one after another,
+# One call of a program like `refusals`, which judges it: where all of the call's requests fail, and then one after another,
 # and one past them. A call that takes no memory makes no request; any other fails where all do. Past its last request
 # none failed, and then it made no more than its line allows; one that fails may be made once more, with less. One of a
 # bit vector that may make two does make two, so that either of its growths fails alone; of few blocks no summary is
 # stored, and then it makes one.
 sweep() {
-    local type="$1" call="$2" most_requests="$3" most_bytes="$4" name="$1 $2" ending=failed n line
+    local program="$1" type="$2" call="$3" most_requests="$4" most_bytes="$5" name="$2 $3" ending=failed n line
     [ "$most_requests" -gt 0 ] || ending=returned
     for ((n = 0; n <= most; n++)); do
-        shimmed SHIM_CALL=1 SHIM_FAIL="$n" "$refusals" "$type" "$call"
+        shimmed SHIM_CALL=1 SHIM_FAIL="$n" "$program" "$type" "$call"
         line="$(< wrote)"
         if [ "$status" -ne 0 ] || [ -s said ]; then
             fail "$name: at request $n: status $status, '$line', and it said '$(< said)'"
@@ -122,20 +123,26 @@ sweep() {
     fi
 }
 
-known=0
-while read -r type call how; do
-    if [ "$how" = 'without memory: returned' ]; then
-        sweep "$type" "$call" 0 0
-    elif [[ "$how" =~ ^'requests<='([1-9][0-9]*)' bytes<='([0-9]+)': returned'$ ]]; then
-        sweep "$type" "$call" "${BASH_REMATCH[1]}" "${BASH_REMATCH[2]}"
-    else
-        fail "the stored run has a line '$type $call $how'"
-    fi
-    known=$((known + 1))
-done < "$stored"
-[ "$known" -gt 0 ] || fail 'the stored run has no calls'
-shimmed "$refusals"
-judge 'the stored run' 0 "$stored" '' 'requests > 0'
+# Each call of a program that its stored run has.
+sweep_all() {
+    local program="$1" stored="$2" known=0 type call how
+    while read -r type call how; do
+        if [ "$how" = 'without memory: returned' ]; then
+            sweep "$program" "$type" "$call" 0 0
+        elif [[ "$how" =~ ^'requests<='([1-9][0-9]*)' bytes<='([0-9]+)': returned'$ ]]; then
+            sweep "$program" "$type" "$call" "${BASH_REMATCH[1]}" "${BASH_REMATCH[2]}"
+        else
+            fail "$stored has a line '$type $call $how'"
+        fi
+        known=$((known + 1))
+    done < "$stored"
+    [ "$known" -gt 0 ] || fail "$stored has no calls"
+    shimmed "$program"
+    judge "all calls of $stored" 0 "$stored" '' 'requests > 0'
+}
+
+sweep_all "$refusals" "$crates/refusals/stdout"
+sweep_all "$roaring_refusals" "$crates/roaring_refusals/stdout"
 
 # The whole program, where one of its requests after another fails: then nothing is written.
 cat > short << 'END'

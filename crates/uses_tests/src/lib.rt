@@ -2,6 +2,8 @@
 #![tactic(auto)]
 
 #[cfg(test)]
+mod bitmap_tests;
+#[cfg(test)]
 mod bits_tests;
 #[cfg(test)]
 mod chains_tests;
