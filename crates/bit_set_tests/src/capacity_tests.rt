@@ -1,85 +1,13 @@
-//! Capacity and length, and the bit vector in hand: rows with their exact results.
+//! Capacity, and the bit vector in hand.
 ghost use Rattle.std.specs.Prelude.{◌≡◌, ◌<◌, ◌≤◌, All, IsOk, length, slice_set, true};
 
 use crate::expect::{expect, expect_eq, ok};
-use crate::sets::{set_of, set_of_bytes, unite};
-use crate::steps::{Step, has_just, take, take_new, take_of};
+use crate::sets::{set_of, set_of_bytes};
+use crate::steps::{Step, has_just, take_of};
 use bit_set::{BitBlock, BitSet, SetError};
 use block24::Block24;
 use std::alloc::Global;
 use std::process::Abort;
-
-// The length of the set of some numbers, and that once it is shrunk.
-fn has_lengths<B: BitBlock>(
-    rt: &impl Abort,
-    alloc: Global,
-    numbers: &[usize],
-    [before, after]: [usize; 2],
-) {
-    let steps = [Step::Len(before), Step::Shrink, Step::Len(after)];
-    take_of::<B>(rt, alloc, numbers, &steps);
-}
-
-#[test]
-fn a_shrunk_set_is_as_long_as_its_blocks(rt: HostRuntime) {
-    has_lengths::<u32>(&rt, rt.alloc(), &[3], [4, 32]);
-    has_lengths::<u8>(&rt, rt.alloc(), &[3], [4, 8]);
-    has_lengths::<u32>(&rt, rt.alloc(), &[40], [41, 64]);
-    has_lengths::<u8>(&rt, rt.alloc(), &[40], [41, 48]);
-    has_lengths::<Block24>(&rt, rt.alloc(), &[40], [41, 48]);
-    has_lengths::<u128>(&rt, rt.alloc(), &[3], [4, 128]);
-    has_lengths::<u32>(&rt, rt.alloc(), &[3, 98, 259], [260, 288]);
-}
-
-// The length of the set of some numbers without one of them, once it is shrunk.
-fn has_length_without<B: BitBlock>(
-    rt: &impl Abort,
-    alloc: Global,
-    (numbers, gone): (&[usize], usize),
-    len: usize,
-) {
-    let steps = [
-        Step::Shrink,
-        Step::Remove(gone, true),
-        Step::Shrink,
-        Step::Len(len),
-    ];
-    take_of::<B>(rt, alloc, numbers, &steps);
-}
-
-#[test]
-fn blocks_of_zeros_are_cut(rt: HostRuntime) {
-    has_length_without::<u32>(&rt, rt.alloc(), (&[3], 3), 0);
-    has_length_without::<u8>(&rt, rt.alloc(), (&[3], 3), 0);
-    has_length_without::<u32>(&rt, rt.alloc(), (&[3, 98, 259], 259), 128);
-}
-
-const REMOVED: &[Step] = &[
-    Step::IsEmpty(false),
-    Step::Remove(400, true),
-    Step::IsEmpty(true),
-    Step::Elements(&[]),
-    Step::Shrink,
-    Step::Len(0),
-];
-
-#[test]
-fn a_removed_element_leaves_nothing(rt: HostRuntime) {
-    take_of::<u32>(&rt, rt.alloc(), &[400], REMOVED);
-}
-
-// {3} has so many elements once it is shrunk and filled.
-fn fills<B: BitBlock>(rt: &impl Abort, alloc: Global, count: usize) {
-    let steps = [Step::Shrink, Step::Fill, Step::Count(count)];
-    take_of::<B>(rt, alloc, &[3], &steps);
-}
-
-#[test]
-fn a_fill_fills_whole_blocks(rt: HostRuntime) {
-    fills::<u8>(&rt, rt.alloc(), 8);
-    fills::<u64>(&rt, rt.alloc(), 64);
-    fills::<u128>(&rt, rt.alloc(), 128);
-}
 
 // Makes the bit vector true at 1: what is written through it is the set.
 fn raise_at_one<B: BitBlock>(set: &mut BitSet<B>)
@@ -110,84 +38,18 @@ fn the_bit_vector_is_handed_out(rt: HostRuntime) {
     expect_eq(&rt, &[bits.get(3), bits.get(4)], &[Some(true), None]);
 }
 
-#[test]
-fn the_bit_vector_of_a_union_is_handed_out(rt: HostRuntime) {
-    let mut set = set_of::<u32>(&rt, rt.alloc(), &[0, 3, 7]);
-    set.remove(7);
-    let byte = set_of_bytes(&rt, rt.alloc(), &[0b1101_0000]);
-    unite(&rt, &mut set, &byte);
-    expect_eq(&rt, &set.into_bit_vec().get(3), &Some(true));
-}
-
-const NEW: &[Step] = &[
-    Step::Capacity(0),
+const EXACTLY: &[Step] = &[
+    Step::ReserveExact(41),
+    Step::Capacity(48),
+    Step::Insert(40, true),
+    Step::Remove(40, true),
     Step::Shrink,
-    Step::Capacity(0),
-    Step::Insert(3, true),
-    Step::CapacityFrom(1),
-    Step::Shrink,
-    Step::CapacityFrom(1),
-    Step::Elements(&[3]),
-];
-
-#[test]
-fn a_new_set_has_no_capacity(rt: HostRuntime) {
-    take_new(&rt, rt.alloc(), NEW);
-}
-
-// {3, 98} with no more capacity than it takes has less than {3, 98, 259} had.
-const GIVEN_BACK: &[Step] = &[
-    Step::Shrink,
-    Step::Count(3),
-    Step::CapacityFrom(1),
-    Step::ShrinkWithout(259),
-    Step::Elements(&[3, 98]),
-    Step::MakeEmpty,
-    Step::Count(0),
-];
-
-#[test]
-fn capacity_is_given_back(rt: HostRuntime) {
-    take_of::<u32>(&rt, rt.alloc(), &[259, 98, 3], GIVEN_BACK);
-}
-
-const ALL_GIVEN_BACK: &[Step] = &[
-    Step::Shrink,
-    Step::Count(3),
-    Step::CapacityFrom(1),
-    Step::ShrinkWithout(259),
-    Step::MakeEmpty,
-    Step::Insert(512, true),
-    Step::Elements(&[512]),
-    Step::Remove(512, true),
-    Step::Shrink,
-    Step::IsEmpty(true),
     Step::Capacity(0),
 ];
 
 #[test]
-fn all_capacity_is_given_back_by_an_empty_set(rt: HostRuntime) {
-    take_of::<u32>(&rt, rt.alloc(), &[259, 98, 3], ALL_GIVEN_BACK);
-}
-
-// A new set has at least capacity for 41 once that is reserved, and this much once it is reserved exactly.
-fn reserves<B: BitBlock>(rt: &impl Abort, alloc: Global, exactly: usize) {
-    let mut set = BitSet::<B>::new_general(alloc);
-    take(rt, &mut set, &[Step::Reserve(41), Step::CapacityFrom(41)]);
-    let mut exact = BitSet::<B>::new_general(alloc);
-    let steps = [
-        Step::ReserveExact(41),
-        Step::ReserveExact(7),
-        Step::Capacity(exactly),
-    ];
-    take(rt, &mut exact, &steps);
-}
-
-#[test]
-fn capacity_is_reserved(rt: HostRuntime) {
-    reserves::<u8>(&rt, rt.alloc(), 48);
-    reserves::<Block24>(&rt, rt.alloc(), 48);
-    reserves::<u32>(&rt, rt.alloc(), 64);
+fn capacity_is_reserved_and_given_back(rt: HostRuntime) {
+    take_of::<Block24>(&rt, rt.alloc(), &[], EXACTLY);
 }
 
 const PAST_ALL_MEMORY: &[Step] = &[

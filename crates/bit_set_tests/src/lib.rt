@@ -8,8 +8,6 @@ mod capacity_tests;
 #[cfg(test)]
 mod expect;
 #[cfg(test)]
-mod hostile_tests;
-#[cfg(test)]
 mod json_tests;
 #[cfg(test)]
 mod order_tests;

@@ -2,8 +2,7 @@
 ghost use Rattle.std.specs.Prelude.{◌+◌, ◌*◌, ◌%◌, ◌^◌, fold};
 
 use crate::expect::{expect, expect_eq, expect_eq_at, ok};
-use crate::sets::{put, set_of, set_of_bytes, unite, with_capacity};
-use crate::steps::len_of;
+use crate::sets::{set_of, set_of_bytes};
 use bit_set::{BitBlock, BitSet};
 use block24::Block24;
 use std::alloc::Global;
@@ -42,7 +41,7 @@ impl Hasher for Recorder {
 }
 
 // How many writes a set feeds, and their bytes.
-pub(crate) fn feed<B: BitBlock>(set: &BitSet<B>) -> (u64, u128) {
+fn feed<B: BitBlock>(set: &BitSet<B>) -> (u64, u128) {
     let mut recorder = Recorder { calls: 0, bytes: 0 };
     set.hash(&mut recorder);
     (recorder.calls, recorder.bytes)
@@ -62,20 +61,11 @@ fn each_element_is_fed_once(rt: HostRuntime) {
     feeds_one_and_ten::<u128>(&rt, rt.alloc(), &[10, 1]);
 }
 
-// A set is shown as this.
-pub(crate) fn expect_shown<B: BitBlock>(
-    rt: &impl Abort,
-    alloc: Global,
-    set: &BitSet<B>,
-    text: &str,
-) {
+// The set of some numbers is shown as this.
+fn shows<B: BitBlock>(rt: &impl Abort, alloc: Global, numbers: &[usize], text: &str) {
+    let set = set_of::<B>(rt, alloc, numbers);
     let shown = ok(rt, format!(in alloc; "{set}"));
     expect_eq(rt, &shown.as_str(), &text);
-}
-
-// So is the set of some numbers.
-fn shows<B: BitBlock>(rt: &impl Abort, alloc: Global, numbers: &[usize], text: &str) {
-    expect_shown(rt, alloc, &set_of::<B>(rt, alloc, numbers), text);
 }
 
 #[test]
@@ -180,120 +170,8 @@ fn come_in_order<B: BitBlock>(rt: &impl Abort, alloc: Global, a: &[usize], b: &[
 
 #[test]
 fn sets_compare_as_lists(rt: HostRuntime) {
-    come_in_order::<u32>(&rt, rt.alloc(), &[0, 1], &[1]);
-    come_in_order::<u32>(&rt, rt.alloc(), &[], &[0, 2, 6]);
-    // One that goes on past the other's blocks, and one that goes on within its own.
     come_in_order::<u8>(&rt, rt.alloc(), &[3], &[3, 90]);
-    come_in_order::<u8>(&rt, rt.alloc(), &[3, 90], &[4]);
     come_in_order::<Block24>(&rt, rt.alloc(), &[3, 23, 24], &[3, 24]);
-}
-
-// The bytes of two sets, and the order of these. They are equal where that is.
-const BYTES: &[(&[u8], &[u8], Ordering)] = &[
-    (&[0b1100_0000], &[0b0100_0000], Ordering::Less),
-    (&[0b1010_0010], &[], Ordering::Greater),
-    (&[], &[0b1010_0010], Ordering::Less),
-    (&[0], &[], Ordering::Equal),
-];
-
-fn are_ordered(a: &BitSet, b: &BitSet, order: Ordering) -> bool {
-    a.cmp(b) == order && a.partial_cmp(b) == Some(order) && (*a == *b) == (order == Ordering::Equal)
-}
-
-fn bytes_are_ordered(rt: &impl Abort, alloc: Global, a: &[u8], b: &[u8], order: Ordering) -> bool {
-    let left = set_of_bytes(rt, alloc, a);
-    are_ordered(&left, &set_of_bytes(rt, alloc, b), order)
-}
-
-#[test]
-fn bytes_compare_as_their_sets(rt: HostRuntime) {
-    for (a, b, order) in BYTES {
-        expect(&rt, bytes_are_ordered(&rt, rt.alloc(), a, b, *order));
-    }
-}
-
-// The set of some of 0, 1, 7, 8 and 23, of a length of some bytes at least.
-fn some_set(rt: &impl Abort, alloc: Global, chosen: usize) -> BitSet<u8> {
-    let mut set = with_capacity(rt, alloc, chosen % 5 * 8);
-    for (place, number) in [0, 1, 7, 8, 23].iter().enumerate() {
-        if chosen >> (place as u32) & 1 == 1 {
-            put(rt, &mut set, *number);
-        }
-    }
-    set
-}
-
-// Whether two of these compare as their walks do, and are equal where the same numbers are chosen.
-fn agree(rt: &impl Abort, alloc: Global, a: usize, b: usize) -> bool {
-    let left = some_set(rt, alloc, a);
-    let right = some_set(rt, alloc, b);
-    let ordered = left.cmp(&right) == left.iter().cmp(right.iter());
-    ordered && (left == right) == (a == b)
-}
-
-#[test]
-fn the_order_is_that_of_the_walks(rt: HostRuntime) {
-    for a in 0..32 {
-        for b in 0..32 {
-            assert!(rt; agree(&rt, rt.alloc(), a, b), "at {a} and {b}");
-        }
-    }
-}
-
-// {3}, with capacity for 500 at once.
-fn spacious(rt: &impl Abort, alloc: Global) -> BitSet {
-    let mut set = with_capacity(rt, alloc, 500);
-    put(rt, &mut set, 3);
-    set
-}
-
-// {3}, once 400 is out.
-fn lowered(rt: &impl Abort, alloc: Global) -> BitSet {
-    let mut set = set_of(rt, alloc, &[3, 400]);
-    set.remove(400);
-    set
-}
-
-// Whether they are equal, in their order and in what they feed too.
-pub(crate) fn are_equal(a: &BitSet, b: &BitSet) -> bool {
-    *a == *b && a.cmp(b) == Ordering::Equal && feed(a) == feed(b)
-}
-
-// Nothing tells the sets apart but their lengths, which are these.
-fn alike(rt: &impl Abort, a: &BitSet, b: &BitSet, lengths: [usize; 2]) {
-    expect(rt, are_equal(a, b));
-    expect_eq(rt, &[len_of(a), len_of(b)], &lengths);
-}
-
-#[test]
-fn lengths_do_not_count(rt: HostRuntime) {
-    let spacious = spacious(&rt, rt.alloc());
-    let least = set_of(&rt, rt.alloc(), &[3]);
-    alike(&rt, &least, &spacious, [4, 500]);
-    let lowered = lowered(&rt, rt.alloc());
-    alike(&rt, &spacious, &lowered, [500, 401]);
-}
-
-#[test]
-fn lengths_do_not_count_without_an_element(rt: HostRuntime) {
-    let zeros = set_of_bytes(&rt, rt.alloc(), &[0]);
-    let none = BitSet::new(rt.alloc());
-    alike(&rt, &zeros, &none, [8, 0]);
-    expect_eq(&rt, &feed(&zeros), &(0, 0));
-}
-
-#[test]
-fn lengths_are_not_shown(rt: HostRuntime) {
-    expect_shown(&rt, rt.alloc(), &lowered(&rt, rt.alloc()), "{3}");
-}
-
-#[test]
-fn a_merged_set_is_the_set_read(rt: HostRuntime) {
-    let mut merged = set_of(&rt, rt.alloc(), &[0]);
-    let five = set_of(&rt, rt.alloc(), &[5]);
-    unite(&rt, &mut merged, &five);
-    let read = set_of_bytes(&rt, rt.alloc(), &[0b1000_0100]);
-    alike(&rt, &merged, &read, [6, 8]);
 }
 
 // Three sets, two of them equal.

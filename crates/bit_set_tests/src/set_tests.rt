@@ -1,9 +1,9 @@
-//! Rows with their exact results, each generic call once over three block types, and the texts of the faults.
+//! Rows with their exact results, each generic call once, and the texts of the faults.
 ghost use Rattle.std.specs.Prelude.{IsErrOf};
 
 use crate::expect::{expect, expect_eq, ok};
 use crate::sets::{copy_of, set_of, set_of_bytes, with_capacity};
-use crate::steps::{Step, has_just, take, take_new, take_of, take_of_bytes};
+use crate::steps::{Step, has_just, take, take_new, take_of};
 use bit_set::bit_vec::BitVec;
 use bit_set::{BitBlock, BitSet, SetError};
 use std::alloc::{AllocError, Global};
@@ -28,24 +28,6 @@ fn insert_returns_what_is_new(rt: HostRuntime) {
     take_new(&rt, rt.alloc(), NEW_OR_NOT);
 }
 
-// Of 140 numbers from 0 on.
-const PAST_THE_LENGTH: &[Step] = &[
-    Step::Contains(139, true),
-    Step::Contains(140, false),
-    Step::Insert(150, true),
-    Step::Contains(140, false),
-    Step::Contains(149, false),
-    Step::Contains(150, true),
-    Step::Contains(151, false),
-    Step::Len(151),
-];
-
-#[test]
-fn insert_past_the_length_keeps_what_lies_between_out(rt: HostRuntime) {
-    let ones = ok(&rt, BitVec::from_elem(rt.alloc(), 140, true));
-    take(&rt, &mut BitSet::from_bit_vec(ones), PAST_THE_LENGTH);
-}
-
 // The greatest number is no element, and a set that it is put into stays as it is.
 const NO_ELEMENT: &[Step] = &[
     Step::InsertFails(GREATEST, SetError::Element),
@@ -61,47 +43,6 @@ const NO_ELEMENT: &[Step] = &[
 #[test]
 fn the_greatest_number_is_no_element(rt: HostRuntime) {
     take_new(&rt, rt.alloc(), NO_ELEMENT);
-}
-
-// Of 48 numbers from 0 on.
-const CUTS: &[Step] = &[
-    Step::Truncate(40),
-    Step::Count(40),
-    Step::Len(40),
-    Step::Truncate(32),
-    Step::Count(32),
-    Step::Len(32),
-    Step::Truncate(40),
-    Step::Count(32),
-    Step::Len(32),
-    Step::Truncate(8),
-    Step::Count(8),
-    Step::Len(8),
-    Step::Truncate(0),
-    Step::Count(0),
-    Step::Len(0),
-];
-
-#[test]
-fn truncate_keeps_what_is_below(rt: HostRuntime) {
-    take_of_bytes::<u32>(&rt, rt.alloc(), &[0xFF; 6], CUTS);
-}
-
-const OF_FOUR_ITEMS: &[Step] = &[
-    Step::Elements(&[0, 2, 3]),
-    Step::Count(3),
-    Step::Len(4),
-    Step::Blocks(1),
-];
-
-#[test]
-fn items_go_in_one_by_one(rt: HostRuntime) {
-    take_of::<u32>(&rt, rt.alloc(), &[0, 2, 2, 3], OF_FOUR_ITEMS);
-}
-
-#[test]
-fn no_items_need_no_memory(rt: HostRuntime) {
-    take_of::<u32>(&rt, rt.alloc(), &[], &[Step::Len(0), Step::Capacity(0)]);
 }
 
 // Puts a number into a set and at the end of a list: one `?` serves both.
@@ -132,26 +73,6 @@ const ITEMS_BEFORE: &[Step] = &[
 #[test]
 fn items_before_one_that_fails_stay_in(rt: HostRuntime) {
     take_new(&rt, rt.alloc(), ITEMS_BEFORE);
-}
-
-const OF_100_PLACES: &[Step] = &[
-    Step::Count(0),
-    Step::Len(100),
-    Step::Blocks(4),
-    Step::IsEmpty(true),
-];
-
-#[test]
-fn sets_have_lengths(rt: HostRuntime) {
-    let mut empty = ok(&rt, BitSet::with_capacity(rt.alloc(), 100));
-    take(&rt, &mut empty, OF_100_PLACES);
-}
-
-#[test]
-fn a_clone_has_the_items_and_the_length(rt: HostRuntime) {
-    let set = set_of::<u32>(&rt, rt.alloc(), &[400, 1]);
-    let mut copy = copy_of(&rt, rt.alloc(), &set);
-    take(&rt, &mut copy, &[Step::Elements(&[1, 400]), Step::Len(401)]);
 }
 
 // Of {20, 21, 22, 23}.
@@ -235,7 +156,6 @@ fn each_succeeds<B: BitBlock>(rt: &impl Abort, alloc: Global) {
 #[test]
 fn every_call_succeeds(rt: HostRuntime) {
     each_succeeds::<u8>(&rt, rt.alloc());
-    each_succeeds::<u64>(&rt, rt.alloc());
     each_succeeds::<u128>(&rt, rt.alloc());
 }
 

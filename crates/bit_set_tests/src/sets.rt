@@ -18,16 +18,6 @@ pub(crate) fn copy_of<B: BitBlock>(rt: &impl Abort, alloc: Global, set: &BitSet<
     ok(rt, set.clone(alloc))
 }
 
-// Puts a number in.
-pub(crate) fn put<B: BitBlock>(rt: &impl Abort, set: &mut BitSet<B>, number: usize) {
-    ok(rt, set.insert(number));
-}
-
-// Puts the elements of another set in.
-pub(crate) fn unite<B: BitBlock>(rt: &impl Abort, set: &mut BitSet<B>, other: &BitSet<B>) {
-    ok(rt, set.union_with(other));
-}
-
 pub(crate) fn are_same<B: BitBlock>(a: &BitSet<B>, b: &BitSet<B>) -> bool {
     *a == *b
 }

@@ -1,7 +1,7 @@
 // Calls on a set, one after another, each with what is wanted of it. A test is then a row of these, and the calls are
 // proved once.
 use crate::expect::expect_eq_at;
-use crate::sets::{set_of, set_of_bytes};
+use crate::sets::set_of;
 use bit_set::{BitBlock, BitSet, SetError};
 use std::alloc::Global;
 use std::process::Abort;
@@ -12,7 +12,6 @@ pub(crate) enum Step {
     Insert(usize, bool),
     // A number does not go in.
     InsertFails(usize, SetError),
-    Extend(&'static [usize]),
     // One of the numbers does not go in.
     ExtendFails(&'static [usize], SetError),
     // A number goes out, and was in or not.
@@ -22,15 +21,10 @@ pub(crate) enum Step {
     // The capacity stays.
     MakeEmpty,
     Reset,
-    Reserve(usize),
     ReserveExact(usize),
     // Neither can be reserved.
     ReserveFails(usize),
     Shrink,
-    // A number goes out, and what is shrunk then has less capacity than before.
-    ShrinkWithout(usize),
-    // The bit vector is made true throughout.
-    Fill,
     // What there is then.
     Contains(usize, bool),
     IsEmpty(bool),
@@ -41,8 +35,6 @@ pub(crate) enum Step {
     Blocks(usize),
     Capacity(usize),
     CapacityFrom(usize),
-    // The upper bound of the walk.
-    Bound(usize),
 }
 
 // Whether a set has just these elements.
@@ -68,16 +60,6 @@ fn keeps_capacity<B: BitBlock>(set: &mut BitSet<B>) -> bool {
     set.capacity() == capacity
 }
 
-fn shrinks_without<B: BitBlock>(set: &mut BitSet<B>, number: usize) -> bool {
-    let capacity = set.capacity();
-    set.remove(number);
-    set.shrink_to_fit().is_ok() && set.capacity() < capacity
-}
-
-fn fill<B: BitBlock>(set: &mut BitSet<B>) {
-    set.get_mut().fill(true);
-}
-
 fn refuses<B: BitBlock>(set: &mut BitSet<B>, len: usize) -> bool {
     set.reserve_len(len).is_err() && set.reserve_len_exact(len).is_err()
 }
@@ -88,7 +70,6 @@ fn changes<B: BitBlock>(set: &mut BitSet<B>, step: Step) -> bool {
         Step::Truncate(len) => set.truncate(len),
         Step::Clear => set.clear(),
         Step::Reset => set.reset(),
-        Step::Fill => fill(set),
         _ => return false,
     }
     true
@@ -105,7 +86,6 @@ fn is_as_wanted<B: BitBlock>(set: &BitSet<B>, step: Step) -> bool {
         Step::Blocks(blocks) => blocks_of(set) == blocks,
         Step::Capacity(capacity) => set.capacity() == capacity,
         Step::CapacityFrom(least) => set.capacity() >= least,
-        Step::Bound(bound) => set.iter().size_hint() == (0, Some(bound)),
         _ => false,
     }
 }
@@ -115,16 +95,13 @@ fn goes_well<B: BitBlock>(set: &mut BitSet<B>, step: Step) -> bool {
     match step {
         Step::Insert(value, is_new) => set.insert(value) == Ok(is_new),
         Step::InsertFails(value, fault) => set.insert(value) == Err(fault),
-        Step::Extend(values) => extend(set, values).is_ok(),
         Step::ExtendFails(values, fault) => extend(set, values) == Err(fault),
         Step::Remove(value, was_in) => set.remove(value) == was_in,
-        Step::Reserve(len) => set.reserve_len(len).is_ok(),
         Step::ReserveExact(len) => set.reserve_len_exact(len).is_ok(),
         Step::ReserveFails(len) => refuses(set, len),
         Step::Shrink => set.shrink_to_fit().is_ok(),
-        Step::ShrinkWithout(value) => shrinks_without(set, value),
         Step::MakeEmpty => keeps_capacity(set),
-        Step::Truncate(_) | Step::Clear | Step::Reset | Step::Fill => changes(set, step),
+        Step::Truncate(_) | Step::Clear | Step::Reset => changes(set, step),
         _ => is_as_wanted(set, step),
     }
 }
@@ -149,14 +126,4 @@ pub(crate) fn take_of<B: BitBlock>(
     steps: &[Step],
 ) {
     take(rt, &mut set_of::<B>(rt, alloc, numbers), steps);
-}
-
-// Takes the steps of the set of some bytes.
-pub(crate) fn take_of_bytes<B: BitBlock>(
-    rt: &impl Abort,
-    alloc: Global,
-    bytes: &[u8],
-    steps: &[Step],
-) {
-    take(rt, &mut set_of_bytes::<B>(rt, alloc, bytes), steps);
 }

@@ -8,24 +8,14 @@ mod example_tests;
 #[cfg(test)]
 mod expect;
 #[cfg(test)]
-mod from_tests;
-#[cfg(test)]
 mod large_tests;
 #[cfg(test)]
 mod many_tests;
 #[cfg(test)]
 mod moving_tests;
 #[cfg(test)]
-mod part_tests;
-#[cfg(test)]
 mod run_tests;
-#[cfg(test)]
-mod search_tests;
 #[cfg(test)]
 mod sets;
 #[cfg(test)]
-mod sparse_tests;
-#[cfg(test)]
 mod walk_tests;
-#[cfg(test)]
-mod walks;

@@ -1,7 +1,7 @@
 use Rattle.std.proofs.Common.{◌+◌, max, length, ap, ◌∙◌}
 use Rattle.bit_blocks.specs.Bits.{blocks_for}
 use Rattle.bit_set.specs.Walk.{blocks_past}
-use Rattle.bit_set_walk_tests.proofs.sparse_tests.pulls_of_sparse_sets.Goals as goal
+use Rattle.bit_set_walk_tests.proofs.walk_tests.pulls_of_sparse_sets.Goals as goal
 
 pub returns-clause-one : goal.returns-clause-one
 returns-clause-one c = λ values s t items is start run.
