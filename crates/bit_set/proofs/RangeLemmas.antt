@@ -112,15 +112,22 @@ count_inserted a b s t up also members =
     (λ n. let in_both = has-filter (in_range a b) t n in let number = has-span a b n in let is = members n in grind arith) in
     omega (arith, filtered_apart (in_range a b) s, filtered_apart (in_range a b) t, ap length (same_outside (λ _. true) a b s t up also members), ap length all, length-span a b)
 
+-- those of a range that are in
+those_among : (s : List ℕ) (a b : ℕ) → IsAscending s → those_in_range s a b ≡ filter (has s) (span a b)
+those_among s a b up = same_members _ _ (AscendsFrom-filter 0 _ s up) (AscendsFrom-filter 0 _ (span a b) (IsAscending-span a b))
+    (λ n. grind (arith, has-filter (in_range a b) s n, has-filter (has s) (span a b) n, has-span a b n))
+
+-- no more numbers of a range are in than it has
+pub in_range-le : (s : List ℕ) (a b : ℕ) → IsAscending s → length (those_in_range s a b) ≤ b - a
+in_range-le s a b up = omega (arith, ap length (those_among s a b up), filtered_apart (has s) (span a b), length-span a b)
+
 pub count_toggled : (a b : ℕ) (s t : List ℕ) → IsAscending s → IsAscending t → UpdatesRange not s t a b
     → length (those_in_range t a b) + length (those_in_range s a b) ≡ b - a
 count_toggled a b s t up also members =
-    let members_of : (p : ℕ → Bool) → IsAscending (filter p (span a b)) = λ p. AscendsFrom-filter 0 p (span a b) (IsAscending-span a b) in
-    let were : those_in_range s a b ≡ filter (has s) (span a b) = same_members _ _ (AscendsFrom-filter 0 _ s up) (members_of (has s))
-    (λ n. grind (arith, has-filter (in_range a b) s n, has-filter (has s) (span a b) n, has-span a b n)) in
-    let are : those_in_range t a b ≡ filter (λ n. not (has s n)) (span a b) = same_members _ _ (AscendsFrom-filter 0 _ t also) (members_of (λ n. not (has s n)))
+    let are : those_in_range t a b ≡ filter (λ n. not (has s n)) (span a b) =
+    same_members _ _ (AscendsFrom-filter 0 _ t also) (AscendsFrom-filter 0 _ (span a b) (IsAscending-span a b))
     (λ n. grind (arith, members n, has-filter (in_range a b) t n, has-filter (λ m. not (has s m)) (span a b) n, has-span a b n)) in
-    omega (arith, ap length were, ap length are, filtered_apart (has s) (span a b), length-span a b)
+    omega (arith, ap length (those_among s a b up), ap length are, filtered_apart (has s) (span a b), length-span a b)
 
 -- ---- the laws of `src/laws.rt`
 

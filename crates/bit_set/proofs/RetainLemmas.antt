@@ -21,6 +21,16 @@ has-kept (b ∷ bs) [] m is = absurd (grind (arith, is))
 has-kept (true ∷ bs) (x ∷ xs) m is = let rest = has-kept bs xs m in grind (arith, rest)
 has-kept (false ∷ bs) (x ∷ xs) m is = let rest = has-kept bs xs m in grind (arith, rest)
 
+-- no more are kept than there were
+kept-le : (bs : List Bool) (xs : List ℕ) → length (items_where_true bs xs) ≤ length xs
+kept-le [] xs = omega arith
+kept-le (b ∷ bs) [] = omega arith
+kept-le (true ∷ bs) (x ∷ xs) = let rest = kept-le bs xs in omega (arith, rest)
+kept-le (false ∷ bs) (x ∷ xs) = let rest = kept-le bs xs in omega (arith, rest)
+
+pub filtered-le : {P : Type 0} (R : P → ℕ → Bool → P → Type 0) (p : P) (xs ys : List ℕ) → IsFiltered R p xs ys → length ys ≤ length xs
+filtered-le R p xs ys is = omega (arith, kept-le is.0 xs, ap length is.4)
+
 kept-append : (bs : List Bool) (xs : List ℕ) (cs : List Bool) (ys : List ℕ) → length bs ≡ length xs → items_where_true (bs ++ cs) (xs ++ ys) ≡ items_where_true bs xs ++ items_where_true cs ys
 kept-append [] [] cs ys long = refl
 kept-append [] (x ∷ xs) cs ys long = absurd (omega (arith, long))

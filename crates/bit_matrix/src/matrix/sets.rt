@@ -71,6 +71,7 @@ impl<B: BitBlock> BitMatrix<B> {
     pub fn row_to_set(&self, alloc: Global, row: usize) -> Result<BitSet<B>, AllocError>
         requires { row < length self.now.rows }
         ensures elements { IfOk result (λ set. elements set.values ≡ row_of self.now row) }
+        ensures columns { IfOk result (λ set. (c : ℕ) → IsTrue (has (elements set.values) c) → c < self.now.columns) }
         ensures length { IfOk result (λ set. length set.values ≡ self.now.columns) }
         ensures capacity { IfOk result
             (λ set. set.capacity ≡ capacity_of B.width (blocks_for B.width self.now.columns)) }

@@ -132,7 +132,8 @@ impl<B: BitBlock> BitSet<B> {
     /// assert_eq!(set.count_in_range(3..5), 2);
     /// ```
     pub fn count_in_range(&self, range: Range<usize>) -> usize
-        ensures { result ≡ length (those_in_range (elements self.now.values) range.start range.end) }
+        ensures value { result ≡ length (those_in_range (elements self.now.values) range.start range.end) }
+        ensures within { result ≤ range.end - range.start }
     {
         self.bits.count_ones_in_range(range)
     }

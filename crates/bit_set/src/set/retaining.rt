@@ -1,5 +1,5 @@
 // The call that keeps the elements that pass a test.
-ghost use Rattle.std.specs.{Prelude.{◌≡◌, ℕ, ◌^◌, ◌<◌, ◌&&◌, All, Bool, List, [], false, length}, Bool.MatchBool, Fn.Called, Iterator.Runs.CallKeepsClosure, List.Retain.IsFiltered};
+ghost use Rattle.std.specs.{Prelude.{◌≡◌, ℕ, ◌^◌, ◌<◌, ◌≤◌, ◌&&◌, All, Bool, List, [], false, length}, Bool.MatchBool, Fn.Called, Iterator.Runs.CallKeepsClosure, List.Retain.IsFiltered};
 ghost use Rattle.bit_set.specs.{Changes.{Change, Changes, Outcome.Done}, Retained.{HasTested, ones}, Sets.{elements, has}};
 
 use crate::bit_vec::{block_or_zero, take_lowest_one, with_bit};
@@ -46,6 +46,7 @@ impl<B: BitBlock> BitSet<B> {
             → (n : ℕ) → has (elements self.new.values) n ≡ (test n && has (elements self.old.values) n) }
         ensures asked { CallKeepsClosure F.FnMut keep → (n : ℕ) → MatchBool (has (elements self.old.values) n)
             (Called F.FnMut keep (n, tt) (has (elements self.new.values) n) keep) (has (elements self.new.values) n ≡ false) }
+        ensures count { length (elements self.new.values) ≤ length (elements self.old.values) }
         ensures length { length self.new.values ≡ length self.old.values }
         ensures capacity { self.new.capacity ≡ self.old.capacity }
         ensures changes { (answers : List Bool)

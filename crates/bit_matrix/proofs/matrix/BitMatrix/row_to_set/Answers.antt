@@ -1,6 +1,6 @@
-use Rattle.std.proofs.{Common.{◌∙◌, inl, inr, length, replicate, sym, ap, arith, true, false}, lemmas.{Bool.{cases_lt}, List.{get_or_past, length-replicate}}}
+use Rattle.std.proofs.{Common.{◌∙◌, inl, inr, length, replicate, sym, ap, arith, subst, true, false, IsTrue}, lemmas.{Bool.{cases_lt}, List.{get_or_past, length-replicate}}}
 use Rattle.bit_blocks.proofs.BitsLemmas.{whole_before}
-use Rattle.bit_set.proofs.SetLemmas.{elements-by_members}
+use Rattle.bit_set.{specs.Sets.has, proofs.SetLemmas.elements-by_members}
 use Rattle.bit_matrix.proofs.SeenLemmas.{none_past, seen_columns}
 use Rattle.bit_matrix.proofs.matrix.BitMatrix.row_to_set.Goals as goal
 
@@ -18,6 +18,10 @@ returns-clause-elements g c =
       | inl below ↦ c.keep_blocks.ensures.values i (omega (arith, below, long)) ∙ c.row_blocks.ensures.bits i
       | inr past ↦ get_or_past _ i false (omega (arith, past, long, c.keep_blocks.ensures.len)) ∙ sym (none_past c.args.self.now c.row_blocks.ensures.matrix c.args.row i past)
     ]))
+
+pub returns-clause-columns : goal.returns-clause-columns
+returns-clause-columns g c n is_in =
+    c.row_blocks.ensures.matrix.below c.args.row n (subst (λ s. IsTrue (has s n)) (returns-clause-elements g c) is_in)
 
 pub keep_blocks-requires-clause-ones : goal.keep_blocks-requires-clause-ones
 keep_blocks-requires-clause-ones g c =

@@ -3,7 +3,7 @@ use Rattle.std.proofs.{Math.Nat.{div-add-mod'}, lemmas.{Bool.Decides.nat_tests, 
 use Rattle.bit_blocks.{proofs.BitsLemmas.{blocks_of-digit, read_back}, specs.{Bits.blocks_of, Digits.is_one}}
 use Rattle.bit_words.specs.Kept.{KeepsInBlock}
 use Rattle.bit_set.specs.{Changes.Changes, Retained.{HasTested, ones}, Sets.{elements, has}}
-use Rattle.bit_set.proofs.{MemberLemmas.none_from_members, RetainLemmas.{asked_each, below_by_members, has-block, next_at_block, retained-block, tested-all, tested-none}}
+use Rattle.bit_set.proofs.{MemberLemmas.none_from_members, RetainLemmas.{asked_each, below_by_members, filtered-le, has-block, next_at_block, retained-block, tested-all, tested-none}}
 use Rattle.bit_set.proofs.{SetLemmas.{IsAscending-elements, has-filter}, SplitLemmas.all_from, ValueLemmas.has-within, set.BitSet.retain.Given.Over}
 use Rattle.bit_set.proofs.set.BitSet.retain.Goals.{After-block_or_zero-block}
 use Rattle.bit_set.proofs.set.BitSet.retain.Goals as goal
@@ -91,6 +91,9 @@ pub returns-clause-asked : goal.returns-clause-asked
 returns-clause-asked g c stays =
     asked_each _ c.args.keep (λ x b next met. stays (x, tt) b next met) (elements c.args.self.now.values) _ (IsAscending-elements c.args.self.now.values)
     (returns-clause-elements g c)
+
+pub returns-clause-count : goal.returns-clause-count
+returns-clause-count g c = filtered-le _ c.args.keep _ _ (returns-clause-elements g c)
 
 pub returns-clause-changes : goal.returns-clause-changes
 unfolding Changes
