@@ -1,7 +1,6 @@
 //! The walk over the blocks of a bit vector.
 use crate::expect::{expect_eq, ok};
 use bit_words::bit_vec::{BitBlock, BitVec, Blocks};
-use block24::Block24;
 
 // The next block. It has no clause, so that a test that makes many such calls does not carry each one along.
 fn next_if<B: BitBlock>(walk: &mut Blocks<'_, B>, wanted: bool) -> Option<B> {
@@ -23,25 +22,4 @@ fn a_block_comes_where_it_is_wanted(rt: HostRuntime) {
         next_if(&mut walk, true),
     ];
     expect_eq(&rt, &rest, &[Some(0), Some(128), Some(0), None]);
-}
-
-#[test]
-fn a_block_of_24_bits_comes_where_it_is_wanted(rt: HostRuntime) {
-    let odd = ok(
-        &rt,
-        BitVec::<Block24>::from_elem_general(rt.alloc(), 25, true),
-    );
-    let mut walk = odd.blocks();
-    let found = [
-        next_if(&mut walk, true),
-        next_if(&mut walk, false),
-        next_if(&mut walk, true),
-        next_if(&mut walk, true),
-    ];
-    let full = Some(Block24(16777215));
-    expect_eq(
-        &rt,
-        &found,
-        &[full, Some(Block24(0)), Some(Block24(1)), None],
-    );
 }

@@ -53,10 +53,7 @@ fn check_merges<B: BitBlock>(rt: &impl Abort, alloc: Global) {
 
 #[test]
 fn lists_of_unequal_lengths_merge(rt: HostRuntime) {
-    check_merges::<u8>(&rt, rt.alloc());
     check_merges::<Block24>(&rt, rt.alloc());
-    check_merges::<u32>(&rt, rt.alloc());
-    check_merges::<u64>(&rt, rt.alloc());
     check_merges::<u128>(&rt, rt.alloc());
 }
 
@@ -141,28 +138,8 @@ fn check_relations<B: BitBlock>(rt: &impl Abort, alloc: Global) {
 
 #[test]
 fn lists_are_within_one_another_or_apart(rt: HostRuntime) {
-    check_relations::<u8>(&rt, rt.alloc());
     check_relations::<Block24>(&rt, rt.alloc());
-    check_relations::<u32>(&rt, rt.alloc());
-    check_relations::<u64>(&rt, rt.alloc());
     check_relations::<u128>(&rt, rt.alloc());
-}
-
-fn check_relations_of_none<B: BitBlock>(rt: &impl Abort, alloc: Global) {
-    let none = BitVec::<B>::new_general(alloc);
-    let apart = list_of(rt, alloc, 700, &[101, 300, 699]);
-    expect_eq(rt, &relations(&none, &apart), &(true, true));
-    expect_eq(rt, &relations(&apart, &none), &(false, true));
-    expect_eq(rt, &relations(&none, &none), &(true, true));
-}
-
-#[test]
-fn a_list_of_no_values_is_within_each_and_apart(rt: HostRuntime) {
-    check_relations_of_none::<u8>(&rt, rt.alloc());
-    check_relations_of_none::<Block24>(&rt, rt.alloc());
-    check_relations_of_none::<u32>(&rt, rt.alloc());
-    check_relations_of_none::<u64>(&rt, rt.alloc());
-    check_relations_of_none::<u128>(&rt, rt.alloc());
 }
 
 // A list is shown as this text.

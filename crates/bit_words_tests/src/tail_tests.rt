@@ -24,35 +24,10 @@ fn sizes<B: BitBlock>(bits: &BitVec<B>, at: usize) -> (usize, usize, Option<bool
     (bits.len(), bits.count_ones(), bits.get(at))
 }
 
-// Those of the tail of a hundred true values.
-fn tail_of_hundred<B: BitBlock>(
-    rt: &impl Abort,
-    alloc: Global,
-    at: usize,
-) -> Option<(usize, usize, Option<bool>)> {
-    let bits = ok(rt, BitVec::<B>::from_elem_general(alloc, 100, true));
-    let tail = tail_of(rt, alloc, &bits, at);
-    tail.map(|tail| sizes(&tail, at))
-}
-
-// Whether the tail of a list that is true at 40 has no true value.
-fn is_none_from<B: BitBlock>(rt: &impl Abort, alloc: Global, at: usize) -> Option<bool> {
-    let bits = list_of::<B>(rt, alloc, 100, &[40]);
-    tail_of(rt, alloc, &bits, at).map(|tail| tail.none())
-}
-
-fn check_tails<B: BitBlock>(rt: &impl Abort, alloc: Global) {
-    for at in 0..100 {
-        let tail = tail_of_hundred::<B>(rt, alloc, at);
-        assert_eq!(rt; tail, Some((100, 100 - at, Some(true))), "from {at}");
-    }
-    expect_eq(rt, &is_none_from::<B>(rt, alloc, 40), &Some(false));
-    expect_eq(rt, &is_none_from::<B>(rt, alloc, 41), &Some(true));
-}
-
 #[test]
 fn a_tail_is_false_before_its_index(rt: HostRuntime) {
-    check_tails::<u8>(&rt, rt.alloc());
-    check_tails::<Block24>(&rt, rt.alloc());
-    check_tails::<u32>(&rt, rt.alloc());
+    let bits = list_of::<Block24>(&rt, rt.alloc(), 100, &[3, 40, 99]);
+    let tail = tail_of(&rt, rt.alloc(), &bits, 40);
+    let found = tail.map(|tail| sizes(&tail, 40));
+    expect_eq(&rt, &found, &Some((100, 2, Some(true))));
 }

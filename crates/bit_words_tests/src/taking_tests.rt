@@ -10,14 +10,6 @@ fn taken<B: BitBlock>(bits: &mut BitVec<B>) -> [Option<usize>; 3] {
 }
 
 #[test]
-fn the_first_values_of_many_are_taken_out(rt: HostRuntime) {
-    let mut bits = list_of::<u8>(&rt, rt.alloc(), 400, &[3, 4, 330]);
-    expect_eq(&rt, &taken(&mut bits), &[Some(3), Some(4), Some(330)]);
-    expect_eq(&rt, &bits.take_first_one(), &None);
-    expect_eq(&rt, &bits.first_one(), &None);
-}
-
-#[test]
 fn a_value_that_became_true_since_is_found(rt: HostRuntime) {
     let mut bits = list_of::<u32>(&rt, rt.alloc(), 6000, &[3, 2000, 5200]);
     expect_eq(&rt, &bits.take_first_one(), &Some(3));

@@ -1,5 +1,5 @@
 use crate::expect::{expect, expect_eq, ok};
-use crate::lists::{grow_by, put};
+use crate::lists::grow_by;
 use bit_words::bit_vec::{BitBlock, BitVec, BitsError, Steps};
 use block24::Block24;
 use std::alloc::{AllocError, Global};
@@ -16,107 +16,6 @@ fn trues<B: BitBlock>(rt: &impl Abort, alloc: Global, n: usize) -> BitVec<B> {
     ok(rt, BitVec::from_elem_general(alloc, n, true))
 }
 
-#[test]
-fn bytes_begin_with_their_highest_bit(rt: HostRuntime) {
-    let byte = of_bytes::<u8>(&rt, rt.alloc(), &[0b0100_1010]);
-    expect_eq(&rt, &byte.storage(), &[82].as_slice());
-    let bytes = [0b0100_1010, 0b1000_0000];
-    let bytes = ok(&rt, BitVec::from_bytes(rt.alloc(), &bytes));
-    expect(&rt, is(&bytes, &[338], 16));
-}
-
-// Makes one more value false and then one true.
-fn grow_twice(rt: &impl Abort, bits: &mut BitVec<u128>) {
-    grow_by(rt, bits, 64, false);
-    grow_by(rt, bits, 1, true);
-}
-
-#[test]
-fn a_list_fills_wide_blocks(rt: HostRuntime) {
-    let mut bits = trues::<u128>(&rt, rt.alloc(), 140);
-    let full = 340282366920938463463374607431768211455;
-    expect_eq(&rt, &bits.storage(), &[full, 4095].as_slice());
-    bits.truncate(65);
-    expect_eq(&rt, &bits.storage(), &[36893488147419103231].as_slice());
-    grow_twice(&rt, &mut bits);
-    expect_eq(&rt, &bits.storage(), &[36893488147419103231, 2].as_slice());
-    expect_eq(&rt, &bits.len(), &130);
-}
-
-#[test]
-fn bytes_fill_wide_blocks(rt: HostRuntime) {
-    let bytes = [0, 0, 0, 0, 0, 0, 0, 1, 0b1000_0000, 0, 0, 0, 0, 0, 0, 1, 1];
-    let bits = of_bytes::<u128>(&rt, rt.alloc(), &bytes);
-    let ends = 170141183460469231759357419826448433152;
-    expect_eq(&rt, &bits.storage(), &[ends, 128].as_slice());
-}
-
-// Whether a list has these blocks and this length. It has no clause, so that a test that asks often does not carry
-// each result along.
-fn is(bits: &BitVec, blocks: &[u32], len: usize) -> bool {
-    bits.storage() == blocks && bits.len() == len
-}
-
-// Ten true values, of 140 that there were.
-fn ten(rt: &impl Abort, alloc: Global) -> BitVec {
-    let mut bits = trues(rt, alloc, 140);
-    bits.truncate(10);
-    bits
-}
-
-// Those, three more and two that are false.
-fn fifteen(rt: &impl Abort, alloc: Global) -> BitVec {
-    let mut bits = ten(rt, alloc);
-    grow_by(rt, &mut bits, 3, true);
-    grow_by(rt, &mut bits, 2, false);
-    bits
-}
-
-#[test]
-fn a_list_is_cut(rt: HostRuntime) {
-    let bits = trues(&rt, rt.alloc(), 140);
-    let full = 4_294_967_295;
-    expect(&rt, is(&bits, &[full, full, full, full, 4095], 140));
-    let cut = ten(&rt, rt.alloc());
-    expect(&rt, is(&cut, &[1023], 10));
-}
-
-#[test]
-fn a_list_is_grown(rt: HostRuntime) {
-    let mut bits = ten(&rt, rt.alloc());
-    grow_by(&rt, &mut bits, 3, true);
-    expect(&rt, is(&bits, &[8191], 13));
-    let bits = fifteen(&rt, rt.alloc());
-    expect(&rt, is(&bits, &[8191], 15));
-    expect_eq(&rt, &[bits.get(14), bits.get(15)], &[Some(false), None]);
-}
-
-// Makes the first value true and then false. What it was before each.
-fn turn_first(bits: &mut BitVec) -> Option<[bool; 2]> {
-    if bits.len() == 0 {
-        return None;
-    }
-    Some([bits.replace(0, true), bits.replace(0, false)])
-}
-
-#[test]
-fn a_list_is_written(rt: HostRuntime) {
-    let mut bits = fifteen(&rt, rt.alloc());
-    put(&mut bits, 0, false);
-    expect(&rt, is(&bits, &[8190], 15));
-    expect_eq(&rt, &turn_first(&mut bits), &Some([false, true]));
-    expect(&rt, is(&bits, &[8190], 15));
-}
-
-#[test]
-fn a_list_is_filled_and_copied(rt: HostRuntime) {
-    let mut bits = fifteen(&rt, rt.alloc());
-    bits.fill(true);
-    expect(&rt, is(&bits, &[32767], 15));
-    let copy = ok(&rt, bits.clone(rt.alloc()));
-    expect(&rt, is(&copy, &[32767], 15));
-}
-
 // A list of 40 values of which the last is true, made by way of each general call.
 fn last_of_forty<B: BitBlock>(rt: &impl Abort, alloc: Global) -> BitVec<B> {
     let bytes = of_bytes::<B>(rt, alloc, &[0, 0, 0, 0, 1]);
@@ -125,14 +24,19 @@ fn last_of_forty<B: BitBlock>(rt: &impl Abort, alloc: Global) -> BitVec<B> {
     ok(rt, bits.clone(alloc))
 }
 
+// Whether the value at a place was true, which is false then.
+fn is_lowered<B: BitBlock>(bits: &mut BitVec<B>, place: usize) -> bool {
+    place < bits.len() && bits.replace(place, false)
+}
+
 // Of five values that are true but for the first: the outer two, what is past them, and whether the capacity
 // holds all.
 fn grown<B: BitBlock>(rt: &impl Abort, alloc: Global) -> ([Option<bool>; 3], bool) {
     let mut bits = BitVec::<B>::new_general(alloc);
     grow_by(rt, &mut bits, 5, true);
-    put(&mut bits, 0, false);
+    let was_true = is_lowered(&mut bits, 0);
     let ends = [bits.get(0), bits.get(4), bits.get(5)];
-    (ends, bits.capacity() >= bits.len())
+    (ends, was_true && bits.capacity() >= bits.len())
 }
 
 // How many values and blocks there are, and how many blocks a walk and its copy have left after one.
