@@ -33,21 +33,30 @@ fn asked(blocks: usize, grows: bool) -> usize {
     }
 }
 
+// How many blocks of so many bits a list of this length takes.
+fn blocks_of(len: usize, width: usize) -> usize {
+    len.div_ceil(width.max(1))
+}
+
+fn bytes_of(blocks: usize, width: usize) -> usize {
+    blocks.saturating_mul(width / 8)
+}
+
 // A list of this length, over blocks of so many bits: its blocks, and a bit for each of them where there are more than
 // four times as many as a block has bits.
 fn bound_of_list(len: usize, width: usize, grows: bool) -> Bound {
-    let count = len.div_ceil(width.max(1));
+    let count = blocks_of(len, width);
     let blocks = asked(count, grows);
     if count <= width.saturating_mul(4) {
         return Bound {
             requests: 1,
-            bytes: blocks.saturating_mul(width / 8),
+            bytes: bytes_of(blocks, width),
         };
     }
-    let rows = asked(count.div_ceil(width.max(1)), grows);
+    let rows = asked(blocks_of(count, width), grows);
     Bound {
         requests: 2,
-        bytes: blocks.saturating_add(rows).saturating_mul(width / 8),
+        bytes: bytes_of(blocks.saturating_add(rows), width),
     }
 }
 
@@ -70,14 +79,11 @@ impl Ask {
             Ask::Lists(count, len) => bound_of_list(len, width, false).times(count),
             Ask::Rows(rows, len) => Bound {
                 requests: 1,
-                bytes: len
-                    .div_ceil(width.max(1))
-                    .saturating_mul(width / 8)
-                    .saturating_mul(rows),
+                bytes: bytes_of(blocks_of(len, width), width).saturating_mul(rows),
             },
             Ask::Entries(len, bytes) => Bound {
                 requests: 1,
-                bytes: len.div_ceil(width.max(1)).saturating_mul(bytes),
+                bytes: blocks_of(len, width).saturating_mul(bytes),
             },
             Ask::Other(requests, bytes) => Bound { requests, bytes },
         }

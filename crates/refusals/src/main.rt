@@ -94,25 +94,33 @@ fn status(sweep: &Sweep<'_>) -> u8 {
     u8::from(!sweep.is_right())
 }
 
-// Makes the call that the words name, after its type of blocks, or all of them where there is no word. The status after
-// that, and 2 where they name none.
-fn swept(rt: &HostRuntime, words: &[String]) -> u8 {
-    if let [block, name] = words {
-        let mut sweep = Sweep::new(rt, Some(name.as_str()));
-        return if over_named(&mut sweep, block.as_str()) {
-            status(&sweep)
-        } else {
-            2
-        };
+// Makes the call of this name over this type of blocks. The status after that, and 2 where there is no such type.
+fn swept_one(rt: &HostRuntime, block: &str, name: &str) -> u8 {
+    let mut sweep = Sweep::new(rt, Some(name));
+    if over_named(&mut sweep, block) {
+        status(&sweep)
+    } else {
+        2
     }
-    if !words.is_empty() {
-        return 2;
-    }
+}
+
+// Makes all calls. The status after that.
+fn swept_all(rt: &HostRuntime) -> u8 {
     let mut sweep = Sweep::new(rt, None);
     for block in ["u8", "u32", "u64", "u128"] {
         over_named(&mut sweep, block);
     }
     status(&sweep)
+}
+
+// Makes the call that the words name, after its type of blocks, or all of them where there is no word. The status after
+// that, and 2 where they name none.
+fn swept(rt: &HostRuntime, words: &[String]) -> u8 {
+    match words {
+        [] => swept_all(rt),
+        [block, name] => swept_one(rt, block.as_str(), name.as_str()),
+        _ => 2,
+    }
 }
 
 fn main(rt: HostRuntime) -> ExitCode {

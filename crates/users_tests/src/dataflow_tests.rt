@@ -4,5 +4,3 @@ mod analyses;
 mod chain_tests;
 mod masks;
 mod program_tests;
-mod random_tests;
-mod slow_model;

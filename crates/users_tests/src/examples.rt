@@ -1,6 +1,6 @@
 //! The examples of the doc comments of the libraries that use sets, as they are there but for `expect`, which costs less.
 use crate::expect::{expect, expect_eq, ok};
-use automata::{DfaError, Nfa, accepts, determinize, equivalent};
+use automata::{Dfa, DfaError, Nfa, accepts, determinize, equivalent};
 use bit_matrix::{BitMatrix, MatrixError};
 use bit_set::{BitSet, SetError};
 use dataflow::{
@@ -77,17 +77,44 @@ fn line(alloc: Global) -> Result<BitMatrix, MatrixError> {
     Ok(edges)
 }
 
-fn walks(rt: &impl Abort, alloc: Global, edges: &BitMatrix) -> Result<(), SetError> {
-    let starts = set_of(alloc, &[1, 2])?;
+fn a_walk(rt: &impl Abort, alloc: Global, edges: &BitMatrix) -> Result<(), SetError> {
     // The edges lead from 0 to 1 and from 1 to 2.
     let reached: BitSet = reachable(alloc, edges, 0)?;
     expect(rt, reached.iter().eq([0, 1, 2]));
-    // The starts are {1, 2}.
-    let others: BitSet = reachable_from_any(alloc, edges, &starts)?;
-    expect(rt, others.iter().eq([1, 2]));
+    a_counted_walk(rt, alloc, edges, reached)
+}
+
+fn a_counted_walk(
+    rt: &impl Abort,
+    alloc: Global,
+    edges: &BitMatrix,
+    reached: BitSet,
+) -> Result<(), SetError> {
     let mut effort = Effort::new();
     let counted: BitSet = reachable_counted(alloc, edges, 0, &mut effort)?;
     expect(rt, counted == reached);
+    Ok(())
+}
+
+fn a_walk_from_two(
+    rt: &impl Abort,
+    alloc: Global,
+    edges: &BitMatrix,
+    starts: &BitSet,
+) -> Result<(), SetError> {
+    // The starts are {1, 2}.
+    let others: BitSet = reachable_from_any(alloc, edges, &starts)?;
+    expect(rt, others.iter().eq([1, 2]));
+    a_counted_walk_from_two(rt, alloc, (edges, starts), others)
+}
+
+fn a_counted_walk_from_two(
+    rt: &impl Abort,
+    alloc: Global,
+    (edges, starts): (&BitMatrix, &BitSet),
+    others: BitSet,
+) -> Result<(), SetError> {
+    let mut effort = Effort::new();
     let more: BitSet = reachable_from_any_counted(alloc, edges, &starts, &mut effort)?;
     expect(rt, more == others);
     Ok(())
@@ -97,24 +124,30 @@ fn walks(rt: &impl Abort, alloc: Global, edges: &BitMatrix) -> Result<(), SetErr
 fn examples_of_walks(rt: HostRuntime) {
     let alloc = rt.alloc();
     let edges = ok(&rt, line(alloc));
-    ok(&rt, walks(&rt, alloc, &edges));
+    ok(&rt, a_walk(&rt, alloc, &edges));
+    let starts = ok(&rt, set_of(alloc, &[1, 2]));
+    ok(&rt, a_walk_from_two(&rt, alloc, &edges, &starts));
 }
 
-fn one_word(
-    rt: &impl Abort,
-    alloc: Global,
-    moves: Vec<Vec<BitSet>>,
-    (starts, accepting): (BitSet, BitSet),
-) -> Result<(), DfaError> {
-    // Symbol 0 leads from state 0, the start, to state 1, which accepts.
-    let nfa = Nfa::new(moves, starts, accepting);
-    expect_eq(rt, &nfa.symbols(), &1);
+fn one_word(rt: &impl Abort, alloc: Global, nfa: &Nfa<u32>) -> Result<(), AllocError> {
     // The one word is of one symbol.
     expect(rt, accepts(alloc, &nfa, &[0])?);
     expect(rt, !accepts(alloc, &nfa, &[0, 0])?);
+    Ok(())
+}
+
+fn made_deterministic(
+    rt: &impl Abort,
+    alloc: Global,
+    nfa: &Nfa<u32>,
+) -> Result<Dfa<u32>, DfaError> {
     let dfa = determinize(alloc, &nfa, 10)?;
     // Words lead to {0}, {1} and {}.
     expect_eq(rt, &dfa.states(), &3);
+    Ok(dfa)
+}
+
+fn deterministic(rt: &impl Abort, alloc: Global, dfa: &Dfa<u32>) -> Result<(), AllocError> {
     expect_eq(rt, &dfa.symbols(), &1);
     expect(rt, dfa.accepts(&[0]));
     expect(rt, !dfa.accepts(&[0, 0]));
@@ -129,7 +162,12 @@ fn examples_of_automata(rt: HostRuntime) {
     ok(&rt, moves.push(sets_of(&rt, alloc, &[&[1], &[]])));
     let starts = ok(&rt, set_of(alloc, &[0]));
     let accepting = ok(&rt, set_of(alloc, &[1]));
-    ok(&rt, one_word(&rt, alloc, moves, (starts, accepting)));
+    // Symbol 0 leads from state 0, the start, to state 1, which accepts.
+    let nfa = Nfa::new(moves, starts, accepting);
+    expect_eq(&rt, &nfa.symbols(), &1);
+    ok(&rt, one_word(&rt, alloc, &nfa));
+    let dfa = ok(&rt, made_deterministic(&rt, alloc, &nfa));
+    ok(&rt, deterministic(&rt, alloc, &dfa));
 }
 
 fn flows(rt: &impl Abort, alloc: Global, blocks: &[FlowBlock<u32>]) -> Result<(), AllocError> {

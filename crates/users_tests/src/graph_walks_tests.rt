@@ -1,49 +1,12 @@
-//! The walks and the closure beside a slow model that has no set and no stack, over graphs of lists, of sets and of bits.
+//! The walks and the closure of long lines and of small graphs.
 use crate::expect::{expect, expect_eq, expect_eq_at, expect_of, ok};
 use bit_set::{BitBlock, BitSet, SetError};
-use graph_walks::{Graph, close, reachable, reachable_from_any, reaches_all_of};
-use matrix_tests::matrix_of;
+use graph_walks::{close, reachable, reachable_from_any, reaches_all_of};
 use std::alloc::Global;
 use std::process::Abort;
 
 mod dominators_tests;
 mod matrix_tests;
-
-// All numbers that a random graph of these tests can name are below this.
-const LIMIT: usize = 24;
-
-// The next of some numbers that look random.
-fn next(seed: &mut u64) -> usize {
-    *seed = seed
-        .wrapping_mul(6364136223846793005)
-        .wrapping_add(1442695040888963407);
-    (*seed >> 33) as usize
-}
-
-// The edges of a node. Some lead to their own node, and some past the end.
-fn random_row(rt: &impl Abort, alloc: Global, edges: usize, seed: &mut u64) -> Vec<usize> {
-    let mut row = Vec::new(alloc);
-    for _ in 0..edges {
-        if next(seed) % 3 == 0 {
-            ok(rt, row.push(next(seed) % LIMIT));
-        }
-    }
-    row
-}
-
-// A graph of this many nodes.
-fn random_rows(
-    rt: &impl Abort,
-    alloc: Global,
-    (nodes, edges): (usize, usize),
-    seed: &mut u64,
-) -> Vec<Vec<usize>> {
-    let mut rows = Vec::new(alloc);
-    for _ in 0..nodes {
-        ok(rt, rows.push(random_row(rt, alloc, edges, seed)));
-    }
-    rows
-}
 
 // These numbers as a list.
 fn listed(rt: &impl Abort, alloc: Global, numbers: &[usize]) -> Vec<usize> {
@@ -74,69 +37,9 @@ fn sets_of<B: BitBlock>(rt: &impl Abort, alloc: Global, rows: &[Vec<usize>]) -> 
     sets
 }
 
-// Puts the ends of the edges of each known node behind the known ones.
-fn add_ends(rt: &impl Abort, rows: &[Vec<usize>], known: &mut Vec<usize>) {
-    for (node, row) in rows.iter().enumerate() {
-        if known.as_slice().contains(&node) {
-            ok(rt, known.extend_from_slice(row.as_slice()));
-        }
-    }
-}
-
-// The nodes that some nodes reach: as often as there are rows, each end of an edge of a known node is known.
-fn slowly_reached(
-    rt: &impl Abort,
-    alloc: Global,
-    rows: &[Vec<usize>],
-    starts: &[usize],
-) -> Vec<usize> {
-    let mut known = listed(rt, alloc, starts);
-    for _ in 0..rows.len() + 1 {
-        add_ends(rt, rows, &mut known);
-        ok(rt, known.sort());
-        known.dedup();
-    }
-    known
-}
-
 // Whether a set has just these numbers, in ascending order.
 fn is<B: BitBlock>(set: &BitSet<B>, numbers: &[usize]) -> bool {
     set.iter().eq(numbers.iter().copied())
-}
-
-// Whether a walk over a graph reaches just these nodes from one.
-fn reaches<B: BitBlock, G: Graph>(
-    rt: &impl Abort,
-    alloc: Global,
-    (graph, start): (G, usize),
-    nodes: &[usize],
-) -> bool {
-    let reached = ok(rt, reachable::<B, _>(alloc, graph, start));
-    is(&reached, nodes)
-}
-
-// From each node a walk over a graph reaches what the slow model does over its rows.
-fn check_walks<B: BitBlock, G: Graph>(
-    rt: &impl Abort,
-    alloc: Global,
-    graph: G,
-    rows: &[Vec<usize>],
-) {
-    for start in 0..LIMIT {
-        let slow = slowly_reached(rt, alloc, rows, &[start]);
-        let agrees = reaches::<B, _>(rt, alloc, (graph, start), slow.as_slice());
-        expect_eq_at(rt, start, &agrees, &true);
-    }
-}
-
-// So does a walk from three nodes.
-fn check_any<B: BitBlock>(rt: &impl Abort, alloc: Global, rows: &[Vec<usize>]) {
-    let starts = [3, 1, 20];
-    let slow = slowly_reached(rt, alloc, rows, &starts);
-    let first = set_of::<B>(rt, alloc, &starts);
-    let reached = ok(rt, reachable_from_any(alloc, rows, &first));
-    expect(rt, first.is_subset(&reached));
-    expect(rt, is(&reached, slow.as_slice()));
 }
 
 // Whether the row of a node is these numbers.
@@ -144,50 +47,6 @@ fn is_row<B: BitBlock>(sets: &[BitSet<B>], node: usize, numbers: &[usize]) -> bo
     match sets.get(node) {
         Some(row) => is(row, numbers),
         None => false,
-    }
-}
-
-// The row of a node has these nodes, and the node reaches all that each of them reaches.
-fn check_row<B: BitBlock>(rt: &impl Abort, sets: &[BitSet<B>], node: usize, slow: &[usize]) {
-    expect_eq_at(rt, node, &is_row(sets, node, slow), &true);
-    for successor in slow {
-        let within = reaches_all_of(sets, node, *successor);
-        expect_of(rt, (node, *successor), within);
-    }
-}
-
-fn check_closure<B: BitBlock>(
-    rt: &impl Abort,
-    alloc: Global,
-    rows: &[Vec<usize>],
-    sets: &mut [BitSet<B>],
-) {
-    ok(rt, close(alloc, sets));
-    for (node, row) in rows.iter().enumerate() {
-        let slow = slowly_reached(rt, alloc, rows, row.as_slice());
-        check_row(rt, sets, node, slow.as_slice());
-    }
-}
-
-fn check_graph<B: BitBlock>(rt: &impl Abort, alloc: Global, rows: &[Vec<usize>]) {
-    let mut sets = sets_of::<B>(rt, alloc, rows);
-    let matrix = matrix_of::<B>(rt, alloc, LIMIT, rows);
-    check_walks::<B, _>(rt, alloc, rows, rows);
-    check_walks::<B, _>(rt, alloc, sets.as_slice(), rows);
-    check_walks::<B, _>(rt, alloc, &matrix, rows);
-    check_any::<B>(rt, alloc, rows);
-    check_closure(rt, alloc, rows, sets.as_mut_slice());
-}
-
-#[test]
-fn random_graphs(rt: HostRuntime) {
-    let mut seed = 7;
-    for nodes in [0, 1, 2, 5, 11, 20] {
-        for edges in [1, 3, 6] {
-            let rows = random_rows(&rt, rt.alloc(), (nodes, edges), &mut seed);
-            check_graph::<u8>(&rt, rt.alloc(), rows.as_slice());
-            check_graph::<u64>(&rt, rt.alloc(), rows.as_slice());
-        }
     }
 }
 

@@ -1,14 +1,14 @@
 //! Automata of textbooks, worked out by hand.
 use super::edges::Edges;
 use super::textbook::{EMPTY_WORD, NONE_ACCEPTS, NOTHING, THIRD_FROM_END, ZEROS};
-use super::words::{accept, accept_as_the_model, accept_marked, has_more_states, size_of, two_of};
+use super::words::{accept, accept_marked, has_more_states, size_of, two_of};
 use crate::expect::{expect, expect_eq};
 use bit_set::BitBlock;
 use std::alloc::Global;
 use std::process::Abort;
 
-// An automaton accepts the words that are marked, and of all words those that the slow model accepts. The deterministic
-// one, of so many states at most, has this many states and symbols.
+// An automaton accepts the words that are marked. The deterministic one, of so many states at most, has this many states
+// and symbols.
 fn check<B: BitBlock>(
     rt: &impl Abort,
     alloc: Global,
@@ -17,7 +17,6 @@ fn check<B: BitBlock>(
 ) {
     let both = two_of::<B>(rt, alloc, of, most);
     accept_marked(rt, alloc, &both, marks);
-    accept_as_the_model(rt, alloc, &both, of);
     expect_eq(rt, &size_of(&both), &size);
 }
 

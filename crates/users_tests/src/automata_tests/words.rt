@@ -1,14 +1,13 @@
 //! Words that automata are asked for.
 use super::edges::{Edges, automaton};
-use super::slow_model::slowly_accepts;
 use crate::expect::{expect, ok};
 use automata::{Dfa, DfaError, Nfa, accepts, determinize};
 use bit_set::BitBlock;
 use std::alloc::Global;
 use std::process::Abort;
 
-/// The last eight digits of a number in base 2, the highest first.
-pub(crate) fn digits_of(number: usize) -> [usize; 8] {
+// The last eight digits of a number in base 2, the highest first.
+fn digits_of(number: usize) -> [usize; 8] {
     let mut digits = [0; 8];
     let mut rest = number;
     for place in 0..8 {
@@ -18,8 +17,8 @@ pub(crate) fn digits_of(number: usize) -> [usize; 8] {
     digits
 }
 
-/// So many of these from the end: the word of 0 and 1 of this length that the digits spell.
-pub(crate) fn word_of(digits: &[usize; 8], length: usize) -> &[usize] {
+// So many of these from the end: the word of 0 and 1 of this length that the digits spell.
+fn word_of(digits: &[usize; 8], length: usize) -> &[usize] {
     digits.get(8usize.saturating_sub(length)..).unwrap_or(&[])
 }
 
@@ -77,32 +76,6 @@ fn accept_row<B: BitBlock>(
         let digits = digits_of(number);
         let word = word_of(&digits, length);
         accept(rt, alloc, both, (word, *mark == b'1'));
-    }
-}
-
-/// Both accept, of all words of 0 and 1 up to length 8, just those that the slow model accepts.
-pub(crate) fn accept_as_the_model<B: BitBlock>(
-    rt: &impl Abort,
-    alloc: Global,
-    both: &Both<B>,
-    of: &Edges<'_>,
-) {
-    for length in 0..9 {
-        accept_words(rt, alloc, both, (of, length));
-    }
-}
-
-// Both accept, of all words of a length, just those that the slow model accepts.
-fn accept_words<B: BitBlock>(
-    rt: &impl Abort,
-    alloc: Global,
-    both: &Both<B>,
-    (of, length): (&Edges<'_>, u32),
-) {
-    for number in 0..2usize.saturating_pow(length) {
-        let digits = digits_of(number);
-        let word = word_of(&digits, length as usize);
-        accept(rt, alloc, both, (word, slowly_accepts(of, word)));
     }
 }
 

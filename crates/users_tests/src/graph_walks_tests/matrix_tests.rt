@@ -1,5 +1,5 @@
-//! The closures of graphs that are matrices: by hand, and beside the slow model.
-use super::{LIMIT, random_rows, rows_of, slowly_reached};
+//! The closures of graphs that are matrices, worked out by hand.
+use super::rows_of;
 use crate::expect::{expect, expect_eq_at, ok};
 use bit_matrix::{BitBlock, BitMatrix, MatrixError};
 use graph_walks::{reflexive_transitive_closure, transitive_closure};
@@ -29,8 +29,8 @@ pub(super) fn matrix_of<B: BitBlock>(
     matrix
 }
 
-/// Whether the row has just these columns, in ascending order.
-pub(super) fn is_row<B: BitBlock>(matrix: &BitMatrix<B>, row: usize, columns: &[usize]) -> bool {
+// Whether the row has just these columns, in ascending order.
+fn is_row<B: BitBlock>(matrix: &BitMatrix<B>, row: usize, columns: &[usize]) -> bool {
     row < matrix.rows() && matrix.iter(row).eq(columns.iter().copied())
 }
 
@@ -123,30 +123,4 @@ fn rows_that_are_no_columns(rt: HostRuntime) {
         edges,
         (&[&[1, 3], &[3]], &[&[0, 1, 3], &[1, 3]]),
     );
-}
-
-// Both closures have what the slow model reaches.
-fn check_random<B: BitBlock>(rt: &impl Abort, alloc: Global, rows: &[Vec<usize>]) {
-    let mut closed = matrix_of::<B>(rt, alloc, LIMIT, rows);
-    transitive_closure(&mut closed);
-    let mut reflexive = matrix_of::<B>(rt, alloc, LIMIT, rows);
-    reflexive_transitive_closure(&mut reflexive);
-    for (node, row) in rows.iter().enumerate() {
-        let slow = slowly_reached(rt, alloc, rows, row.as_slice());
-        expect_eq_at(rt, node, &is_row(&closed, node, slow.as_slice()), &true);
-        let slow = slowly_reached(rt, alloc, rows, &[node]);
-        expect_eq_at(rt, node, &is_row(&reflexive, node, slow.as_slice()), &true);
-    }
-}
-
-#[test]
-fn random_matrices(rt: HostRuntime) {
-    let mut seed = 11;
-    for nodes in [0, 1, 5, 20] {
-        for edges in [1, 3, 6] {
-            let rows = random_rows(&rt, rt.alloc(), (nodes, edges), &mut seed);
-            check_random::<u8>(&rt, rt.alloc(), rows.as_slice());
-            check_random::<u64>(&rt, rt.alloc(), rows.as_slice());
-        }
-    }
 }

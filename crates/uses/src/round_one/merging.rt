@@ -26,9 +26,7 @@ pub fn seen_twice<B: BitBlock>(alloc: Global, sets: &[BitSet<B>]) -> Result<BitS
     let mut once = BitSet::new_general(alloc);
     let mut twice = BitSet::new_general(alloc);
     for set in sets {
-        let mut again = once.clone(alloc)?;
-        again.intersect_with(set)?;
-        twice.union_with(&again)?;
+        let _has_grown = twice.union_with_intersection(&once, set)?;
         once.union_with(set)?;
     }
     Ok(twice)

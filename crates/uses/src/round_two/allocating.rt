@@ -34,6 +34,7 @@ pub fn claim_run<B: BitBlock>(
 }
 
 /// The least colour that no neighbour has.
+#[tactic(auto, using(bit_set::proofs::CallerLemmas::set_steps))]
 pub fn least_colour<B: BitBlock>(
     alloc: Global,
     neighbours: &BitSet<B>,

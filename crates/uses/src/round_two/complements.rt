@@ -6,6 +6,7 @@ use bit_set::{BitBlock, BitSet, SetError};
 use std::alloc::Global;
 
 /// The version numbers that were skipped: those that were not seen, while a greater one was.
+#[tactic(auto, using(bit_set::proofs::CallerLemmas::set_steps))]
 pub fn skipped_versions<B: BitBlock>(alloc: Global, seen: &BitSet<B>) -> Result<BitSet<B>, SetError>
     ensures { IfOk result (λ skipped. (x : ℕ) → IsTrue (has (elements skipped.values) x)
         ↔ ((has (elements seen.now.values) x ≡ false)
