@@ -77,7 +77,7 @@ take_seconds 0.1
 others="$room/others"
 mkdir "$others"
 for command in python3 dpkg-deb strip objdump aarch64-linux-gnu-{gcc,ar,strip}; do
-    ln -s "$(command -v true)" "$others/$command"
+    ln -s "$(type -P true)" "$others/$command"
 done
 cp -r "$top/release" "$library"
 cp -r "$top/tools/release" "$library/tools"
