@@ -1,7 +1,7 @@
 // Merges of the blocks of two lists that have summaries. A merge goes by the summaries: of a chunk, the blocks that a block of
 // the summary is about, it reads what one of them says may change.
-ghost use Rattle.std.specs.Prelude.{◌≡◌, ℕ, ◌+◌, ◌*◌, ◌<◌, ◌≤◌, All, Bool, IsTrue, false, get_or, length, map, true};
-ghost use Rattle.bit_blocks.specs.{BlockMerges.{other_at, CanMerge, HasMerged, Stay}, Digits.is_one, Merges.merge_of_values, Storage.is_used, declared.block.merge.Merge.Merge};
+ghost use Rattle.std.specs.Prelude.{◌≡◌, ℕ, ◌+◌, ◌*◌, ◌/◌, ◌<◌, ◌≤◌, All, Bool, IsTrue, false, get_or, length, map, true};
+ghost use Rattle.bit_blocks.specs.{Bits.blocks_for, BlockMerges.{other_at, CanMerge, HasMerged, Stay}, Digits.is_one, Merges.merge_of_values, Storage.is_used, declared.block.merge.Merge.Merge};
 ghost use Rattle.bit_words.specs.Summary.{IsSummary, IsStoredSummary, SaysUsed};
 
 use crate::summary::merges::touched::{merge_touched, touched_by};
@@ -231,6 +231,7 @@ pub(crate) fn chunks_to_merge<B: BitBlock, O: Operation, S: Others<B>>(
     requires can { CanMerge B.is_block blocks.now (S.count others) (S.are_blocks others) }
     requires summary { IsSummary B.width B.number B.is_block blocks.now summary.now }
     ensures within { result ≤ length summary.now }
+    ensures enough { blocks_for B.width (S.count others) ≤ result }
     ensures rest { Stay O.merge B.width B.number (result * B.width) (length blocks.now) (S.digit others) blocks.now }
 {
     if keeps_alone::<B, O>() {
@@ -262,6 +263,79 @@ pub(crate) fn is_dense<B: BitBlock, O: Operation, S: Summarized<B>>(
     true
 }
 
+// The blocks of the chunks from `first` on and before `end` become their merges with the others, and the summary follows them.
+// No summary is asked what may change: that saves nothing where most blocks may.
+#[inline]
+fn merge_chunks<B: BitBlock, O: Operation, S: Others<B>>(
+    blocks: &mut [B],
+    summary: &mut [B],
+    others: S,
+    first: usize,
+    end: usize,
+)
+    requires can { CanMerge B.is_block blocks.old (S.count others) (S.are_blocks others) }
+    requires forward { first ≤ end }
+    requires in_others { end * B.width ≤ S.count others }
+    requires in_summary { end ≤ length summary.old }
+    requires summary { IsSummary B.width B.number B.is_block blocks.old summary.old }
+    ensures has { HasMerged O.merge B.width B.number B.is_block (first * B.width) (end * B.width) (S.digit others)
+        blocks.old blocks.new }
+    ensures summary { IsSummary B.width B.number B.is_block blocks.new summary.new }
+    ensures summary_len { length summary.new ≡ length summary.old }
+{
+    for q in first..end {
+        let digits = merge_whole::<B, O, S>(blocks, others, q);
+        put_in(summary, q, digits);
+    }
+}
+
+// The same of chunks that the others may end in or before, each by what the summaries say may change.
+#[inline]
+fn merge_touched_chunks<B: BitBlock, O: Operation, S: Summarized<B>>(
+    blocks: &mut [B],
+    summary: &mut [B],
+    others: S,
+    first: usize,
+    end: usize,
+)
+    requires can { CanMerge B.is_block blocks.old (S.count others) (S.are_blocks others) }
+    requires summaries { S.are_summarized others }
+    requires forward { first ≤ end }
+    requires in_summary { end ≤ length summary.old }
+    requires summary { IsSummary B.width B.number B.is_block blocks.old summary.old }
+    ensures has { HasMerged O.merge B.width B.number B.is_block (first * B.width) (end * B.width) (S.digit others)
+        blocks.old blocks.new }
+    ensures summary { IsSummary B.width B.number B.is_block blocks.new summary.new }
+    ensures summary_len { length summary.new ≡ length summary.old }
+{
+    for q in first..end {
+        merge_chunk_at::<B, O, S>(blocks, summary, others, q);
+    }
+}
+
+// Before which chunk all are merged and no summary is asked: the first that the others do not fill where most blocks may change,
+// and else that of block `start`.
+#[inline]
+fn dense_end<B: BitBlock, O: Operation, S: Summarized<B>>(
+    blocks: &[B],
+    summary: &[B],
+    others: S,
+    start: usize,
+) -> usize
+    requires can { CanMerge B.is_block blocks.now (S.count others) (S.are_blocks others) }
+    requires summaries { S.are_summarized others }
+    requires from { start ≤ S.count others }
+    requires summary { IsSummary B.width B.number B.is_block blocks.now summary.now }
+    ensures from { start / B.width ≤ result }
+    ensures in_others { result * B.width ≤ S.count others }
+{
+    if is_dense::<B, O, S>(blocks, summary, others) {
+        block_index::<B>(others.len())
+    } else {
+        block_index::<B>(start)
+    }
+}
+
 // Each block becomes its merge with the other of its index, or with zeros where there is none, and the summary is that of
 // what they become. The blocks before `start` stay, and are passed over but for those of its chunk. It is a call of its own,
 // so that what picks the merge is short and goes into its caller, which knows the merge.
@@ -274,16 +348,18 @@ pub(crate) fn merge_long<B: BitBlock, O: Operation, S: Summarized<B>>(
 )
     requires can { CanMerge B.is_block blocks.old (S.count others) (S.are_blocks others) }
     requires summaries { S.are_summarized others }
+    requires from { start ≤ S.count others }
     requires stay { Stay O.merge B.width B.number 0 start (S.digit others) blocks.old }
     requires summary { IsSummary B.width B.number B.is_block blocks.old summary.old }
     ensures has { HasMerged O.merge B.width B.number B.is_block 0 (length blocks.old) (S.digit others)
         blocks.old blocks.new }
     ensures summary { IsSummary B.width B.number B.is_block blocks.new summary.new }
+    ensures summary_len { length summary.new ≡ length summary.old }
 {
     let chunks = chunks_to_merge::<B, O, S>(blocks, summary, others);
-    for q in block_index::<B>(start)..chunks {
-        merge_chunk_at::<B, O, S>(blocks, summary, others, q);
-    }
+    let dense = dense_end::<B, O, S>(blocks, summary, others, start);
+    merge_chunks::<B, O, S>(blocks, summary, others, block_index::<B>(start), dense);
+    merge_touched_chunks::<B, O, S>(blocks, summary, others, dense, chunks);
 }
 
 // A union of two long lists by a pass over all blocks: its summary is the union of theirs. The blocks before `start` stay.

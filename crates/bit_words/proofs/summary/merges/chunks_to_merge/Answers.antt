@@ -23,3 +23,8 @@ pub returns-then-keeps_alone-clause-within : goal.returns-then-keeps_alone-claus
 returns-then-keeps_alone-clause-within g c =
     let le = blocks_for-le g.B.BitBlock.width c.len.result (length c.args.blocks.now) g.met.B.BitBlock.width_law.positive (omega (arith, c.len.ensures.value, c.requires.can.fewer)) in
     omega (arith, le, c.block_count.ensures, c.requires.summary.packed.count)
+
+pub returns-else-keeps_alone-clause-enough : goal.returns-else-keeps_alone-clause-enough
+returns-else-keeps_alone-clause-enough g c =
+    let le = blocks_for-le g.B.BitBlock.width (g.S.Others.count c.args.others) (length c.args.blocks.now) g.met.B.BitBlock.width_law.positive c.requires.can.fewer in
+    omega (arith, le, c.requires.summary.packed.count)

@@ -1,4 +1,4 @@
-use Rattle.std.proofs.Common.{◌≡◌, ◌+◌, ◌-◌, ◌*◌, ◌∙◌, map, sym, ap, arith}
+use Rattle.std.proofs.Common.{◌≡◌, ◌+◌, ◌*◌, ◌∙◌, map, sym, ap, arith}
 use Rattle.bit_blocks.{specs.Digits.is_one, proofs.{BlockMergeLemmas.merged_stay, StorageLemmas.value_at-index}}
 use Rattle.bit_words.proofs.{ChunkLemmas.chunk_summary, TouchedLemmas.stay_untouched}
 use Rattle.bit_words.proofs.summary.merges.merge_chunk_at.Goals as goal
