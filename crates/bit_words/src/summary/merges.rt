@@ -241,8 +241,8 @@ pub(crate) fn chunks_to_merge<B: BitBlock, O: Operation, S: Others<B>>(
     }
 }
 
-// Whether most blocks may change in each chunk that is looked at: then a pass over all blocks is the shortest. The last chunk
-// may be a part of one, and is not looked at.
+// Whether more than a few blocks may change in the chunks that are looked at, but for one in sixteen: then a pass over all blocks
+// is the shortest. The last chunk may be a part of one, and is not looked at.
 #[inline]
 pub(crate) fn is_dense<B: BitBlock, O: Operation, S: Summarized<B>>(
     blocks: &[B],
@@ -254,18 +254,24 @@ pub(crate) fn is_dense<B: BitBlock, O: Operation, S: Summarized<B>>(
     requires summary { IsSummary B.width B.number B.is_block blocks.now summary.now }
 {
     let last = chunks_to_merge::<B, O, S>(blocks, summary, others).saturating_sub(1);
-    for sample in 0..last.div_ceil(SAMPLED) {
+    let samples = last.div_ceil(SAMPLED);
+    let mut spared = samples / 16;
+    for sample in 0..samples {
         let touched = touched_at::<B, O, S>(blocks, summary, others, sample * SAMPLED);
-        if touched.count_ones() <= B::bits() / 2 {
-            return false;
+        if touched.count_ones() <= B::bits() / FEW {
+            if spared == 0 {
+                return false;
+            }
+            spared -= 1;
         }
     }
     true
 }
 
 // The blocks of the chunks from `first` on and before `end` become their merges with the others, and the summary follows them.
-// No summary is asked what may change: that saves nothing where most blocks may.
-#[inline]
+// No summary is asked what may change: that saves nothing where many blocks may. It is a call of its own, so that the loop that
+// asks keeps its registers.
+#[inline(never)]
 fn merge_chunks<B: BitBlock, O: Operation, S: Others<B>>(
     blocks: &mut [B],
     summary: &mut [B],
@@ -313,8 +319,8 @@ fn merge_touched_chunks<B: BitBlock, O: Operation, S: Summarized<B>>(
     }
 }
 
-// Before which chunk all are merged and no summary is asked: the first that the others do not fill where most blocks may change,
-// and else that of block `start`.
+// Before which chunk all are merged and no summary is asked: where many blocks may change the first that the others do not fill, and
+// else that of block `start`.
 #[inline]
 fn dense_end<B: BitBlock, O: Operation, S: Summarized<B>>(
     blocks: &[B],
