@@ -1,4 +1,5 @@
-// Operations in place that tell whether they changed the set, and the ones that make a set of many.
+// Calls on two sets: operations in place that tell whether they changed the set, the ones that make a set of many, and what
+// compares and counts.
 use crate::faults::Fault;
 use crate::work::{Sets, Work};
 use bit_set::BitSet;
@@ -13,6 +14,8 @@ pub enum Change {
     UnionWithDifference,
     UnionOf,
     IntersectionOf,
+    Eq,
+    IntersectionCount,
 }
 
 impl Work for Change {
@@ -25,27 +28,33 @@ impl Work for Change {
             "union_with_difference" => Change::UnionWithDifference,
             "union_of" => Change::UnionOf,
             "intersection_of" => Change::IntersectionOf,
+            "eq" => Change::Eq,
+            "intersection_count" => Change::IntersectionCount,
             _ => return None,
         })
     }
 
     fn turn(self, alloc: Global, sets: &mut Sets, n: usize) -> Result<usize, Fault> {
         let Sets { set, other } = sets;
-        Ok(usize::from(match self {
-            Change::Union => set.union_changes(other)?,
-            Change::Intersection => set.intersection_changes(other)?,
-            Change::Difference => set.difference_changes(other)?,
-            Change::SymmetricDifference => set.symmetric_difference_changes(other)?,
+        Ok(match self {
+            Change::Union => usize::from(set.union_changes(other)?),
+            Change::Intersection => usize::from(set.intersection_changes(other)?),
+            Change::Difference => usize::from(set.difference_changes(other)?),
+            Change::SymmetricDifference => usize::from(set.symmetric_difference_changes(other)?),
             Change::UnionWithDifference => {
-                set.union_with_difference(other, &BitSet::new_general(alloc))?
+                usize::from(set.union_with_difference(other, &BitSet::new_general(alloc))?)
             }
-            Change::UnionOf => BitSet::union_of(alloc, &copies(alloc, set, other)?)?.contains(
-                n / 2,
-            ),
+            Change::UnionOf => {
+                let united = BitSet::union_of(alloc, &copies(alloc, set, other)?)?;
+                usize::from(united.contains(n / 2))
+            }
             Change::IntersectionOf => {
-                BitSet::intersection_of(alloc, &copies(alloc, set, other)?)?.contains(n / 2)
+                let common = BitSet::intersection_of(alloc, &copies(alloc, set, other)?)?;
+                usize::from(common.contains(n / 2))
             }
-        }))
+            Change::Eq => usize::from(*set == *other),
+            Change::IntersectionCount => set.intersection_count(other),
+        })
     }
 }
 
