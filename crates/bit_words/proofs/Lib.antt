@@ -7,6 +7,7 @@ pub mod MovedLemmas
 pub mod RangeQueryLemmas
 pub mod MergedOnesLemmas
 pub mod ComparedLemmas
+pub mod ClearedLemmas
 pub mod KeepLemmas
 pub mod PutLemmas
 pub mod ChunkLemmas

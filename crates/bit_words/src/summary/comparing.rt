@@ -3,8 +3,7 @@ ghost use Rattle.std.specs.Prelude.{◌≡◌, ℕ, ◌+◌, ◌*◌, ◌^◌, �
 ghost use Rattle.bit_blocks.specs.{Digits.is_one, Mismatches.IsFirstBlockMismatch, Storage.value_at};
 ghost use Rattle.bit_words.specs.Summary.{IsStoredSummary};
 
-use crate::summary::merges::FEW;
-use crate::summary::queries::{first_chunks, is_full};
+use crate::summary::queries::{chunks_before_few, first_chunks, has_few, is_full};
 use crate::summary::{is_nonzero, is_short};
 use bit_blocks::block::BitBlock;
 use bit_blocks::block::lowest::take_lowest_one;
@@ -63,30 +62,6 @@ fn mismatch_of_used<B: BitBlock>(blocks: &[B], others: &[B], q: usize, used: B) 
         }
     }
     None
-}
-
-// Whether few blocks of a chunk are not 0, of which this block of the summary says which.
-#[inline(always)]
-fn has_few<B: BitBlock>(used: B) -> bool
-    requires { B.is_block used }
-{
-    used.count_ones() <= B::bits() / FEW
-}
-
-// How many blocks of a summary come before the next of which few blocks are not 0: the first counts in any case.
-#[inline]
-fn chunks_before_few<B: BitBlock>(summary: &[B]) -> usize
-    requires each { All B.is_block summary.now }
-    requires some { 0 < length summary.now }
-    ensures some { 0 < result }
-    ensures within { result ≤ length summary.now }
-{
-    for k in 1..summary.len() {
-        if has_few(block_at(summary, k)) {
-            return k;
-        }
-    }
-    summary.len()
 }
 
 // The first block that differs of the next chunks from `q` on, and how many these are: chunks of zeros, one in which few blocks
