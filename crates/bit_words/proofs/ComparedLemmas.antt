@@ -129,7 +129,7 @@ summary_enough w number is_block xs ss pos is =
     omega (arith, blocks_for-enough w (length xs) pos, whole)
 
 -- a block that is not 0 is in its list
-used_within : {X : Type 0} (number : X → ℕ) (xs : List X) (k : ℕ) → is_used (map number xs) k ≡ true → k < length xs
+pub used_within : {X : Type 0} (number : X → ℕ) (xs : List X) (k : ℕ) → is_used (map number xs) k ≡ true → k < length xs
 used_within number xs k some =
     ⊎_elim
     (λ below. below)

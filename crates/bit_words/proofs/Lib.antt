@@ -8,6 +8,7 @@ pub mod RangeQueryLemmas
 pub mod MergedOnesLemmas
 pub mod ComparedLemmas
 pub mod ClearedLemmas
+pub mod CopiedLemmas
 pub mod KeepLemmas
 pub mod PutLemmas
 pub mod ChunkLemmas

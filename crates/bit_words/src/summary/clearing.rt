@@ -64,7 +64,11 @@ fn clear_next<B: BitBlock>(blocks: &mut [B], summary: &[B], q: usize) -> usize
     }
     let count = chunks_before_few(rest);
     let width = B::bits();
-    clear_blocks(blocks, q.saturating_mul(width), (q + count).saturating_mul(width));
+    clear_blocks(
+        blocks,
+        q.saturating_mul(width),
+        (q + count).saturating_mul(width),
+    );
     count
 }
 
