@@ -1,8 +1,8 @@
 -- Where two lists of blocks differ, run by run of their chunks.
-use Rattle.std.proofs.Common.{◌≡◌, ℕ, ◌+◌, ◌-◌, ◌*◌, ◌/◌, ◌%◌, ◌^◌, ◌<◌, ◌≤◌, ◌==◌, Bool, false, true, not, Option, None, Some, MatchOption, is_some, unwrap_or, div-lt_iff_lt-mul, List, map}
-use Rattle.std.proofs.Common.{drop, take, get_or, length, length-take, sym, ap, ◌∙◌, ⊎_elim, arith}
-use Rattle.std.proofs.lemmas.{Bool.{cases_lt, false≢true}, List.{get_or_past, length-map}, Nat.le-div}
-use Rattle.bit_blocks.specs.{Digits.is_one, Mismatches.IsFirstBlockMismatch, Storage.value_at}
+use Rattle.std.proofs.Common.{◌≡◌, ◌≢◌, ℕ, ◌+◌, ◌-◌, ◌*◌, ◌/◌, ◌%◌, ◌^◌, ◌<◌, ◌≤◌, ◌==◌, Bool, false, true, not, Option, None, Some, MatchOption, is_some, unwrap_or, div-lt_iff_lt-mul, List, map}
+use Rattle.std.proofs.Common.{drop, take, get_or, length, length-take, sym, subst, ap, ◌∙◌, ⊎_elim, arith}
+use Rattle.std.proofs.lemmas.{Bool.{cases_lt, cases_eq, false≢true}, List.{get_or_past, length-map}, Nat.le-div}
+use Rattle.bit_blocks.specs.{Digits.is_one, Lowest.{IsLowest, IsCleared}, Mismatches.IsFirstBlockMismatch, Storage.{value_at, is_used}}
 use Rattle.bit_blocks.proofs.{BitsLemmas.blocks_for-enough, CompareLemmas.digit_from_zero, StorageLemmas.{value_at-is, value_at-past}, UseLemmas.{same_block, zero_from_unused}}
 use Rattle.bit_blocks.proofs.{VectorLemmas.numbers_below, ZeroLemmas.{dropped, front_read}}
 use Rattle.bit_words.specs.Summary.{IsSummary}
@@ -64,6 +64,52 @@ pub for_none : {A : Type 0} (o : Option A) (P R : Type 0) (Q : A → Type 0) →
 for_none None P R Q more match = more match
 for_none (Some x) P R Q more match = match
 
+-- ---- block by block
+
+module _ (w q : ℕ) (ms ns : List ℕ) (before : (k : ℕ) → k < q * w → get_or ms k 0 ≡ get_or ns k 0) where
+  -- where none is left, the chunk is the same
+  pub same_chunk : (left : ℕ) → left ≡ 0 → ((p : ℕ) → p < w → is_one left p ≡ false → get_or ms (q * w + p) 0 ≡ get_or ns (q * w + p) 0) → (k : ℕ) → k < (q + 1) * w
+      → get_or ms k 0 ≡ get_or ns k 0
+  same_chunk left none same k below =
+      ⊎_elim
+      (before k)
+      (λ (reached : q * w ≤ k).
+      let place : q * w + (k - q * w) ≡ k = omega arith in
+      rw place at (same (k - q * w) (omega (arith, below, reached)) (digit_from_zero left (k - q * w) none)))
+      (cases_lt k (q * w))
+
+  -- the lowest that is left is the first that differs, if it does
+  pub first_of_used : (left i : ℕ) → i < w → IsLowest left i → ((p : ℕ) → p < w → is_one left p ≡ false → get_or ms (q * w + p) 0 ≡ get_or ns (q * w + p) 0)
+      → get_or ms (q * w + i) 0 ≢ get_or ns (q * w + i) 0 → IsFirstBlockMismatch ms ns (q * w + i)
+  first_of_used left i within low same here = record {
+    below = λ j early.
+        ⊎_elim
+        (before j)
+        (λ (reached : q * w ≤ j).
+        let place : q * w + (j - q * w) ≡ j = omega arith in
+        let zero : is_one left (j - q * w) ≡ false = ap (λ d. d == 1) (low.zeros (j - q * w) (omega (arith, early, reached))) in
+        rw place at (same (j - q * w) (omega (arith, early, reached, within)) zero))
+        (cases_lt j (q * w));
+    here = here;
+  }
+
+-- what holds where a number has a 0, and where its lowest 1 is, holds where that is cleared
+pub same_but_lowest : (w i left rest : ℕ) (P : ℕ → Type 0) → IsCleared w left i rest → ((p : ℕ) → p < w → is_one left p ≡ false → P p) → P i
+    → (p : ℕ) → p < w → is_one rest p ≡ false → P p
+same_but_lowest w i left rest P cleared same here p within none =
+    ⊎_elim
+    (λ (e : p ≡ i). subst P (sym e) here)
+    (λ (apart : p ≢ i). same p within (sym (ap (λ d. d == 1) (cleared.kept p within apart)) ∙ none))
+    (cases_eq p i)
+
+-- what is left of a number has a 1 where it had one
+pub ones_but_lowest : (w i left rest p : ℕ) → IsCleared w left i rest → p < w → is_one rest p ≡ true → is_one left p ≡ true
+ones_but_lowest w i left rest p cleared within one =
+    ⊎_elim
+    (λ (e : p ≡ i). absurd (false≢true (sym (ap (λ d. d == 1) cleared.cleared) ∙ sym (ap (is_one rest) e) ∙ one)))
+    (λ (apart : p ≢ i). sym (ap (λ d. d == 1) (cleared.kept p within apart)) ∙ one)
+    (cases_eq p i)
+
 -- ---- by summaries
 
 -- what zeros of a summary say
@@ -82,12 +128,26 @@ summary_enough w number is_block xs ss pos is =
     let whole = ap (λ k. k * w) is.packed.count in
     omega (arith, blocks_for-enough w (length xs) pos, whole)
 
+-- a block that is not 0 is in its list
+pub used_within : {X : Type 0} (number : X → ℕ) (xs : List X) (k : ℕ) → is_used (map number xs) k ≡ true → k < length xs
+used_within number xs k some =
+    ⊎_elim
+    (λ below. below)
+    (λ (past : length xs ≤ k). absurd (false≢true (sym (ap (λ m. not (m == 0)) (get_or_past (map number xs) k 0 (rw length-map past))) ∙ some)))
+    (cases_lt k (length xs))
+
 module _ {X : Type 0} (w : ℕ) (number : X → ℕ) (is_block : X → Type 0) (xs ys ss ts : List X) (pos : 0 < w) (own : IsSummary w number is_block xs ss) (other : IsSummary w number is_block ys ts) where
   -- blocks of which neither summary has a bit
   pub both_zero : (k : ℕ) → get_or (map number ss) (k / w) 0 ≡ get_or (map number ts) (k / w) 0 → value_at w (map number ss) k ≡ false → get_or (map number xs) k 0 ≡ get_or (map number ys) k 0
   both_zero k same none =
       let also : value_at w (map number ts) k ≡ false = value_at-is w (map number ts) k ∙ ap (λ m. is_one m (k % w)) (sym same) ∙ sym (value_at-is w (map number ss) k) ∙ none in
       zero_from_unused _ (sym (own.digit k) ∙ none) ∙ sym (zero_from_unused _ (sym (other.digit k) ∙ also))
+
+  -- blocks of which a summary has a bit
+  pub in_both : (k : ℕ) → get_or (map number ss) (k / w) 0 ≡ get_or (map number ts) (k / w) 0 → value_at w (map number ss) k ≡ true → (k < length xs) × (k < length ys)
+  in_both k same some =
+      let also : value_at w (map number ts) k ≡ true = value_at-is w (map number ts) k ∙ ap (λ m. is_one m (k % w)) (sym same) ∙ sym (value_at-is w (map number ss) k) ∙ some in
+      (used_within number xs k (sym (own.digit k) ∙ some), used_within number ys k (sym (other.digit k) ∙ also))
 
   -- it is enough to look where a summary reaches
   pub same_everywhere : ((q : ℕ) → get_or (map number ss) q 0 ≡ get_or (map number ts) q 0) → ((k : ℕ) → k < length ss * w → get_or (map number xs) k 0 ≡ get_or (map number ys) k 0)

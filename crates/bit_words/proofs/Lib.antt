@@ -7,6 +7,8 @@ pub mod MovedLemmas
 pub mod RangeQueryLemmas
 pub mod MergedOnesLemmas
 pub mod ComparedLemmas
+pub mod ClearedLemmas
+pub mod CopiedLemmas
 pub mod KeepLemmas
 pub mod PutLemmas
 pub mod ChunkLemmas

@@ -7,10 +7,8 @@ ghost use Rattle.bit_blocks.specs.{Digits.is_one, Storage.{value_at, is_used}, d
 ghost use Rattle.bit_words.specs.Summary.{IsSummary, IsStoredSummary};
 
 use crate::summary::merges::touched::changes_touched;
-use crate::summary::merges::{
-    FEW, chunks_to_merge, is_dense, merge_long, merge_stored, touched_at,
-};
-use crate::summary::queries::summary_at;
+use crate::summary::merges::{chunks_to_merge, is_dense, merge_long, merge_stored, touched_at};
+use crate::summary::queries::{has_few, summary_at};
 use crate::summary::remaking::remake_summary;
 use crate::summary::summarized::{Apart, Common, Listed, Summarized};
 use crate::summary::{is_nonzero, is_short, used_from};
@@ -41,7 +39,7 @@ fn changes_chunk<B: BitBlock, O: Operation, S: Summarized<B>>(
         ↔ Stay O.merge B.width B.number (q * B.width) ((q + 1) * B.width) (S.digit others) blocks.now }
 {
     let touched = touched_at::<B, O, S>(blocks, summary, others, q);
-    if touched.count_ones() <= B::bits() / FEW || block_index::<B>(others.len()) <= q {
+    if has_few(touched) || block_index::<B>(others.len()) <= q {
         return changes_touched::<B, O, S>(blocks, others, q, touched);
     }
     let start = q * B::bits();

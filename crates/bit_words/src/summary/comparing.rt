@@ -1,11 +1,14 @@
 // Where two lists of blocks first differ, by their summaries. A block past the end of a list counts as 0.
-ghost use Rattle.std.specs.Prelude.{◌≡◌, ℕ, ◌+◌, ◌*◌, ◌<◌, ◌↔◌, All, IsTrue, MatchOption, false, get_or, length, map};
-ghost use Rattle.bit_blocks.specs.{Mismatches.IsFirstBlockMismatch, Storage.value_at};
+ghost use Rattle.std.specs.Prelude.{◌≡◌, ℕ, ◌+◌, ◌*◌, ◌^◌, ◌<◌, ◌≤◌, ◌↔◌, All, IsTrue, MatchOption, false, true, get_or, length, map};
+ghost use Rattle.bit_blocks.specs.{Digits.is_one, Mismatches.IsFirstBlockMismatch, Storage.value_at};
 ghost use Rattle.bit_words.specs.Summary.{IsStoredSummary};
 
-use crate::summary::is_short;
-use crate::summary::queries::{chunks_before_zero, first_chunks, is_full};
+use crate::summary::queries::{chunks_before_few, first_chunks, has_few, is_full};
+use crate::summary::{is_nonzero, is_short};
 use bit_blocks::block::BitBlock;
+use bit_blocks::block::lowest::take_lowest_one;
+use bit_blocks::block::operators::same;
+use bit_blocks::packed::access::block_at;
 use bit_blocks::packed::comparing::{first_mismatching_block, same_blocks};
 use bit_blocks::packed::zeros::zeros_before;
 
@@ -32,13 +35,84 @@ fn mismatch_in_chunks<B: BitBlock>(
     Some(q * B::bits() + k)
 }
 
+// The first block that differs of chunk `q`, where those at which `used` has a 0 are the same. Compares the others one by one.
+#[inline]
+fn mismatch_of_used<B: BitBlock>(blocks: &[B], others: &[B], q: usize, used: B) -> Option<usize>
+    requires each { All B.is_block blocks.now }
+    requires others { All B.is_block others.now }
+    requires of_used { B.is_block used }
+    requires in_both { (p : ℕ) → p < B.width → is_one (B.number used) p ≡ true
+        → (q * B.width + p < length blocks.now) × (q * B.width + p < length others.now) }
+    requires fits { length blocks.now < 2 ^ 64 }
+    requires before { (k : ℕ) → k < q * B.width
+        → get_or (map B.number blocks.now) k 0 ≡ get_or (map B.number others.now) k 0 }
+    requires same { (p : ℕ) → p < B.width → is_one (B.number used) p ≡ false
+        → get_or (map B.number blocks.now) (q * B.width + p) 0 ≡ get_or (map B.number others.now) (q * B.width + p) 0 }
+    ensures { MatchOption result
+        ((k : ℕ) → k < (q + 1) * B.width
+        → get_or (map B.number blocks.now) k 0 ≡ get_or (map B.number others.now) k 0)
+        (IsFirstBlockMismatch (map B.number blocks.now) (map B.number others.now)) }
+{
+    let mut left = used;
+    while is_nonzero(left) {
+        let p = take_lowest_one(&mut left);
+        let k = q * B::bits() + p;
+        if !same(block_at(blocks, k), block_at(others, k)) {
+            return Some(k);
+        }
+    }
+    None
+}
+
+// The first block that differs of the next chunks from `q` on, and how many these are: chunks of zeros, one in which few blocks
+// are not 0, or all up to the next such one. Those before are the same.
+#[inline(always)]
+fn mismatch_in_next<B: BitBlock>(
+    blocks: &[B],
+    others: &[B],
+    summary: &[B],
+    q: usize,
+) -> (Option<usize>, usize)
+    requires in_summary { q < length summary.now }
+    requires each { All B.is_block blocks.now }
+    requires others { All B.is_block others.now }
+    requires fits { length blocks.now < 2 ^ 64 }
+    requires summary { All B.is_block summary.now }
+    requires before { (k : ℕ) → k < q * B.width
+        → get_or (map B.number blocks.now) k 0 ≡ get_or (map B.number others.now) k 0 }
+    requires in_both { (k : ℕ) → value_at B.width (map B.number summary.now) k ≡ true
+        → (k < length blocks.now) × (k < length others.now) }
+    requires zeros { (k : ℕ) → k < length summary.now * B.width → value_at B.width (map B.number summary.now) k ≡ false
+        → get_or (map B.number blocks.now) k 0 ≡ get_or (map B.number others.now) k 0 }
+    ensures some { 0 < result.1 }
+    ensures within { q + result.1 ≤ length summary.now }
+    ensures found { MatchOption result.0
+        ((k : ℕ) → k < (q + result.1) * B.width
+        → get_or (map B.number blocks.now) k 0 ≡ get_or (map B.number others.now) k 0)
+        (IsFirstBlockMismatch (map B.number blocks.now) (map B.number others.now)) }
+{
+    let used = block_at(summary, q);
+    let rest = summary.split_at(q).1;
+    if !is_nonzero(used) {
+        return (None, zeros_before(rest));
+    }
+    if has_few(used) {
+        return (mismatch_of_used(blocks, others, q, used), 1);
+    }
+    let count = chunks_before_few(rest);
+    (mismatch_in_chunks(blocks, others, q, count), count)
+}
+
 // The first block that differs of those that the summary is about, where those are 0 in both lists of which it says so.
-// Compares each run of chunks that have others in one pass.
+// Where few blocks of a chunk are not 0, it compares these alone.
 #[inline(never)]
 fn mismatch_in_runs<B: BitBlock>(blocks: &[B], others: &[B], summary: &[B]) -> Option<usize>
     requires each { All B.is_block blocks.now }
     requires others { All B.is_block others.now }
+    requires fits { length blocks.now < 2 ^ 64 }
     requires summary { All B.is_block summary.now }
+    requires in_both { (k : ℕ) → value_at B.width (map B.number summary.now) k ≡ true
+        → (k < length blocks.now) × (k < length others.now) }
     requires zeros { (k : ℕ) → k < length summary.now * B.width → value_at B.width (map B.number summary.now) k ≡ false
         → get_or (map B.number blocks.now) k 0 ≡ get_or (map B.number others.now) k 0 }
     ensures { MatchOption result
@@ -48,13 +122,11 @@ fn mismatch_in_runs<B: BitBlock>(blocks: &[B], others: &[B], summary: &[B]) -> O
 {
     let mut q = 0;
     while q < summary.len() {
-        let used = chunks_before_zero(summary.split_at(q).1);
-        let found = mismatch_in_chunks(blocks, others, q, used);
+        let (found, count) = mismatch_in_next(blocks, others, summary, q);
         if found.is_some() {
             return found;
         }
-        q += used;
-        q += zeros_before(summary.split_at(q).1);
+        q += count;
     }
     None
 }

@@ -5,7 +5,7 @@ ghost use Rattle.bit_blocks.specs.{Bits.blocks_for, BlockMerges.{other_at, CanMe
 ghost use Rattle.bit_words.specs.Summary.{IsSummary, IsStoredSummary, SaysUsed};
 
 use crate::summary::merges::touched::{merge_touched, touched_by};
-use crate::summary::queries::SAMPLED;
+use crate::summary::queries::{SAMPLED, has_few};
 use crate::summary::summarized::{Listed, Summarized};
 use crate::summary::{is_nonzero, is_short, used_from};
 use bit_blocks::block::BitBlock;
@@ -125,9 +125,6 @@ fn unite_whole<B: BitBlock, O: Operation, S: Summarized<B>>(
     }
 }
 
-// Where at most one in so many blocks of a chunk may change, these are merged one by one, and else all by vector code.
-pub(crate) const FEW: usize = 8;
-
 // The blocks of chunk `q` become their merges with the others of their indexes, or with zeros where there are none, where
 // those at the ones of `touched` may change. Of the summary `own` is the block, and what it is then is returned.
 #[inline(always)]
@@ -156,7 +153,7 @@ fn merge_chunk<B: BitBlock, O: Operation, S: Summarized<B>>(
     ensures digits { (p : ℕ) → p < B.width
         → is_one (B.number result) p ≡ is_used (map B.number blocks.new) (q * B.width + p) }
 {
-    if touched.count_ones() <= B::bits() / FEW || block_index::<B>(others.len()) <= q {
+    if has_few(touched) || block_index::<B>(others.len()) <= q {
         merge_touched::<B, O, S>(blocks, others, q, own, touched)
     } else if O::is_union() {
         unite_whole::<B, O, S>(blocks, others, q, own)

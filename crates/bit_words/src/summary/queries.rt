@@ -100,6 +100,33 @@ pub(crate) fn chunks_before_zero<B: BitBlock>(summary: &[B]) -> usize
     summary.len()
 }
 
+// Where at most one in so many blocks of a chunk is looked at, these are taken one by one, and else all by vector code.
+const FEW: usize = 8;
+
+// Whether few blocks of a chunk are looked at: those at the ones of `used`.
+#[inline(always)]
+pub(crate) fn has_few<B: BitBlock>(used: B) -> bool
+    requires { B.is_block used }
+{
+    used.count_ones() <= B::bits() / FEW
+}
+
+// How many blocks of a summary come before the next of which few blocks are not 0: the first counts in any case.
+#[inline]
+pub(crate) fn chunks_before_few<B: BitBlock>(summary: &[B]) -> usize
+    requires each { All B.is_block summary.now }
+    requires some { 0 < length summary.now }
+    ensures some { 0 < result }
+    ensures within { result ≤ length summary.now }
+{
+    for k in 1..summary.len() {
+        if has_few(block_at(summary, k)) {
+            return k;
+        }
+    }
+    summary.len()
+}
+
 // The blocks that the first blocks of a summary are about, or all where there are fewer, and the others.
 #[inline]
 pub(crate) fn first_chunks<B: BitBlock>(blocks: &[B], chunks: usize) -> (&[B], &[B])

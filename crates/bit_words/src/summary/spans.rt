@@ -1,13 +1,78 @@
 // Merges with a span, and blocks that are put over others: the summary follows.
 ghost use Rattle.std.specs.Prelude.{◌≡◌, ◌+◌, ◌*◌, ◌^◌, ◌<◌, ◌≤◌, All, length, map, true, false, vec_len, vec_capacity, Bool};
 ghost use Rattle.bit_blocks.specs.{BlockMerges.IsMergedSpan, Merges.merge_of_values, Storage.WritesInPlace, declared.block.merge.Merge.Merge};
-ghost use Rattle.bit_words.specs.{Kept.IsPut, Summary.IsStoredSummary};
+ghost use Rattle.bit_words.specs.{Kept.IsPut, Summary.{IsStoredSummary, IsSummary}};
 
+use crate::summary::clearing::clear_chunks;
+use crate::summary::queries::is_full;
 use crate::summary::{is_short, summarize_span, update_summary_at};
 use bit_blocks::block::BitBlock;
-use bit_blocks::block::operation::{Operation, Symmetric};
+use bit_blocks::block::operation::{Difference, Operation, Symmetric};
 use bit_blocks::packed::access::block_index;
 use bit_blocks::packed::spans::merge_span;
+
+// The values from `start` on and below `end` become false, where the chunks from `first` on and before `last` lie between these:
+// of them zeros are passed over. It is a call of its own, so that a short range saves no registers for it.
+#[inline(never)]
+fn clear_around_chunks<B: BitBlock>(
+    blocks: &mut Vec<B>,
+    summary: &[B],
+    start: usize,
+    first: usize,
+    last: usize,
+    end: usize,
+)
+    requires some { first ≤ last }
+    requires begun { start < first * B.width * B.width }
+    requires ended { last * B.width * B.width ≤ end }
+    requires within { end ≤ vec_len blocks.old * B.width }
+    requires each { All B.is_block blocks.old.items }
+    requires summary { IsSummary B.width B.number B.is_block blocks.old.items summary.now }
+    ensures span { IsMergedSpan Merge.Difference B.width start end (map B.number blocks.old.items)
+        (map B.number blocks.new.items) }
+    ensures in_place { WritesInPlace B.is_block blocks.old blocks.new }
+{
+    let width = B::bits();
+    let from = first * width * width;
+    let to = last * width * width;
+    clear_chunks(blocks, summary, first, last);
+    merge_span::<B, Difference>(blocks, start, from);
+    if to < end {
+        merge_span::<B, Difference>(blocks, to, end);
+    }
+}
+
+// The values from `start` on and below `end` all become one, as in `fill_span`. Where they become false, and blocks of whole chunks
+// are 0, these are passed over.
+#[inline]
+fn merge_long_span<B: BitBlock, O: Operation>(
+    blocks: &mut Vec<B>,
+    summary: &[B],
+    start: usize,
+    end: usize,
+)
+    requires some { start < end }
+    requires within { end ≤ vec_len blocks.old * B.width }
+    requires each { All B.is_block blocks.old.items }
+    requires keeps { merge_of_values O.merge true false ≡ true }
+    requires fills { (x : Bool) → merge_of_values O.merge x true ≡ merge_of_values O.merge true true }
+    requires summary { IsStoredSummary B.width B.number B.is_block blocks.old.items summary.now }
+    ensures span { IsMergedSpan O.merge B.width start end (map B.number blocks.old.items)
+        (map B.number blocks.new.items) }
+    ensures in_place { WritesInPlace B.is_block blocks.old blocks.new }
+{
+    let first = block_index::<B>(block_index::<B>(start)) + 1;
+    let last = block_index::<B>(block_index::<B>(end));
+    if !O::is_union()
+        && !is_short::<B>(blocks.len())
+        && first < last
+        && !is_full(summary.split_at(last).0.split_at(first).1)
+    {
+        clear_around_chunks(blocks, summary, start, first, last, end);
+    } else {
+        merge_span::<B, O>(blocks, start, end);
+    }
+}
 
 // The values from `start` on and below `end`, of which there are some, all become one: true by a union, false by a
 // difference. The bits of their blocks in the summary become so too, and those of the first and the last, which may
@@ -30,7 +95,7 @@ pub(crate) fn fill_span<B: BitBlock, O: Operation>(
     ensures summary { IsStoredSummary B.width B.number B.is_block blocks.new.items summary.new.items }
     ensures capacity { vec_capacity summary.new ≡ vec_capacity summary.old }
 {
-    merge_span::<B, O>(blocks, start, end);
+    merge_long_span::<B, O>(blocks, summary, start, end);
     if is_short::<B>(blocks.len()) {
         return;
     }

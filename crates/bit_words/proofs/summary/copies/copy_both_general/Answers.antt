@@ -6,24 +6,24 @@ both_on_ok : {T E P Q R : Type 0} (r : Result T E) → (P → Q → R) → OnOk 
 both_on_ok (Ok x) f p q = f p q
 both_on_ok (Err e) f p q = tt
 
-pub copy_blocks-requires : goal.copy_blocks-requires
-copy_blocks-requires g c = omega (arith, c.have_capacity.ensures.yes c.if-have_capacity.true)
+pub copy_past_zeros-requires-clause-capacity : goal.copy_past_zeros-requires-clause-capacity
+copy_past_zeros-requires-clause-capacity g c = omega (arith, c.have_capacity.ensures.yes c.if-have_capacity.true)
 
-pub copy_blocks-requires-then-have_capacity : goal.copy_blocks-requires-then-have_capacity
-copy_blocks-requires-then-have_capacity g c =
+pub copy_blocks-requires : goal.copy_blocks-requires
+copy_blocks-requires g c =
     let enough = c.have_capacity.ensures.yes c.if-have_capacity.true in
     let stored = stored_from_shared g.B.BitBlock.width (vec_capacity c.args.blocks.now) (vec_capacity c.args.summary.now) (length c.args.from.now) g.met.B.BitBlock.width_law.positive enough in
     omega (arith, stored, c.requires.count)
 
 pub returns-then-have_capacity-clause-items : goal.returns-then-have_capacity-clause-items
-returns-then-have_capacity-clause-items g c = c.copy_blocks.ensures.items
+returns-then-have_capacity-clause-items g c = c.copy_past_zeros.ensures.items
 
 pub returns-then-have_capacity-clause-summary : goal.returns-then-have_capacity-clause-summary
-returns-then-have_capacity-clause-summary g c = c.copy_blocks-then-have_capacity.ensures.items
+returns-then-have_capacity-clause-summary g c = c.copy_blocks.ensures.items
 
 pub returns-then-have_capacity-clause-exact : goal.returns-then-have_capacity-clause-exact
 returns-then-have_capacity-clause-exact g c =
-    rw (c.copy_blocks.ensures.capacity, c.copy_blocks-then-have_capacity.ensures.capacity) (capacity_kept _ _ (c.have_capacity.ensures.yes c.if-have_capacity.true))
+    rw (c.copy_past_zeros.ensures.capacity, c.copy_blocks.ensures.capacity) (capacity_kept _ _ (c.have_capacity.ensures.yes c.if-have_capacity.true))
 
 pub returns-clause-items : goal.returns-clause-items
 returns-clause-items g c = c.replace_both.ensures.items
