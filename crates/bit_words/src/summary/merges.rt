@@ -255,7 +255,7 @@ pub(crate) fn is_dense<B: BitBlock, O: Operation, S: Summarized<B>>(
     let mut spared = samples / 16;
     for sample in 0..samples {
         let touched = touched_at::<B, O, S>(blocks, summary, others, sample * SAMPLED);
-        if touched.count_ones() <= B::bits() / FEW {
+        if has_few(touched) {
             if spared == 0 {
                 return false;
             }
