@@ -5,7 +5,7 @@ ghost use Rattle.bit_blocks.specs.{BlockMerges.{other_at, CanMerge, HasMerged, S
 ghost use Rattle.bit_words.specs.Summary.{IsSummary, IsStoredSummary, SaysUsed};
 
 use crate::summary::merges::touched::{merge_touched, touched_by};
-use crate::summary::queries::{SAMPLED, has_few};
+use crate::summary::queries::{SAMPLED, has_few, has_most, samples};
 use crate::summary::summarized::{Listed, Summarized};
 use crate::summary::{is_nonzero, is_short, used_from};
 use bit_blocks::block::BitBlock;
@@ -237,8 +237,7 @@ pub(crate) fn chunks_to_merge<B: BitBlock, O: Operation, S: Others<B>>(
     }
 }
 
-// Whether most blocks may change in each chunk that is looked at: then a pass over all blocks is the shortest. The last chunk
-// may be a part of one, and is not looked at.
+// Whether most blocks may change in each chunk that is looked at: then a pass over all blocks is the shortest.
 #[inline]
 pub(crate) fn is_dense<B: BitBlock, O: Operation, S: Summarized<B>>(
     blocks: &[B],
@@ -249,10 +248,9 @@ pub(crate) fn is_dense<B: BitBlock, O: Operation, S: Summarized<B>>(
     requires summaries { S.are_summarized others }
     requires summary { IsSummary B.width B.number B.is_block blocks.now summary.now }
 {
-    let last = chunks_to_merge::<B, O, S>(blocks, summary, others).saturating_sub(1);
-    for sample in 0..last.div_ceil(SAMPLED) {
-        let touched = touched_at::<B, O, S>(blocks, summary, others, sample * SAMPLED);
-        if touched.count_ones() <= B::bits() / 2 {
+    let chunks = chunks_to_merge::<B, O, S>(blocks, summary, others);
+    for sample in 0..samples(chunks) {
+        if !has_most(touched_at::<B, O, S>(blocks, summary, others, sample * SAMPLED)) {
             return false;
         }
     }

@@ -13,15 +13,30 @@ use bit_blocks::packed::zeros::{are_zero, used_blocks, zeros_before};
 // One chunk of so many is looked at to tell whether a list is dense.
 pub(crate) const SAMPLED: usize = 8;
 
-// Whether most blocks are not 0 in each chunk that is looked at: then no summary saves a pass over all of them. The last chunk may
-// be a part of one, and is not looked at.
+// How many of so many chunks are looked at, each SAMPLED past the one before it. The last chunk may be a part of one, and is not
+// looked at.
+#[inline(always)]
+pub(crate) fn samples(chunks: usize) -> usize
+    ensures { (k : ℕ) → k < result → k * SAMPLED < chunks }
+{
+    chunks.saturating_sub(1).div_ceil(SAMPLED)
+}
+
+// Whether most blocks of a chunk are looked at: those at the ones of `used`.
+#[inline(always)]
+pub(crate) fn has_most<B: BitBlock>(used: B) -> bool
+    requires { B.is_block used }
+{
+    used.count_ones() > B::bits() / 2
+}
+
+// Whether most blocks are not 0 in each chunk that is looked at: then no summary saves a pass over all of them.
 #[inline]
 pub(crate) fn is_full<B: BitBlock>(summary: &[B]) -> bool
     requires each { All B.is_block summary.now }
 {
-    let last = summary.len().saturating_sub(1);
-    for sample in 0..last.div_ceil(SAMPLED) {
-        if block_at(summary, sample * SAMPLED).count_ones() <= B::bits() / 2 {
+    for sample in 0..samples(summary.len()) {
+        if !has_most(block_at(summary, sample * SAMPLED)) {
             return false;
         }
     }
