@@ -126,6 +126,36 @@ pub(crate) fn has_few<B: BitBlock>(used: B) -> bool
     used.count_ones() <= B::bits() / FEW
 }
 
+// Chunks of narrower blocks are so short that a pass over all of their blocks costs less than to pick some.
+const WIDE: usize = 32;
+
+// Whether so few blocks of a chunk are not 0 that they are taken one by one, and the run of chunks that is passed in one loop ends.
+#[inline(always)]
+pub(crate) fn has_few_of_wide<B: BitBlock>(used: B) -> bool
+    requires { B.is_block used }
+{
+    if B::bits() < WIDE {
+        return used.count_ones() == 0;
+    }
+    has_few(used)
+}
+
+// Whether there are few blocks that are not 0, over all chunks that are looked at: half as many as make few in one.
+#[inline]
+pub(crate) fn is_sparse<B: BitBlock>(summary: &[B]) -> bool
+    requires each { All B.is_block summary.now }
+{
+    if B::bits() < WIDE {
+        return false;
+    }
+    let count = samples(summary.len());
+    let mut ones = 0usize;
+    for sample in 0..count {
+        ones = ones.saturating_add(block_at(summary, sample * SAMPLED).count_ones());
+    }
+    ones < count.saturating_mul(B::bits() / FEW / 2)
+}
+
 // How many blocks of a summary come before the next of which few blocks are not 0: the first counts in any case.
 #[inline]
 pub(crate) fn chunks_before_few<B: BitBlock>(summary: &[B]) -> usize
@@ -135,7 +165,7 @@ pub(crate) fn chunks_before_few<B: BitBlock>(summary: &[B]) -> usize
     ensures within { result ≤ length summary.now }
 {
     for k in 1..summary.len() {
-        if has_few(block_at(summary, k)) {
+        if has_few_of_wide(block_at(summary, k)) {
             return k;
         }
     }

@@ -4,7 +4,7 @@ ghost use Rattle.bit_blocks.specs.{BlockMerges.IsMergedSpan, Merges.merge_of_val
 ghost use Rattle.bit_words.specs.{Kept.IsPut, Summary.{IsStoredSummary, IsSummary}};
 
 use crate::summary::clearing::clear_chunks;
-use crate::summary::queries::is_full;
+use crate::summary::queries::is_sparse;
 use crate::summary::range_queries::whole_chunks;
 use crate::summary::{is_short, summarize_span, update_summary_at};
 use bit_blocks::block::BitBlock;
@@ -66,7 +66,7 @@ fn merge_long_span<B: BitBlock, O: Operation>(
     if !O::is_union()
         && !is_short::<B>(blocks.len())
         && first < last
-        && !is_full(summary.split_at(last).0.split_at(first).1)
+        && is_sparse(summary.split_at(last).0.split_at(first).1)
     {
         clear_around_chunks(blocks, summary, start, first, last, end);
     } else {

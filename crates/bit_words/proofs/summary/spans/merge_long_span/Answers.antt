@@ -13,14 +13,14 @@ split_at-requires g c =
     let whole : last * w * w ≤ length c.args.blocks.now.items * w = rw (← c.args.blocks.now.ok.0) (omega (arith, c.whole_chunks-first.ensures.ended, c.requires.within)) in
     omega (arith, (c.requires.summary.long long).packed.count, chunks_within w _ last pos (le_of_mul-le-mul_right whole pos))
 
-pub is_full-requires : goal.is_full-requires
-is_full-requires g c =
+pub is_sparse-requires : goal.is_sparse-requires
+is_sparse-requires g c =
     let P = g.B.BitBlock.is_block in
     let each = stored_each _ _ _ _ _ c.requires.summary in
     let front = subst (All P) (sym c.split_at.ensures.front) (All-take P c.whole_chunks-first.result.1 c.args.summary.now each) in
     record { each = subst (All P) (sym c.split_at-then-first-last.ensures.back) (All-drop P _ _ front) }
 
-pub returns-then-not-is_full-clause-span : goal.returns-then-not-is_full-clause-span
-returns-then-not-is_full-clause-span g c =
+pub returns-then-is_sparse-clause-span : goal.returns-then-is_sparse-clause-span
+returns-then-is_sparse-clause-span g c =
     let is = only_difference g.O.Operation.merge (λ e. absurd (false≢true (sym c.if-not-is_union.true ∙ c.is_union.ensures.1 e))) c.requires.keeps c.requires.fills in
     rw is c.clear_around_chunks.ensures.span
