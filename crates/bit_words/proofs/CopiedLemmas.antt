@@ -54,18 +54,18 @@ module _ {X : Type 0} (number : X → ℕ) (is_block : X → Type 0) where
       sym (back (get_or xs k d) (each k d within)) ∙ ap block numbers ∙ back (get_or ys k d) (also k d there))
 
 -- Block i became n, and no other changed.
-pub record IsSet {X : Type 0} (number : X → ℕ) (i n : ℕ) (xs ys : List X) : Type 0 where
+pub record IsBlockPut {X : Type 0} (number : X → ℕ) (i n : ℕ) (xs ys : List X) : Type 0 where
   pub here : get_or (map number ys) i 0 ≡ n
   pub others : (k : ℕ) → k ≢ i → get_or (map number ys) k 0 ≡ get_or (map number xs) k 0
 
-pub set_block : {X : Type 0} (number : X → ℕ) (i n : ℕ) (xs ys : List X) → i < length xs → map number ys ≡ set (map number xs) i n → IsSet number i n xs ys
+pub set_block : {X : Type 0} (number : X → ℕ) (i n : ℕ) (xs ys : List X) → i < length xs → map number ys ≡ set (map number xs) i n → IsBlockPut number i n xs ys
 set_block number i n xs ys inside is = record {
   here = ap (λ ms. get_or ms i 0) is ∙ get_or-set_same (map number xs) i n 0 (rw length-map inside);
   others = λ k apart. ap (λ ms. get_or ms k 0) is ∙ get_or-set_other (map number xs) i k n 0 apart;
 }
 
 -- a block that was the same is so, where one became that of the other list
-pub still_same : {X : Type 0} (number : X → ℕ) (i n k : ℕ) (zs xs ys : List X) → IsSet number i n xs ys → get_or (map number ys) i 0 ≡ get_or (map number zs) i 0
+pub still_same : {X : Type 0} (number : X → ℕ) (i n k : ℕ) (zs xs ys : List X) → IsBlockPut number i n xs ys → get_or (map number ys) i 0 ≡ get_or (map number zs) i 0
     → get_or (map number xs) k 0 ≡ get_or (map number zs) k 0 → get_or (map number ys) k 0 ≡ get_or (map number zs) k 0
 still_same number i n k zs xs ys put here same =
     ⊎_elim

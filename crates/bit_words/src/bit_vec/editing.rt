@@ -49,8 +49,8 @@ impl<B: BitBlock> BitVec<B> {
         was
     }
 
-    /// Makes every value be `bit`. Writes each block once; where `bit` is false, of many blocks those chunks alone that are
-    /// not zero.
+    /// Makes every value be `bit`. Writes each block once; where `bit` is false, of many blocks it may pass over those that
+    /// are zero.
     pub fn fill(&mut self, bit: bool)
         ensures values { self.new.values ≡ replicate (length self.old.values) bit }
         ensures capacity { self.new.capacity ≡ self.old.capacity }
@@ -121,9 +121,9 @@ impl<B: BitBlock> BitVec<B> {
         Ok(())
     }
 
-    /// Takes over the list of `other`, in one pass over its blocks. Within the capacity it takes no memory; where
-    /// the capacity was missing it takes new blocks, and the capacity becomes that of the blocks of `other`.
-    /// Fails only there, and then nothing changed.
+    /// Takes over the list of `other`, in one pass over its blocks; where both lists have as many, and many, it may pass
+    /// over those that are zero in both. Within the capacity it takes no memory; where the capacity was missing it takes
+    /// new blocks, and the capacity becomes that of the blocks of `other`. Fails only there, and then nothing changed.
     pub fn clone_from(&mut self, other: &Self) -> Result<(), AllocError>
         ensures ok { OnOk result (self.new.values ≡ other.now.values) }
         ensures grows { Grows (length other.now.values) result self.old self.new }

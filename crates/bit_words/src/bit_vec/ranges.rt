@@ -12,7 +12,8 @@ use std::ops::Range;
 
 impl<B: BitBlock> BitVec<B> {
     /// Makes each value in the range be `bit`; nothing where the range is empty. Writes each block of the range once,
-    /// those between the first and the last as a fill.
+    /// those between the first and the last as a fill; where `bit` is false, of many blocks it may pass over those that
+    /// are zero.
     ///
     /// ```
     /// // Of ten values all are false.

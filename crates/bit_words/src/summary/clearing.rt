@@ -3,7 +3,7 @@ ghost use Rattle.std.specs.Prelude.{◌≡◌, ℕ, ◌+◌, ◌*◌, ◌^◌, �
 ghost use Rattle.bit_blocks.specs.{Digits.is_one, Storage.{value_at, is_used, IsPacked, WritesInPlace}};
 ghost use Rattle.bit_words.specs.Summary.{AreCleared, IsStoredSummary, IsSummary};
 
-use crate::summary::queries::{chunks_before_few, has_few, is_full};
+use crate::summary::queries::{chunks_before_few, has_few_of_wide, is_full};
 use crate::summary::{is_nonzero, is_short};
 use bit_blocks::block::BitBlock;
 use bit_blocks::block::lowest::take_lowest_one;
@@ -58,7 +58,7 @@ fn clear_next<B: BitBlock>(blocks: &mut [B], summary: &[B], q: usize) -> usize
     if !is_nonzero(used) {
         return zeros_before(rest);
     }
-    if has_few(used) {
+    if has_few_of_wide(used) {
         clear_used(blocks, q, used);
         return 1;
     }

@@ -3,7 +3,7 @@ ghost use Rattle.std.specs.Prelude.{◌≡◌, ℕ, ◌+◌, ◌*◌, ◌^◌, �
 ghost use Rattle.bit_blocks.specs.{Digits.is_one, Mismatches.IsFirstBlockMismatch, Storage.value_at};
 ghost use Rattle.bit_words.specs.Summary.{IsStoredSummary};
 
-use crate::summary::queries::{chunks_before_few, first_chunks, has_few, is_full};
+use crate::summary::queries::{chunks_before_few, first_chunks, has_few_of_wide, is_full};
 use crate::summary::{is_nonzero, is_short};
 use bit_blocks::block::BitBlock;
 use bit_blocks::block::lowest::take_lowest_one;
@@ -96,7 +96,7 @@ fn mismatch_in_next<B: BitBlock>(
     if !is_nonzero(used) {
         return (None, zeros_before(rest));
     }
-    if has_few(used) {
+    if has_few_of_wide(used) {
         return (mismatch_of_used(blocks, others, q, used), 1);
     }
     let count = chunks_before_few(rest);

@@ -3,7 +3,7 @@ ghost use Rattle.std.specs.Prelude.{◌≡◌, ℕ, ◌+◌, ◌-◌, ◌*◌, �
 ghost use Rattle.bit_blocks.specs.{Digits.is_one, Storage.{is_used, value_at, IsPacked}};
 ghost use Rattle.bit_words.specs.Summary.{shared_capacity, short_count, stored_for, AreCopied, IsStoredSummary, IsSummary};
 
-use crate::summary::queries::{has_few, is_full};
+use crate::summary::queries::{has_few, is_sparse};
 use crate::summary::shared_capacity::have_capacity;
 use crate::summary::{is_nonzero, is_short, update_summary_at};
 use bit_blocks::block::BitBlock;
@@ -101,8 +101,11 @@ fn copy_chunks<B: BitBlock>(blocks: &mut [B], summary: &[B], from: &[B], from_su
     }
 }
 
-// The blocks become those of `from`, of which there is capacity for each. Where both lists are as long, and store summaries of
-// which neither is dense, chunks of zeros are passed over.
+// A copy of fewer chunks takes about as long as to tell whether they are worth passing over.
+const MANY_CHUNKS: usize = 16;
+
+// The blocks become those of `from`, of which there is capacity for each. Where both lists are as long, and store summaries, both
+// sparse, chunks of zeros are passed over.
 #[inline]
 fn copy_past_zeros<B: BitBlock>(blocks: &mut Vec<B>, summary: &[B], from: &[B], from_summary: &[B])
     requires capacity { length from.now ≤ vec_capacity blocks.old }
@@ -113,10 +116,11 @@ fn copy_past_zeros<B: BitBlock>(blocks: &mut Vec<B>, summary: &[B], from: &[B], 
     ensures items { blocks.new.items ≡ from.now }
     ensures capacity { vec_capacity blocks.new ≡ vec_capacity blocks.old }
 {
-    if blocks.len() == from.len()
+    if from_summary.len() >= MANY_CHUNKS
+        && blocks.len() == from.len()
         && !is_short::<B>(from.len())
-        && !is_full(from_summary)
-        && !is_full(summary)
+        && is_sparse(from_summary)
+        && is_sparse(summary)
     {
         copy_chunks(blocks.as_mut_slice(), summary, from, from_summary);
     } else {

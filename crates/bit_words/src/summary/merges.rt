@@ -5,7 +5,7 @@ ghost use Rattle.bit_blocks.specs.{Bits.blocks_for, BlockMerges.{other_at, CanMe
 ghost use Rattle.bit_words.specs.Summary.{IsSummary, IsStoredSummary, SaysUsed};
 
 use crate::summary::merges::touched::{merge_touched, touched_by};
-use crate::summary::queries::{SAMPLED, has_few};
+use crate::summary::queries::{SAMPLED, has_few, samples};
 use crate::summary::summarized::{Listed, Summarized};
 use crate::summary::{is_nonzero, is_short, used_from};
 use bit_blocks::block::BitBlock;
@@ -239,7 +239,7 @@ pub(crate) fn chunks_to_merge<B: BitBlock, O: Operation, S: Others<B>>(
 }
 
 // Whether more than a few blocks may change in the chunks that are looked at, but for one in sixteen: then a pass over all blocks
-// is the shortest. The last chunk may be a part of one, and is not looked at.
+// is the shortest.
 #[inline]
 pub(crate) fn is_dense<B: BitBlock, O: Operation, S: Summarized<B>>(
     blocks: &[B],
@@ -250,12 +250,10 @@ pub(crate) fn is_dense<B: BitBlock, O: Operation, S: Summarized<B>>(
     requires summaries { S.are_summarized others }
     requires summary { IsSummary B.width B.number B.is_block blocks.now summary.now }
 {
-    let last = chunks_to_merge::<B, O, S>(blocks, summary, others).saturating_sub(1);
-    let samples = last.div_ceil(SAMPLED);
+    let samples = samples(chunks_to_merge::<B, O, S>(blocks, summary, others));
     let mut spared = samples / 16;
     for sample in 0..samples {
-        let touched = touched_at::<B, O, S>(blocks, summary, others, sample * SAMPLED);
-        if has_few(touched) {
+        if has_few(touched_at::<B, O, S>(blocks, summary, others, sample * SAMPLED)) {
             if spared == 0 {
                 return false;
             }

@@ -13,15 +13,30 @@ use bit_blocks::packed::zeros::{are_zero, used_blocks, zeros_before};
 // One chunk of so many is looked at to tell whether a list is dense.
 pub(crate) const SAMPLED: usize = 8;
 
-// Whether most blocks are not 0 in each chunk that is looked at: then no summary saves a pass over all of them. The last chunk may
-// be a part of one, and is not looked at.
+// How many of so many chunks are looked at, each SAMPLED past the one before it. The last chunk may be a part of one, and is not
+// looked at.
+#[inline(always)]
+pub(crate) fn samples(chunks: usize) -> usize
+    ensures { (k : ℕ) → k < result → k * SAMPLED < chunks }
+{
+    chunks.saturating_sub(1).div_ceil(SAMPLED)
+}
+
+// Whether most blocks of a chunk are looked at: those at the ones of `used`.
+#[inline(always)]
+fn has_most<B: BitBlock>(used: B) -> bool
+    requires { B.is_block used }
+{
+    used.count_ones() > B::bits() / 2
+}
+
+// Whether most blocks are not 0 in each chunk that is looked at: then no summary saves a pass over all of them.
 #[inline]
 pub(crate) fn is_full<B: BitBlock>(summary: &[B]) -> bool
     requires each { All B.is_block summary.now }
 {
-    let last = summary.len().saturating_sub(1);
-    for sample in 0..last.div_ceil(SAMPLED) {
-        if block_at(summary, sample * SAMPLED).count_ones() <= B::bits() / 2 {
+    for sample in 0..samples(summary.len()) {
+        if !has_most(block_at(summary, sample * SAMPLED)) {
             return false;
         }
     }
@@ -111,6 +126,36 @@ pub(crate) fn has_few<B: BitBlock>(used: B) -> bool
     used.count_ones() <= B::bits() / FEW
 }
 
+// Chunks of narrower blocks are so short that a pass over all of their blocks costs less than to pick some.
+const WIDE: usize = 32;
+
+// Whether so few blocks of a chunk are not 0 that they are taken one by one, and the run of chunks that is passed in one loop ends.
+#[inline(always)]
+pub(crate) fn has_few_of_wide<B: BitBlock>(used: B) -> bool
+    requires { B.is_block used }
+{
+    if B::bits() < WIDE {
+        return used.count_ones() == 0;
+    }
+    has_few(used)
+}
+
+// Whether there are few blocks that are not 0, over all chunks that are looked at: half as many as make few in one.
+#[inline]
+pub(crate) fn is_sparse<B: BitBlock>(summary: &[B]) -> bool
+    requires each { All B.is_block summary.now }
+{
+    if B::bits() < WIDE {
+        return false;
+    }
+    let count = samples(summary.len());
+    let mut ones = 0usize;
+    for sample in 0..count {
+        ones = ones.saturating_add(block_at(summary, sample * SAMPLED).count_ones());
+    }
+    ones < count.saturating_mul(B::bits() / FEW / 2)
+}
+
 // How many blocks of a summary come before the next of which few blocks are not 0: the first counts in any case.
 #[inline]
 pub(crate) fn chunks_before_few<B: BitBlock>(summary: &[B]) -> usize
@@ -120,7 +165,7 @@ pub(crate) fn chunks_before_few<B: BitBlock>(summary: &[B]) -> usize
     ensures within { result ≤ length summary.now }
 {
     for k in 1..summary.len() {
-        if has_few(block_at(summary, k)) {
+        if has_few_of_wide(block_at(summary, k)) {
             return k;
         }
     }

@@ -11,6 +11,17 @@ use bit_blocks::packed::access::block_index;
 use bit_blocks::packed::span_queries::{ones_in_span, span_merges_to_false};
 use bit_blocks::packed::zeros::are_zero;
 
+// The chunks that lie between two bits, `start` and a later `end`: the first that begins past `start`, and the one in which `end` is.
+// There are none where the first is not before it.
+#[inline(always)]
+pub(crate) fn whole_chunks<B: BitBlock>(start: usize, end: usize) -> (usize, usize)
+    ensures begun { start < result.0 * B.width * B.width }
+    ensures ended { result.1 * B.width * B.width ≤ end }
+{
+    let first = block_index::<B>(block_index::<B>(start)) + 1;
+    (first, block_index::<B>(block_index::<B>(end)))
+}
+
 // The ones of the chunks from `first` on and before `end`, which the list has as a whole.
 #[inline]
 fn ones_of_whole_chunks<B: BitBlock>(blocks: &[B], summary: &[B], first: usize, end: usize) -> usize
@@ -70,8 +81,7 @@ pub(crate) fn ones_in_range<B: BitBlock>(
     requires summary { IsStoredSummary B.width B.number B.is_block blocks.now summary.now }
     ensures { result ≡ count_by (value_at B.width (map B.number blocks.now)) (range_with_len start (end - start)) }
 {
-    let first = block_index::<B>(block_index::<B>(start)) + 1;
-    let last = block_index::<B>(block_index::<B>(end));
+    let (first, last) = whole_chunks::<B>(start, end);
     if is_short::<B>(blocks.len()) || last <= first {
         return ones_in_span(blocks, start, end);
     }
@@ -126,8 +136,7 @@ pub(crate) fn range_is_zero<B: BitBlock>(
     requires summary { IsStoredSummary B.width B.number B.is_block blocks.now summary.now }
     ensures { IsTrue result ↔ MergesSpanToFalse Merge.Intersection B.width start end (map B.number blocks.now) }
 {
-    let first = block_index::<B>(block_index::<B>(start)) + 1;
-    let last = block_index::<B>(block_index::<B>(end));
+    let (first, last) = whole_chunks::<B>(start, end);
     if is_short::<B>(blocks.len()) || last <= first {
         return span_merges_to_false::<B, Intersection>(blocks, start, end);
     }

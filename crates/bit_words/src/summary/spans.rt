@@ -4,7 +4,8 @@ ghost use Rattle.bit_blocks.specs.{BlockMerges.IsMergedSpan, Merges.merge_of_val
 ghost use Rattle.bit_words.specs.{Kept.IsPut, Summary.{IsStoredSummary, IsSummary}};
 
 use crate::summary::clearing::clear_chunks;
-use crate::summary::queries::is_full;
+use crate::summary::queries::is_sparse;
+use crate::summary::range_queries::whole_chunks;
 use crate::summary::{is_short, summarize_span, update_summary_at};
 use bit_blocks::block::BitBlock;
 use bit_blocks::block::operation::{Difference, Operation, Symmetric};
@@ -61,12 +62,11 @@ fn merge_long_span<B: BitBlock, O: Operation>(
         (map B.number blocks.new.items) }
     ensures in_place { WritesInPlace B.is_block blocks.old blocks.new }
 {
-    let first = block_index::<B>(block_index::<B>(start)) + 1;
-    let last = block_index::<B>(block_index::<B>(end));
+    let (first, last) = whole_chunks::<B>(start, end);
     if !O::is_union()
         && !is_short::<B>(blocks.len())
         && first < last
-        && !is_full(summary.split_at(last).0.split_at(first).1)
+        && is_sparse(summary.split_at(last).0.split_at(first).1)
     {
         clear_around_chunks(blocks, summary, start, first, last, end);
     } else {

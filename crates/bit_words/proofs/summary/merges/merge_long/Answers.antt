@@ -25,7 +25,7 @@ returns-clause-has g c =
     let last = dense_within g (goal.at.returns-clause-has g c).After-dense_end-dense in
     let begin : c.block_index.result * w ≡ c.args.start / w * w = ap (λ n. n * w) c.block_index.ensures in
     let first = merged_more _ _ _ _ (c.args.start / w * w) (c.dense_end-dense.result * w) (c.chunks_to_merge-chunks.result * w) _ _ _ _ _ _
-        (mul-le-mul_right w c.dense_end-dense.ensures.from) (mul-le-mul_right w last) refl refl
-        (rw begin at c.merge_chunks.ensures.has) c.merge_touched_chunks.ensures.has in
+    (mul-le-mul_right w c.dense_end-dense.ensures.from) (mul-le-mul_right w last) refl refl
+    (rw begin at c.merge_chunks.ensures.has) c.merge_touched_chunks.ensures.has in
     merged_through _ w _ _ 0 _ _ c.args.start (c.args.start / w) c.chunks_to_merge-chunks.result _
     (div-mul-le_self c.args.start w) c.requires.stay first (λ k j beyond below index. c.chunks_to_merge-chunks.ensures.rest.digit k j beyond below index)
