@@ -17,7 +17,6 @@ use Rattle.bit_set.specs.Walk.{Walk, Advances}
 use Rattle.bit_set.proofs.PlaceLemmas.{all_by_places, any_by_places, at_place, has_place, in_order}
 use Rattle.bit_set.proofs.RangeLemmas.{IsAscending-span, filtered_apart, has-range_with_len, has-span, length-span}
 use Rattle.bit_set.proofs.SetLemmas.{AscendsFrom-filter, IsAscending-elements, has-filter, has-first, same_members}
-use Rattle.bit_set.proofs.TestLemmas.{filter_all, filter_none}
 
 module _ {S V E : Type 0} {steps : S → Option ℕ → S → Type 0} {s : S} {all : List ℕ} where
   -- what is made of a chain by `from_iter` is made of all that the chain gives
@@ -163,7 +162,7 @@ pub multiples : (m k : ℕ) → (m % k ≡ m % k)
 multiples m k = (refl, between_multiples m k, λ x is. ap (λ n. n % k) is ∙ add-mod_right m k)
 
 -- what loops over a set use, for `grind`
-pub ruleset set_steps = (nat_tests, has-filter, filter_none, filter_all, length-filter-le, take-first, append_assoc, append-nil)
+pub ruleset set_steps = (nat_tests, has-filter, length-filter-le, take-first, append_assoc, append-nil)
 
 -- all that callers use, for `grind`: a crate names it once, at its root
 pub ruleset calls = (set_steps, at_place, has_place, in_order, IsAscending-elements, ascends_pushed, list_any-append, take_at_read, sum_by-append)
