@@ -14,6 +14,8 @@ use Rattle.bit_blocks.specs.Bits.{Bits}
 use Rattle.bit_set.specs.{Members.IsSameSet, Order.order_of_sets, Ranges.span}
 use Rattle.bit_set.specs.Sets.{AscendsFrom, IsAscending, bound_of, elements, has, put_all, those_below}
 use Rattle.bit_set.specs.Walk.{Walk, Advances, AdvancesBack}
+use Rattle.bit_set.proofs.AlgebraLemmas.{members_of_merged_sets}
+use Rattle.bit_set.proofs.TestLemmas.{below_all, below_none, filter_all, filter_none, from_all, from_none}
 use Rattle.bit_set.proofs.WalkCalls.{gives_from_back}
 use Rattle.bit_set.proofs.PlaceLemmas.{all_by_places, any_by_places, at_place, has_place, in_order}
 use Rattle.bit_set.proofs.RangeLemmas.{IsAscending-span, filtered_apart, has-range_with_len, has-span, length-span}
@@ -184,10 +186,13 @@ pub multiples : (m k : ℕ) → (m % k ≡ m % k)
 multiples m k = (refl, between_multiples m k, λ x is. ap (λ n. n % k) is ∙ add-mod_right m k)
 
 -- what loops over a set use, for `grind`
-pub ruleset set_steps = (nat_tests, has-filter, length-filter-le, take-first, append_assoc, append-nil)
+pub ruleset set_steps = (nat_tests, has-filter, below_none, below_all, from_none, from_all, length-filter-le, take-first, append_assoc, append-nil)
 
 -- all that callers use, for `grind`: a crate names it once, at its root
-pub ruleset calls = (set_steps, has-reverse, at_place, has_place, in_order, IsAscending-elements, ascends_pushed, list_any-append, take_at_read, sum_by-append)
+pub ruleset calls = (set_steps, members_of_merged_sets, has-reverse, at_place, has_place, in_order, IsAscending-elements, ascends_pushed, list_any-append, take_at_read, sum_by-append)
+
+-- for a function whose clause says that a test which is no bound keeps none, or all
+pub ruleset kept_by_tests = (calls, filter_none, filter_all)
 
 -- for a loop that goes on by steps of a number: a function that needs it names it
 pub ruleset steps = (nat_tests, multiples)
