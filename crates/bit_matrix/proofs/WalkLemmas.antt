@@ -6,7 +6,7 @@ use Rattle.std.proofs.iter.runs.Sources.{from_front, as_is}
 use Rattle.std.proofs.lemmas.{Bool.{cases_lt, true≢false, Decides.nat_tests}, Nat.{div-add-mod', le-div}}
 use Rattle.std.proofs.lemmas.List.{get_or-drop, length-drop, length-map, drop_all}
 use Rattle.std.proofs.lemmas.List.Elements.{All-drop, All-head, All-nil, All-tail}
-use Rattle.std.specs.Iterator.{YieldsFirst, Runs.YieldsInOrder}
+use Rattle.std.specs.Iterator.{Runs.YieldsInOrder}
 use Rattle.bit_blocks.specs.{Digits.is_one, Lowest.{IsCleared, IsLowest}, Storage.value_at}
 use Rattle.bit_blocks.proofs.{BitsLemmas.block_past, StorageLemmas.{value_at-index, value_at-past}}
 use Rattle.bit_set.specs.{Indexes.{digits_from, indexes, values_in}, Sets.{IsAscending, has}}
@@ -15,11 +15,11 @@ use Rattle.bit_set.proofs.IndexLemmas.{length-values_in, value_in}
 use Rattle.bit_set.proofs.RetainLemmas.{below_by_members}
 use Rattle.bit_set.proofs.SetLemmas.{AscendsFrom-lower, has-below, has-elements_from}
 use Rattle.bit_set.proofs.WalkLemmas.{CanWalk-moved, CanWalk-taken, indexes-pulled, pulled_along}
-use Rattle.bit_matrix.specs.Walks.{IsRowWalk}
+use Rattle.bit_matrix.specs.Walks.{AdvancesInRow, IsRowWalk}
 
 -- each call gives the first of what is left
-pub runs_of_row : YieldsInOrder (YieldsFirst (λ (left : List ℕ). left)) (λ (left : List ℕ). left)
-runs_of_row p s = as_is p p.from (from_front (YieldsFirst (λ (left : List ℕ). left)) (λ x. x) (λ (left : List ℕ). left) (λ s t h. ap length h.0) (λ s x t h. h) p s)
+pub runs_of_row : YieldsInOrder AdvancesInRow (λ (left : List ℕ). left)
+runs_of_row p s = as_is p p.from (from_front AdvancesInRow (λ x. x) (λ (left : List ℕ). left) (λ s t h. ap length h.item.0) (λ s x t h. h.item) p s)
 
 -- the maps of what is past some
 map-dropped : {X : Type 0} (f : X → ℕ) (n : ℕ) (xs : List X) → map f (drop n xs) ≡ drop n (map f xs)

@@ -1,6 +1,13 @@
--- The fields of a walk over a row. No public clause cites this.
-use Rattle.std.specs.Prelude.{ℕ, All, List, length, map}
-use Rattle.bit_set.specs.Indexes.{CanWalk, values_in}
+-- The walk over a row: a step of it, and its fields, which no public clause cites.
+use Rattle.std.specs.Prelude.{ℕ, All, List, Option, MatchOption, ⊤, length, map}
+use Rattle.std.specs.Iterator.{YieldsFirst}
+use Rattle.bit_set.specs.{Indexes.{CanWalk, values_in}, Members.TakesLeast}
+
+-- A call of `next` that gave r went from the columns s to t: it took the first, which is the least, or gave None at the
+-- end, which stays.
+pub record AdvancesInRow (s : List ℕ) (r : Option ℕ) (t : List ℕ) : Type 0 where
+  pub item : YieldsFirst (λ (left : List ℕ). left) s r t
+  pub first : MatchOption r ⊤ (λ x. TakesLeast s x t)
 
 -- The block in hand and those past it are block values, and the walk can go on.
 pub record IsRowWalk {X : Type 0} (w : ℕ) (number : X → ℕ) (is_block : X → Type 0) (rest : List X) (block : X)

@@ -1,7 +1,8 @@
 //! The walk over the columns of a row.
-ghost use Rattle.std.specs.{Prelude.{◌≡◌, ℕ, ◌*◌, ◌^◌, ◌<◌, ◌&&◌, All, List, length, map, nat_le}, Iterator.{YieldsFirst, item_count}};
+ghost use Rattle.std.specs.{Prelude.{◌≡◌, ℕ, ◌*◌, ◌^◌, ◌<◌, ◌&&◌, All, List, length, map, nat_le}, Iterator.item_count};
 ghost use Rattle.bit_blocks.specs.Storage.{value_at};
 ghost use Rattle.bit_set.specs.Sets.{IsAscending, has};
+ghost use Rattle.bit_matrix.specs.Walks.{AdvancesInRow};
 
 use crate::BitBlock;
 use bit_blocks::packed::block_at;
@@ -73,7 +74,7 @@ impl<'a, B: BitBlock> Iter<'a, B> {
 impl<'a, B: BitBlock> Iterator for Iter<'a, B> {
     type Item = usize;
 
-    ghost next_gives = { YieldsFirst (λ (left : List ℕ). left) };
+    ghost next_gives = { AdvancesInRow };
 
     ghost remaining = { item_count (λ (left : List ℕ). left) };
 

@@ -1,23 +1,25 @@
 -- What a caller cites of sets that are made of chains.
 use Rattle.std.proofs.Common.{◌≡◌, ℕ, ◌+◌, ◌-◌, ◌*◌, ◌/◌, ◌%◌, ◌<◌, ◌≤◌, ◌++◌, ◌⊎◌, inl, inr, Bool, ◌&&◌, not, nat_le, ltb}
 use Rattle.std.proofs.Common.{filter, take, Option, List, [], ◌∷◌, Result, IsTrue, Bor, refl, sym, ap, ◌∙◌, zero, suc}
-use Rattle.std.proofs.Common.{append_assoc, arith, div-add-mod', length, subst}
+use Rattle.std.proofs.Common.{append_assoc, arith, div-add-mod', length, reverse, subst, ◌==◌}
 use Rattle.std.proofs.Math.Nat.{add-mod_right}
 use Rattle.std.proofs.{iter.Yields.nat_range_steps, lemmas.{Bool.{cases_Bool, Decides.nat_tests}, Grind.take_at_read, Nat.mod-mul-add}}
-use Rattle.std.proofs.lemmas.{List.append-nil, List.Folds.list_any-append, List.Sums.{length-filter, count_by-le-length, sum_by-append}}
-use Rattle.std.proofs.lemmas.Iterator.{YieldsList, YieldsList-from_range, Adapters.fact_from_collect}
+use Rattle.std.proofs.lemmas.{List.{append-nil, reverse-append}, List.Folds.list_any-append, List.Sums.{length-filter, count_by-le-length, sum_by-append}}
+use Rattle.std.proofs.lemmas.Iterator.{YieldsList, YieldsList-from_range, YieldsList-from_take, Adapters.fact_from_collect}
 use Rattle.std.proofs.lemmas.Iterator.Consumers.{YieldsList-at, YieldsList-from_filter, YieldsList-from_shown}
 use Rattle.std.proofs.lemmas.Result.{IfOk-weaker}
 use Rattle.std.specs.Prelude.{IfOk}
-use Rattle.std.specs.{BTreeMap.{BTreeMap, get_by}, Fn.{Mut, CalledAt}, Iterator.{Drains, Adapters.{filter_source, filter_callee, filter_steps}}, List.range_with_len}
+use Rattle.std.specs.{BTreeMap.{BTreeMap, get_by}, Fn.{Mut, CalledAt}, Iterator.{Drains, Adapters.{filter_source, filter_callee, filter_steps, rev_source, rev_steps, take_count, take_source, take_steps}}, List.range_with_len}
 use Rattle.bit_blocks.specs.Bits.{Bits}
 use Rattle.bit_set.specs.{Members.IsSameSet, Order.order_of_sets, Ranges.span}
 use Rattle.bit_set.specs.Sets.{AscendsFrom, IsAscending, bound_of, elements, has, put_all, those_below}
-use Rattle.bit_set.specs.Walk.{Walk, Advances}
+use Rattle.bit_set.specs.Walk.{Walk, Advances, AdvancesBack}
+use Rattle.bit_set.proofs.AlgebraLemmas.{members_of_merged_sets}
+use Rattle.bit_set.proofs.TestLemmas.{below_all, below_none, filter_all, filter_none, from_all, from_none}
+use Rattle.bit_set.proofs.WalkCalls.{gives_from_back}
 use Rattle.bit_set.proofs.PlaceLemmas.{all_by_places, any_by_places, at_place, has_place, in_order}
 use Rattle.bit_set.proofs.RangeLemmas.{IsAscending-span, filtered_apart, has-range_with_len, has-span, length-span}
 use Rattle.bit_set.proofs.SetLemmas.{AscendsFrom-filter, IsAscending-elements, has-filter, has-first, same_members}
-use Rattle.bit_set.proofs.TestLemmas.{filter_all, filter_none}
 
 module _ {S V E : Type 0} {steps : S → Option ℕ → S → Type 0} {s : S} {all : List ℕ} where
   -- what is made of a chain by `from_iter` is made of all that the chain gives
@@ -91,6 +93,27 @@ pub take-first : (n x : ℕ) (xs : List ℕ) → 0 < n → take n (x ∷ xs) ≡
 take-first zero x xs pos = absurd (omega arith)
 take-first (suc n) x xs pos = let less : n ≡ suc n - 1 = omega arith in ap (λ k. x ∷ take k xs) less
 
+-- a list from its back has the same members
+pub has-reverse : (s : List ℕ) (n : ℕ) → has (reverse s) n ≡ has s n
+has-reverse [] n = refl
+has-reverse (x ∷ xs) n =
+    ap (λ l. has l n) (reverse-append (x ∷ []) xs)
+    ∙ list_any-append (λ m. m == n) (reverse xs) (x ∷ []) ∙ (let rest = has-reverse xs n in grind (arith, nat_tests))
+
+-- a set that `from_iter` makes of `set.iter().rev()`
+pub set_from_back : {E : Type 0} {s : _} {xs : List ℕ} (w : ℕ) (walk : Walk) (r : Result Bits E)
+    → IfOk r (λ set. (items : List ℕ) × Drains (rev_steps (AdvancesBack w)) s items × (elements set.values ≡ put_all [] items)
+    × (length set.values ≡ bound_of items) × IsSameSet (elements set.values) items)
+    → rev_source s ≡ walk → walk.left ≡ xs → IfOk r (λ set. IsSameSet (elements set.values) xs)
+set_from_back {s = s} {xs = xs} w walk r made source left =
+    IfOk-weaker r _ _ (λ set same m. same m ∙ has-reverse xs m)
+    (set_of_chain {steps = rev_steps (AdvancesBack w)} {s = s} r made (gives_from_back w s walk source left))
+
+-- what `set.iter().rev().take(k)` gives: the k greatest, the greatest first
+pub gives_greatest : (w k : ℕ) (s : _) (back : _) (walk : Walk) {xs : List ℕ} → take_source s ≡ back → take_count s ≡ k
+    → rev_source back ≡ walk → walk.left ≡ xs → YieldsList (take_steps (rev_steps (AdvancesBack w))) (λ x. x) s (take k (reverse xs))
+gives_greatest w k s back walk from count source left = YieldsList-from_take k (YieldsList-at from (gives_from_back w back walk source left)) count
+
 -- a list that ascends and had a number pushed ascends, or some member is no less
 ascends_pushed_from : (low : ℕ) (s : List ℕ) (x : ℕ) → low ≤ x → AscendsFrom low s → AscendsFrom low (s ++ x ∷ []) ⊎ ((y : ℕ) × IsTrue (has s y) × (x ≤ y))
 ascends_pushed_from low [] x from up = inl (from, tt)
@@ -163,10 +186,13 @@ pub multiples : (m k : ℕ) → (m % k ≡ m % k)
 multiples m k = (refl, between_multiples m k, λ x is. ap (λ n. n % k) is ∙ add-mod_right m k)
 
 -- what loops over a set use, for `grind`
-pub ruleset set_steps = (nat_tests, has-filter, filter_none, filter_all, length-filter-le, take-first, append_assoc, append-nil)
+pub ruleset set_steps = (nat_tests, has-filter, below_none, below_all, from_none, from_all, length-filter-le, take-first, append_assoc, append-nil)
 
 -- all that callers use, for `grind`: a crate names it once, at its root
-pub ruleset calls = (set_steps, at_place, has_place, in_order, IsAscending-elements, ascends_pushed, list_any-append, take_at_read, sum_by-append)
+pub ruleset calls = (set_steps, members_of_merged_sets, has-reverse, at_place, has_place, in_order, IsAscending-elements, ascends_pushed, list_any-append, take_at_read, sum_by-append)
+
+-- for a function whose clause says that a test which is no bound keeps none, or all
+pub ruleset kept_by_tests = (calls, filter_none, filter_all)
 
 -- for a loop that goes on by steps of a number: a function that needs it names it
 pub ruleset steps = (nat_tests, multiples)

@@ -167,3 +167,10 @@ toggled_twice s t up =
     grind (arith, has-symmetric (symmetric_difference s t) t n, has-symmetric s t n))
 
 pub ruleset numbers_of_ranges = (has-span, IsAscending-span, length-span, bound-span, without_span, among_span, toggled_twice)
+
+-- what a range has that is missing, with what it has that is in
+pub count_missing : (a b : ℕ) (s : List ℕ) → IsAscending s → length (difference (span a b) s) + length (those_in_range s a b) ≡ b - a
+count_missing a b s up =
+    let same : filter (has s) (span a b) ≡ those_in_range s a b = same_members _ _ (AscendsFrom-filter 0 (has s) (span a b) (IsAscending-span a b)) (AscendsFrom-filter 0 (in_range a b) s up)
+    (λ n. let kept = has-filter (has s) (span a b) n in let in_both = has-filter (in_range a b) s n in let number = has-span a b n in grind arith) in
+    omega (arith, filtered_apart (has s) (span a b), ap length same, length-span a b)

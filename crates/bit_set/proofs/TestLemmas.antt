@@ -1,8 +1,8 @@
 -- What tests and choices among the members of a set say of the members.
-use Rattle.std.proofs.Common.{◌≡◌, ℕ, ◌+◌, ◌-◌, ◌≤◌, ◌&&◌, ◌⊎◌, inl, max, min, Bool, false, filter, nat_le, List, [], ◌∷◌, map, length, Option, Some, None, IsTrue, MatchOption, refl, arith}
+use Rattle.std.proofs.Common.{◌≡◌, ℕ, ◌+◌, ◌-◌, ◌<◌, ◌≤◌, ◌&&◌, ◌⊎◌, inl, max, min, Bool, false, filter, nat_le, nat_lt, List, [], ◌∷◌, map, length, Option, Some, None, IsTrue, MatchOption, refl, arith}
 use Rattle.std.proofs.{lemmas.Bool.Decides.nat_tests}
 use Rattle.std.specs.List.{find, fold, last_or, list_any, position_or_len, reduce}
-use Rattle.bit_set.specs.{Choices.{IsGreatest, IsLeast, IsLeastPassing}, Members.HasNone, Sets.{AscendsFrom, IsAscending, has, those_below}}
+use Rattle.bit_set.specs.{Choices.{IsGreatest, IsLeast, IsLeastPassing}, Members.HasNone, Sets.{AscendsFrom, IsAscending, has, those_below, those_from}}
 use Rattle.bit_set.proofs.{SetLemmas.{has-below, has-filter}, SetLaws.has-put_all}
 
 -- ---- some member passes a test
@@ -24,6 +24,19 @@ filter_none p (y ∷ ys) = let rest = filter_none p ys in grind (arith, nat_test
 pub filter_all : (p : ℕ → Bool) (s : List ℕ) → (filter p s ≡ s) ⊎ ((x : ℕ) × IsTrue (has s x) × (p x ≡ false))
 filter_all p [] = inl refl
 filter_all p (y ∷ ys) = let rest = filter_all p ys in grind (arith, nat_tests)
+
+-- the same where the test is a bound
+pub below_none : (s : List ℕ) (n : ℕ) → (those_below s n ≡ []) ⊎ ((x : ℕ) × IsTrue (has s x) × (x < n))
+below_none s n = let found = filter_none (λ x. nat_lt x n) s in grind (arith, nat_tests)
+
+pub below_all : (s : List ℕ) (n : ℕ) → (those_below s n ≡ s) ⊎ ((x : ℕ) × IsTrue (has s x) × (n ≤ x))
+below_all s n = let found = filter_all (λ x. nat_lt x n) s in grind (arith, nat_tests)
+
+pub from_none : (s : List ℕ) (n : ℕ) → (those_from s n ≡ []) ⊎ ((x : ℕ) × IsTrue (has s x) × (n ≤ x))
+from_none s n = let found = filter_none (λ x. nat_le n x) s in grind (arith, nat_tests)
+
+pub from_all : (s : List ℕ) (n : ℕ) → (those_from s n ≡ s) ⊎ ((x : ℕ) × IsTrue (has s x) × (x < n))
+from_all s n = let found = filter_all (λ x. nat_le n x) s in grind (arith, nat_tests)
 
 -- ---- the first that passes, of a list that ascends, is the least that does, and its place the number of members below it
 

@@ -1,5 +1,6 @@
 -- Which numbers are in a set after a call: of every number, whether it is in.
-use Rattle.std.specs.Prelude.{◌≡◌, ℕ, ◌≤◌, Bool, false, not, ◌&&◌, ◌||◌, ◌==◌, if◌then◌else◌, IsTrue, nat_le, nat_lt, List, get_or, length}
+use Rattle.std.specs.Prelude.{◌≡◌, ℕ, ◌-◌, ◌/◌, ◌%◌, ◌≤◌, Bool, false, not, ◌&&◌, ◌||◌, ◌==◌, if◌then◌else◌, IsTrue, nat_le, nat_lt, List, get_or, length, slice_index}
+use Rattle.std.specs.Int.{bit_at}
 use Rattle.bit_blocks.specs.{Merges.merge_of_values, Ranges.in_range, declared.block.merge.Merge.Merge}
 use Rattle.bit_words.specs.Bounds.{greatest}
 use Rattle.bit_set.specs.Sets.{elements, has}
@@ -79,6 +80,14 @@ IsMerged merge s t r = (n : ℕ) → has r n ≡ merge_of_values merge (has s n)
 -- the set has each index at which the list is true, and nothing else
 abbrev pub HasTrueOf : List ℕ → List Bool → Type 0
 HasTrueOf s values = (n : ℕ) → has s n ≡ get_or values n false
+
+-- the set has each number whose bit in the bytes is 1: that of n is in byte n / 8, counted from the highest
+abbrev pub HasBitsOf : List ℕ → List ℕ → Type 0
+HasBitsOf s bytes = (n : ℕ) → has s n ≡ (bit_at (slice_index bytes (n / 8)) (7 - n % 8) == 1)
+
+-- the same where the bits of a byte are counted from the lowest
+abbrev pub HasLowBitsOf : List ℕ → List ℕ → Type 0
+HasLowBitsOf s bytes = (n : ℕ) → has s n ≡ (bit_at (slice_index bytes (n / 8)) (n % 8) == 1)
 
 -- The elements of a list of truth values are no more than it is long, and its length is a `usize`.
 pub record IsCounted (values : List Bool) : Type 0 where

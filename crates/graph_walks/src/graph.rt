@@ -106,5 +106,5 @@ impl<'a, B: BitBlock> Graph for &'a BitMatrix<B> {
         Some(self.iter(node))
     }
 
-    ghost in_order = { λ s t item step. step };
+    ghost in_order = { λ s t item step. step.item };
 }

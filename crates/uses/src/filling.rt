@@ -1,5 +1,6 @@
 //! Sets that are filled, and out of which numbers are taken.
-ghost use Rattle.std.specs.Prelude.{◌≡◌, ℕ, ◌*◌, ◌<◌, ◌%◌, ◌==◌, ◌&&◌, nat_le, nat_lt, not, IfOk};
+ghost use Rattle.std.specs.Prelude.{◌≡◌, ℕ, ◌+◌, ◌*◌, ◌<◌, ◌%◌, ◌==◌, ◌&&◌, ◌||◌, nat_le, nat_lt, not, IfOk};
+ghost use Rattle.std.specs.List.{list_any};
 ghost use Rattle.bit_set.specs.Sets.{elements, has};
 
 use bit_set::{BitBlock, BitSet, SetError};
@@ -31,4 +32,15 @@ pub fn threes<B: BitBlock>(alloc: Global, n: usize) -> Result<BitSet<B>, SetErro
         set.insert(3 * k)?;
     }
     Ok(set)
+}
+
+/// Takes out each number of another set, and the one after it.
+pub fn remove_pairs<B: BitBlock>(set: &mut BitSet<B>, firsts: &BitSet<B>)
+    ensures { (x : ℕ) → has (elements set.new.values) x ≡ (has (elements set.old.values) x
+        && not (list_any (λ first. first == x || first + 1 == x) (elements firsts.now.values))) }
+{
+    for first in firsts {
+        set.remove(first);
+        set.remove(first + 1);
+    }
 }

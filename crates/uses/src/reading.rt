@@ -1,7 +1,7 @@
 //! Sets that are written and read again.
-ghost use Rattle.std.specs.Prelude.{IfOk};
+ghost use Rattle.std.specs.{Prelude.{◌≡◌, ℕ, ◌-◌, ◌/◌, ◌%◌, ◌==◌, ◌||◌, IfOk, slice_index}, Int.bit_at};
 ghost use Rattle.bit_set.specs.Members.{IsSameSet};
-ghost use Rattle.bit_set.specs.Sets.{elements};
+ghost use Rattle.bit_set.specs.Sets.{elements, has};
 
 use bit_set::{BitBlock, BitSet, SetError};
 use std::alloc::Global;
@@ -12,4 +12,17 @@ pub fn through_bytes<B: BitBlock>(alloc: Global, set: &BitSet<B>) -> Result<BitS
 {
     let bytes = set.to_bytes(alloc)?;
     BitSet::from_bytes(alloc, &bytes)
+}
+
+/// Puts a number in, and returns the bytes: the bits that are 1 are those of the members.
+pub fn bytes_with<B: BitBlock>(
+    alloc: Global,
+    set: &mut BitSet<B>,
+    number: usize,
+) -> Result<Vec<u8>, SetError>
+    ensures { IfOk result (λ bytes. (x : ℕ) → (bit_at (slice_index bytes.items (x / 8)) (7 - x % 8) == 1)
+        ≡ (x == number || has (elements set.old.values) x)) }
+{
+    set.insert(number)?;
+    Ok(set.to_bytes(alloc)?)
 }

@@ -1,5 +1,6 @@
 //! Relations by a matrix.
-ghost use Rattle.std.specs.Prelude.{◌≡◌, ℕ, ◌<◌, ◌==◌, ◌&&◌, ◌||◌, ◌↔◌, IfOk, IsTrue, length};
+ghost use Rattle.std.specs.Prelude.{◌≡◌, ℕ, ◌<◌, ◌==◌, ◌&&◌, ◌||◌, ◌↔◌, ◌≤◌, false, IfNone, IfOk, IfSome, IsTrue, length};
+ghost use Rattle.std.specs.List.{list_any};
 ghost use Rattle.bit_matrix.specs.Matrices.{has_at, row_of};
 ghost use Rattle.bit_set.specs.Order.{same_sets};
 ghost use Rattle.bit_set.specs.Sets.{elements, has};
@@ -65,4 +66,31 @@ pub fn add_both<B: BitBlock>(matrix: &mut BitMatrix<B>, a: usize, b: usize)
 {
     matrix.insert(a, b);
     matrix.insert(b, a);
+}
+
+/// The least column of a row that another row lacks.
+pub fn first_apart<B: BitBlock>(matrix: &BitMatrix<B>, a: usize, b: usize) -> Option<usize>
+    requires { a < length matrix.now.rows }
+    ensures none { IfNone result ((c : ℕ) → IsTrue (has_at matrix.now a c) → IsTrue (has_at matrix.now b c)) }
+    ensures some { IfSome result (λ x. IsTrue (has_at matrix.now a x) × (has_at matrix.now b x ≡ false)
+        × ((c : ℕ) → IsTrue (has_at matrix.now a c) → has_at matrix.now b c ≡ false → x ≤ c)) }
+{
+    for column in matrix.iter(a) {
+        if !related(matrix, b, column) {
+            return Some(column);
+        }
+    }
+    None
+}
+
+/// Whether a row that a set picks has the column.
+pub fn any_row_has<B: BitBlock>(matrix: &BitMatrix<B>, rows: &BitSet<B>, column: usize) -> bool
+    ensures { result ≡ list_any (λ r. has_at matrix.now r column) (elements rows.now.values) }
+{
+    for row in rows {
+        if related(matrix, row, column) {
+            return true;
+        }
+    }
+    false
 }

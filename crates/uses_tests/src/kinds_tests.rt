@@ -7,10 +7,10 @@ use std::process::Abort;
 use uses::allocating::{give_back, take_free};
 use uses::closing::close_over;
 use uses::complements::{complement_below, first_missing_in, flip_below, missing_below};
-use uses::filling::{threes, with_hole};
+use uses::filling::{remove_pairs, threes, with_hole};
 use uses::filtering::{keep_common, keep_even, low_part, part};
 use uses::from_the_back::{descending, greatest_k, last_without};
-use uses::reading::through_bytes;
+use uses::reading::{bytes_with, through_bytes};
 use uses::searching::{all_even, any_even, first_without, least_k, next_after, split_walk};
 use uses::selecting::{kth, median, rank};
 
@@ -164,4 +164,18 @@ fn members_are_searched(rt: HostRuntime) {
 fn sets_go_through_bytes(rt: HostRuntime) {
     let set = set_of::<u128>(&rt, rt.alloc(), &[1, 9]);
     has_members(&rt, &ok(&rt, through_bytes(rt.alloc(), &set)), &[1, 9]);
+}
+
+#[test]
+fn pairs_are_taken_out(rt: HostRuntime) {
+    let mut set = set_of::<u8>(&rt, rt.alloc(), &[1, 2, 3, 7]);
+    remove_pairs(&mut set, &set_of::<u8>(&rt, rt.alloc(), &[1, 3]));
+    has_members(&rt, &set, &[7]);
+}
+
+#[test]
+fn bytes_have_one_more(rt: HostRuntime) {
+    let mut set = set_of::<u16>(&rt, rt.alloc(), &[1]);
+    let bytes = ok(&rt, bytes_with(rt.alloc(), &mut set, 15));
+    expect_eq(&rt, &&*bytes, &&[0b0100_0000, 0b0000_0001][..]);
 }

@@ -8,7 +8,7 @@ use std::process::Abort;
 use uses::merging::{
     all_have, all_have_loop, any_has, first_with, how_many_have, keep_in_all, union_of_all,
 };
-use uses::relations::{add_both, column, is_reflexive, related, row_is};
+use uses::relations::{add_both, any_row_has, column, first_apart, is_reflexive, related, row_is};
 
 // What sets have in common.
 fn have(sets: &[BitSet<u8>], value: usize) -> (bool, bool, bool, usize, Option<usize>) {
@@ -57,4 +57,15 @@ fn relations_are_matrices(rt: HostRuntime) {
     expect(&rt, !is_reflexive(&matrix));
     has_members(&rt, &ok(&rt, column(rt.alloc(), &matrix, 1)), &[0]);
     expect(&rt, row_is(&matrix, 0, &set_of(&rt, rt.alloc(), &[1])));
+}
+
+#[test]
+fn rows_are_searched(rt: HostRuntime) {
+    let mut matrix: BitMatrix<u32> = ok_as_said(&rt, BitMatrix::new_general(rt.alloc(), 2, 2));
+    add_both(&mut matrix, 0, 1);
+    expect_eq(&rt, &first_apart(&matrix, 0, 1), &Some(1));
+    expect_eq(&rt, &first_apart(&matrix, 1, 1), &None);
+    let rows = set_of(&rt, rt.alloc(), &[1, 7]);
+    expect(&rt, any_row_has(&matrix, &rows, 0));
+    expect(&rt, !any_row_has(&matrix, &rows, 1));
 }

@@ -1,8 +1,8 @@
 // Calls on whole rows. Each is one pass over the blocks of the row.
-ghost use Rattle.std.specs.{Prelude.{◌≡◌, ℕ, ◌*◌, ◌^◌, ◌<◌, ◌≤◌, ◌↔◌, ◌&&◌, ◌||◌, All, IsTrue, List, false, length, map, not}, Iterator.{YieldsFirst, Runs.YieldsInOrder}};
+ghost use Rattle.std.specs.{Prelude.{◌≡◌, ℕ, ◌*◌, ◌^◌, ◌<◌, ◌≤◌, ◌↔◌, ◌&&◌, ◌||◌, All, IsTrue, List, false, length, map, not}, Iterator.Runs.YieldsInOrder};
 ghost use Rattle.bit_blocks.specs.{Bits.blocks_for, Storage.value_at};
 ghost use Rattle.bit_set.specs.{Members.{IsDisjoint, IsSubset}, Order.same_sets, Sets.{difference, intersection, is_disjoint, is_subset, merge_of_sets, those_from, union}};
-ghost use Rattle.bit_matrix.specs.Matrices.{ChangesRow, IsMatrix, has_at, row_of, with_row};
+ghost use Rattle.bit_matrix.specs.{Matrices.{ChangesRow, IsMatrix, has_at, row_of, with_row}, Walks.AdvancesInRow};
 
 use crate::merges::merge_within;
 use crate::table::row_of_blocks;
@@ -53,7 +53,7 @@ impl<B: BitBlock> BitMatrix<B> {
         requires { row < length self.now.rows }
         ensures left { result ≡ row_of self.now row }
         ensures columns { (c : ℕ) → IsTrue (has_at self.now row c) → c < self.now.columns }
-        ensures runs { YieldsInOrder (YieldsFirst (λ (left : List ℕ). left)) (λ (left : List ℕ). left) }
+        ensures runs { YieldsInOrder AdvancesInRow (λ (left : List ℕ). left) }
     {
         Iter::over(self.row_blocks(row), 0)
     }
@@ -69,7 +69,7 @@ impl<B: BitBlock> BitMatrix<B> {
         requires { row < length self.now.rows }
         ensures left { result ≡ those_from (row_of self.now row) from }
         ensures columns { (c : ℕ) → IsTrue (has_at self.now row c) → c < self.now.columns }
-        ensures runs { YieldsInOrder (YieldsFirst (λ (left : List ℕ). left)) (λ (left : List ℕ). left) }
+        ensures runs { YieldsInOrder AdvancesInRow (λ (left : List ℕ). left) }
     {
         Iter::over(self.row_blocks(row), from)
     }

@@ -1,7 +1,7 @@
 // A set of bytes, and its bytes.
 ghost use Rattle.std.specs.{Prelude.{◌≡◌, ◌≢◌, ℕ, ◌+◌, ◌-◌, ◌*◌, ◌<◌, ◌↔◌, IfErr, IfOk, IsErrOf, IsOk, IsTrue, length, slice_index}, Int.bit_at};
 ghost use Rattle.bit_blocks.specs.Bits.{blocks_for, blocks_of, capacity_of, values_of_bytes};
-ghost use Rattle.bit_set.specs.Sets.{elements, has};
+ghost use Rattle.bit_set.specs.{Members.{HasBitsOf, HasLowBitsOf}, Sets.{elements, has}};
 
 use crate::bit_vec::BitVec;
 use crate::{BitBlock, BitSet, SetError};
@@ -19,6 +19,7 @@ impl<B: BitBlock> BitSet<B> {
         ensures values { IfOk result (λ set. set.values ≡ values_of_bytes bytes.now) }
         ensures elements { IfOk result (λ set. (q r : ℕ) → r < 8
             → IsTrue (has (elements set.values) (8 * q + r)) ↔ (bit_at (slice_index bytes.now q) (7 - r) ≡ 1)) }
+        ensures members { IfOk result (λ set. HasBitsOf (elements set.values) bytes.now) }
         ensures length { IfOk result (λ set. length set.values ≡ 8 * length bytes.now) }
         ensures capacity { IfOk result (λ set. set.capacity
             ≡ capacity_of B.width (blocks_for B.width (8 * length bytes.now))) }
@@ -41,6 +42,7 @@ impl<B: BitBlock> BitSet<B> {
     /// ```
     pub fn to_bytes(&self, alloc: Global) -> Result<Vec<u8>, AllocError>
         ensures elements { IfOk result (λ bytes. elements (values_of_bytes bytes.items) ≡ elements self.now.values) }
+        ensures members { IfOk result (λ bytes. HasBitsOf (elements self.now.values) bytes.items) }
         ensures len { IfOk result (λ bytes. length bytes.items ≡ blocks_for 8 (length self.now.values)) }
         ensures empty { length self.now.values ≡ 0 → IsOk result }
     {
@@ -59,6 +61,7 @@ impl<B: BitBlock> BitSet<B> {
         ensures values { IfOk result (λ set. blocks_of 8 set.values ≡ bytes.now) }
         ensures elements { IfOk result (λ set. (q r : ℕ) → r < 8
             → IsTrue (has (elements set.values) (8 * q + r)) ↔ (bit_at (slice_index bytes.now q) r ≡ 1)) }
+        ensures members { IfOk result (λ set. HasLowBitsOf (elements set.values) bytes.now) }
         ensures length { IfOk result (λ set. length set.values ≡ 8 * length bytes.now) }
         ensures capacity { IfOk result (λ set. set.capacity
             ≡ capacity_of B.width (blocks_for B.width (8 * length bytes.now))) }
@@ -81,6 +84,7 @@ impl<B: BitBlock> BitSet<B> {
     /// ```
     pub fn to_bytes_lsb(&self, alloc: Global) -> Result<Vec<u8>, AllocError>
         ensures values { IfOk result (λ bytes. bytes.items ≡ blocks_of 8 self.now.values) }
+        ensures members { IfOk result (λ bytes. HasLowBitsOf (elements self.now.values) bytes.items) }
         ensures empty { length self.now.values ≡ 0 → IsOk result }
     {
         self.bits.to_bytes_lsb(alloc)
@@ -93,6 +97,7 @@ impl BitSet<u32> {
         ensures values { IfOk result (λ set. set.values ≡ values_of_bytes bytes.now) }
         ensures elements { IfOk result (λ set. (q r : ℕ) → r < 8
             → IsTrue (has (elements set.values) (8 * q + r)) ↔ (bit_at (slice_index bytes.now q) (7 - r) ≡ 1)) }
+        ensures members { IfOk result (λ set. HasBitsOf (elements set.values) bytes.now) }
         ensures length { IfOk result (λ set. length set.values ≡ 8 * length bytes.now) }
         ensures capacity { IfOk result (λ set. set.capacity ≡ capacity_of 32 (blocks_for 32 (8 * length bytes.now))) }
         ensures too_long { IsErrOf result SetError.Length ↔ (usize.MAX < 8 * length bytes.now) }
@@ -107,6 +112,7 @@ impl BitSet<u32> {
         ensures values { IfOk result (λ set. blocks_of 8 set.values ≡ bytes.now) }
         ensures elements { IfOk result (λ set. (q r : ℕ) → r < 8
             → IsTrue (has (elements set.values) (8 * q + r)) ↔ (bit_at (slice_index bytes.now q) r ≡ 1)) }
+        ensures members { IfOk result (λ set. HasLowBitsOf (elements set.values) bytes.now) }
         ensures length { IfOk result (λ set. length set.values ≡ 8 * length bytes.now) }
         ensures capacity { IfOk result (λ set. set.capacity ≡ capacity_of 32 (blocks_for 32 (8 * length bytes.now))) }
         ensures too_long { IsErrOf result SetError.Length ↔ (usize.MAX < 8 * length bytes.now) }

@@ -1,7 +1,7 @@
 // The walk over the numbers of a range that are not in a set.
-ghost use Rattle.std.specs.{Prelude.{◌≡◌, ℕ, ◌-◌, ◌&&◌, not, IfSome, Some, length}, Iterator.{UpTo, item_count, Runs.YieldsInOrder, SizeHint.IsWithinCount}};
+ghost use Rattle.std.specs.{Prelude.{◌≡◌, ℕ, ◌+◌, ◌-◌, ◌&&◌, not, IfSome, Some, length}, Iterator.{UpTo, item_count, Runs.YieldsInOrder, SizeHint.IsWithinCount}};
 ghost use Rattle.bit_blocks.specs.Ranges.{in_range};
-ghost use Rattle.bit_set.specs.{Missing.{PassesMembers, StartsMissing}, Ranges.span, Sets.{difference, elements, has}};
+ghost use Rattle.bit_set.specs.{Missing.{PassesMembers, StartsMissing}, Ranges.{span, those_in_range}, Sets.{difference, elements, has}};
 
 use crate::bit_vec::{BitVec, clear_below, take_lowest_one};
 use crate::{BitBlock, BitSet};
@@ -124,6 +124,8 @@ impl<B: BitBlock> BitSet<B> {
         ensures left { result.left ≡ difference (span range.start range.end) (elements self.now.values) }
         ensures members { (n : ℕ) → has result.left n
             ≡ (in_range range.start range.end n && not (has (elements self.now.values) n)) }
+        ensures count { length result.left + length (those_in_range (elements self.now.values) range.start range.end)
+            ≡ range.end - range.start }
         ensures start { StartsMissing B.width self.now.values range.start range.end result }
         ensures runs { YieldsInOrder (PassesMembers B.width) (λ walk. walk.left) }
     {

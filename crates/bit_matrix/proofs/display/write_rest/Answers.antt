@@ -15,7 +15,7 @@ loop-item-preserved g c =
     let item = codes ", " ++ decimal c.in-Some.item in (
       so_far.0 ++ item,
       has_written_append _ _ _ _ _ _ so_far.1 (has_written_append _ _ _ _ _ _ comma number),
-      append_assoc so_far.0 item _ ∙ ap (λ l. so_far.0 ++ flat_map (λ n. codes ", " ++ decimal n) l) (sym c.in-Some.ensures.steps) ∙ so_far.2,
+      append_assoc so_far.0 item _ ∙ ap (λ l. so_far.0 ++ flat_map (λ n. codes ", " ++ decimal n) l) (sym c.in-Some.ensures.steps.item) ∙ so_far.2,
     )
 
 pub returns-in_err-write_str : goal.returns-in_err-write_str
@@ -29,5 +29,5 @@ pub returns : goal.returns
 returns g c =
     λ plain ok.
     let so_far = c.loop-item.invariant plain in
-    let none : c.loop-item.item-iterator ≡ [] = c.in-None.ensures.steps.0 in
+    let none : c.loop-item.item-iterator ≡ [] = c.in-None.ensures.steps.item.0 in
     subst (λ text. HasWritten g.W.Write.write_str_gives c.args.f.now text c.loop-item.f) (sym (append-nil so_far.0) ∙ rw none at so_far.2) so_far.1

@@ -21,7 +21,7 @@ loop-column-init g c =
 pub insert-requires-clause-row : goal.insert-requires-clause-row
 insert-requires-clause-row g c =
     let column = c.in-Some.column in
-    let is_in = c.loop-column.invariant.inside column (ap (λ xs. has xs column) c.in-Some.ensures.steps ∙ has-first column c.next.new.self) in
+    let is_in = c.loop-column.invariant.inside column (ap (λ xs. has xs column) c.in-Some.ensures.steps.item ∙ has-first column c.next.new.self) in
     let below = c.iter_from-column-items.ensures.columns column (in_row (nat_le c.args.from column) _ is_in) in
     omega (arith, below, c.requires.rows, c.loop-column.invariant.rows)
 
@@ -31,8 +31,8 @@ loop-column-preserved g c =
     let before = c.loop-column.invariant in
     let now = c.insert.ensures.members in
     record {
-      bits = put_more c.args.transposed.now _ _ c.args.row c.in-Some.column f _ c.next.new.self c.in-Some.ensures.steps now before.bits;
-      inside = rest_inside f c.in-Some.column _ c.next.new.self c.in-Some.ensures.steps before.inside;
+      bits = put_more c.args.transposed.now _ _ c.args.row c.in-Some.column f _ c.next.new.self c.in-Some.ensures.steps.item now before.bits;
+      inside = rest_inside f c.in-Some.column _ c.next.new.self c.in-Some.ensures.steps.item before.inside;
       rows = now.rows ∙ before.rows;
       columns = now.columns ∙ before.columns;
     }

@@ -1,6 +1,6 @@
-use Rattle.std.proofs.{Common.{◌≡◌, [], length, map, sym, ap, ◌∙◌, arith}, lemmas.List.drop_all}
-use Rattle.bit_set.specs.Indexes.{values_in}
-use Rattle.bit_set.proofs.WalkLemmas.{indexes-ended}
+use Rattle.std.proofs.{Common.{◌≡◌, [], length, map, sym, ap, ◌∙◌, arith, subst}, lemmas.List.drop_all}
+use Rattle.bit_set.specs.{Indexes.values_in, Sets.AscendsFrom}
+use Rattle.bit_set.proofs.{IndexLemmas.AscendsFrom-indexes, MemberLemmas.takes_least, WalkLemmas.indexes-ended}
 use Rattle.bit_matrix.proofs.{WalkLemmas.{row_next, row_taken}, walk.IterIterator.next.Goals.After-split_first}
 use Rattle.bit_matrix.proofs.walk.IterIterator.next.Goals as goal
 
@@ -17,7 +17,7 @@ returns-in_err-first-clause-steps g c =
     let none : it.rest.now ≡ [] = drop_all 0 it.rest.now (omega (arith, c.in_err-first.ensures.cases)) in
     let zero = used_up g (goal.at.returns-in_err-first-clause-steps g c).After-split_first in
     let ended = indexes-ended w it.index (g.B.BitBlock.number it.block) (values_in w (map g.B.BitBlock.number it.rest.now)) zero (ap (λ xs. values_in w (map g.B.BitBlock.number xs)) none) in
-    rw c.from_residual.ensures (sym c.loop-self.invariant.left ∙ ended, ended)
+    rw c.from_residual.ensures (record { item = (sym c.loop-self.invariant.left ∙ ended, ended); first = tt })
 
 pub loop-self-preserved : goal.loop-self-preserved
 loop-self-preserved g c =
@@ -38,8 +38,11 @@ invariant_of-self-2 g c =
 
 pub returns-clause-steps : goal.returns-clause-steps
 returns-clause-steps g c =
+    let it = c.loop-self.self-inside in
     let taken = c.take_lowest_one.ensures in
-    sym c.loop-self.invariant.left ∙ (row_taken _ _ _ _ _ _ _ _ c.loop-self.invariant.walk taken.of_block taken.lowest taken.within taken.cleared).2
+    let item = sym c.loop-self.invariant.left ∙ (row_taken _ _ _ _ _ _ _ _ c.loop-self.invariant.walk taken.of_block taken.lowest taken.within taken.cleared).2 in
+    let up = AscendsFrom-indexes g.B.BitBlock.width it.index (g.B.BitBlock.number it.block) (values_in g.B.BitBlock.width (map g.B.BitBlock.number it.rest.now)) in
+    record { item = item; first = takes_least it.index _ _ _ (subst (AscendsFrom it.index) c.loop-self.invariant.left up) item }
 
 pub returns-clause-goes : goal.returns-clause-goes
-returns-clause-goes g c = record { on = λ _. (tt, tt, omega (arith, ap length (returns-clause-steps g c))); keeps = tt; rests = λ _. tt }
+returns-clause-goes g c = record { on = λ _. (tt, tt, omega (arith, ap length (returns-clause-steps g c).item)); keeps = tt; rests = λ _. tt }

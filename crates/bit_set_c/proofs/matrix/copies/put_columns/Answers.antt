@@ -27,17 +27,17 @@ loop-column-init c =
 pub overflow_sub-k : goal.overflow_sub-k
 overflow_sub-k c =
     let column = c.in-Some.column in
-    let low = c.loop-column.invariant.low column (ap (λ s. has s column) c.in-Some.ensures.steps ∙ has-first column c.next.new.self) in
+    let low = c.loop-column.invariant.low column (ap (λ s. has s column) c.in-Some.ensures.steps.item ∙ has-first column c.next.new.self) in
     omega (arith, low)
 
 pub returns-then-k-blocks-clause-members : goal.returns-then-k-blocks-clause-members
 returns-then-k-blocks-clause-members c = λ k j inside within.
     let column = c.in-Some.column in
     let rest = c.next.new.self in
-    let up : IsAscending (column ∷ rest) = subst IsAscending c.in-Some.ensures.steps c.loop-column.invariant.ascends in
+    let up : IsAscending (column ∷ rest) = subst IsAscending c.in-Some.ensures.steps.item c.loop-column.invariant.ascends in
     all_put (row_of c.args.matrix.now c.args.row) c.loop-column.column-iterator c.args.from c.loop-column.blocks c.loop-column.invariant.columns
     (λ k j inside within.
-    ap (λ s. has s ((c.args.from + k) * width + j)) c.in-Some.ensures.steps
+    ap (λ s. has s ((c.args.from + k) * width + j)) c.in-Some.ensures.steps.item
     ∙ has-below column (column ∷ rest) ((c.args.from + k) * width + j) (omega arith, up.1) (omega (arith, c.if-k-blocks.true, inside, within)))
     k j (omega (arith, inside, c.loop-column.invariant.room)) within
 
@@ -46,7 +46,7 @@ loop-column-preserved c =
     let column = c.in-Some.column in
     let rest = c.next.new.self in
     let row = row_of c.args.matrix.now c.args.row in
-    let steps = c.in-Some.ensures.steps in
+    let steps = c.in-Some.ensures.steps.item in
     let before = c.loop-column.invariant in
     let up : IsAscending (column ∷ rest) = subst IsAscending steps before.ascends in
     let is_left = ap (λ s. has s column) steps ∙ has-first column rest in
