@@ -314,8 +314,8 @@ fn merge_touched_chunks<B: BitBlock, O: Operation, S: Summarized<B>>(
     }
 }
 
-// Before which chunk all are merged and no summary is asked: where many blocks may change the first that the others do not fill, and
-// else that of block `start`.
+// Before which chunk all are merged and no summary is asked: where many blocks may change the first that the others do not
+// fill, and else that of block `start`.
 #[inline]
 fn dense_end<B: BitBlock, O: Operation, S: Summarized<B>>(
     blocks: &[B],

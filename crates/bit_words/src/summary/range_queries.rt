@@ -11,7 +11,8 @@ use bit_blocks::packed::access::block_index;
 use bit_blocks::packed::span_queries::{ones_in_span, span_merges_to_false};
 use bit_blocks::packed::zeros::are_zero;
 
-// The chunks that lie between two bits, `start` and a later `end`: the first that begins past `start`, and the one in which `end` is.
+// The chunks that lie between two bits, `start` and a later `end`: the first that begins past `start`, and the one in which
+// `end` is.
 // There are none where the first is not before it.
 #[inline(always)]
 pub(crate) fn whole_chunks<B: BitBlock>(start: usize, end: usize) -> (usize, usize)
