@@ -25,6 +25,7 @@ pub mod merging;
 pub mod reading;
 pub mod relations;
 pub mod round_one;
+pub mod round_three;
 pub mod round_two;
 pub mod searching;
 pub mod selecting;

@@ -18,6 +18,8 @@ mod loops_tests;
 #[cfg(test)]
 mod matrices_tests;
 #[cfg(test)]
+mod round_three_tests;
+#[cfg(test)]
 mod rounds_tests;
 #[cfg(test)]
 mod rows_tests;

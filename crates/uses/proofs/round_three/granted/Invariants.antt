@@ -1,0 +1,11 @@
+use Rattle.std.proofs.Common.{◌≡◌, ◌≢◌, ℕ, ◌+◌, ◌-◌, ◌*◌, ◌^◌, ◌/◌, ◌<◌, ◌≤◌, ◌==◌, ◌&&◌, ◌||◌, not, true, false, if◌then◌else◌, IsTrue, nat_lt, nat_le, min, max, length, filter, take, get_or}
+use Rattle.std.specs.List.{list_all, list_any}
+use Rattle.bit_set.specs.Sets.{elements, has}
+use Rattle.bit_set.specs.Members.{IsSubset, IsUnion}
+use Rattle.bit_matrix.specs.Matrices.{has_at}
+use Rattle.uses.proofs.round_three.granted.Given as goal
+
+abbrev pub invariant-loop-denied : goal.invariant-loop-denied
+invariant-loop-denied g l = (x : ℕ) → has (elements l.set.values) x
+    ≡ (list_any (λ one. has (elements one.values) x) l.fn.grants
+    && not (list_any (λ one. has (elements one.values) x) (take l.denied-index l.denies)))

@@ -1,0 +1,14 @@
+use Rattle.std.proofs.Common.{◌≡◌, ◌≢◌, ℕ, ◌+◌, ◌-◌, ◌*◌, ◌^◌, ◌/◌, ◌<◌, ◌≤◌, ◌==◌, ◌&&◌, ◌||◌, not, true, false, if◌then◌else◌, IsTrue, nat_lt, nat_le, min, max, length, filter, take, get_or}
+use Rattle.std.specs.List.{list_all, list_any}
+use Rattle.bit_set.specs.Sets.{elements, has}
+use Rattle.bit_set.specs.Members.{IsSubset, IsUnion}
+use Rattle.bit_matrix.specs.Matrices.{has_at}
+use Rattle.uses.proofs.round_three.image.Given as goal
+
+abbrev pub invariant-loop-r : goal.invariant-loop-r
+invariant-loop-r g l = record {
+  can_next : (goal.iterator-loop-r g).can_next l.r-iterator;
+  finite : (goal.iterator-loop-r g).is_finite l.r-iterator;
+  rest : (c : ℕ) → (has (elements l.to.values) c || list_any (λ r. has_at l.matrix r c) l.r-iterator.left)
+      ≡ list_any (λ r. has_at l.matrix r c) (elements l.from.values);
+}

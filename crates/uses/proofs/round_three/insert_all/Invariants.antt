@@ -1,0 +1,15 @@
+use Rattle.std.proofs.Common.{◌≡◌, ◌≢◌, ℕ, ◌+◌, ◌-◌, ◌*◌, ◌^◌, ◌/◌, ◌<◌, ◌≤◌, ◌==◌, ◌&&◌, ◌||◌, not, true, false, if◌then◌else◌, IsTrue, nat_lt, nat_le, min, max, length, filter, take, get_or}
+use Rattle.std.specs.List.{list_all, list_any}
+use Rattle.bit_set.specs.Sets.{elements, has}
+use Rattle.bit_set.specs.Members.{IsSubset, IsUnion}
+use Rattle.bit_matrix.specs.Matrices.{has_at}
+use Rattle.uses.proofs.round_three.insert_all.Given as goal
+
+abbrev pub invariant-loop-item : goal.invariant-loop-item
+invariant-loop-item g l = (k : ℕ) → k < l.item-index → get_or l.items k 0 < l.len
+
+abbrev pub invariant-loop-item-2 : goal.invariant-loop-item-2
+invariant-loop-item-2 g l = record {
+  members : IsUnion (elements l.fn.set.values) (take l.item-index l.items) (elements l.set.values);
+  fit : (k : ℕ) → k < length l.items → get_or l.items k 0 < l.set.capacity;
+}

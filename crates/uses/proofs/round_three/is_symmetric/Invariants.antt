@@ -1,0 +1,17 @@
+use Rattle.std.proofs.Common.{◌≡◌, ◌≢◌, ℕ, ◌+◌, ◌-◌, ◌*◌, ◌^◌, ◌/◌, ◌<◌, ◌≤◌, ◌==◌, ◌&&◌, ◌||◌, not, true, false, if◌then◌else◌, IsTrue, nat_lt, nat_le, min, max, length, filter, take, get_or}
+use Rattle.std.specs.List.{list_all, list_any}
+use Rattle.bit_set.specs.Sets.{elements, has}
+use Rattle.bit_set.specs.Members.{IsSubset, IsUnion}
+use Rattle.bit_matrix.specs.Matrices.{has_at}
+use Rattle.uses.proofs.round_three.is_symmetric.Given as goal
+
+abbrev pub invariant-loop-c : goal.invariant-loop-c
+invariant-loop-c g l = record {
+  can_next : (goal.iterator-loop-c g).can_next l.c-iterator;
+  finite : (goal.iterator-loop-c g).is_finite l.c-iterator;
+  below : (c : ℕ) → IsTrue (has l.c-iterator c) → c < l.matrix.columns;
+  row : (c : ℕ) → (has_at l.matrix l.r c && not (has l.c-iterator c) && not (has_at l.matrix c l.r)) ≡ false;
+}
+
+abbrev pub invariant-loop-r : goal.invariant-loop-r
+invariant-loop-r g l = (r c : ℕ) → r < l.r → (has_at l.matrix r c && not (has_at l.matrix c r)) ≡ false

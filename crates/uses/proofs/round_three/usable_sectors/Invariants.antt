@@ -1,0 +1,14 @@
+use Rattle.std.proofs.Common.{◌≡◌, ◌≢◌, ℕ, ◌+◌, ◌-◌, ◌*◌, ◌^◌, ◌/◌, ◌<◌, ◌≤◌, ◌==◌, ◌&&◌, ◌||◌, not, true, false, if◌then◌else◌, IsTrue, nat_lt, nat_le, min, max, length, filter, take, get_or}
+use Rattle.std.specs.List.{list_all, list_any}
+use Rattle.bit_set.specs.Sets.{elements, has}
+use Rattle.bit_set.specs.Members.{IsSubset, IsUnion}
+use Rattle.bit_matrix.specs.Matrices.{has_at}
+use Rattle.uses.proofs.round_three.usable_sectors.Given as goal
+
+abbrev pub invariant-loop-sector : goal.invariant-loop-sector
+invariant-loop-sector g l = record {
+  can_next : (goal.iterator-loop-sector g).can_next l.sector-iterator;
+  finite : (goal.iterator-loop-sector g).is_finite l.sector-iterator;
+  rest : (x : ℕ) → (has (elements l.free.values) x && not (has l.sector-iterator.left x))
+      ≡ (nat_le l.fn.boot x && nat_lt x l.fn.total && not (has (elements l.bad.values) x));
+}
