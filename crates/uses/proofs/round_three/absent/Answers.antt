@@ -1,6 +1,6 @@
 use Rattle.bit_set.proofs.CallerLemmas.{count_complement}
 use Rattle.std.proofs.lemmas.Bool.Decides.{nat_tests}
-use Rattle.std.proofs.Common.{arith, ◌≡◌, ℕ}
+use Rattle.std.proofs.Common.{arith}
 use Rattle.uses.proofs.round_three.absent.Goals as goal
 
 pub returns-clause-count : goal.returns-clause-count

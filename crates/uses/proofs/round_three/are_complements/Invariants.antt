@@ -1,8 +1,5 @@
-use Rattle.std.proofs.Common.{◌≡◌, ◌≢◌, ℕ, ◌+◌, ◌-◌, ◌*◌, ◌^◌, ◌/◌, ◌<◌, ◌≤◌, ◌==◌, ◌&&◌, ◌||◌, not, true, false, if◌then◌else◌, IsTrue, nat_lt, nat_le, min, max, length, filter, take, get_or}
-use Rattle.std.specs.List.{list_all, list_any}
+use Rattle.std.proofs.Common.{◌≡◌, ℕ, ◌<◌, ◌≤◌, not, false}
 use Rattle.bit_set.specs.Sets.{elements, has}
-use Rattle.bit_set.specs.Members.{IsSubset, IsUnion}
-use Rattle.bit_matrix.specs.Matrices.{has_at}
 use Rattle.uses.proofs.round_three.are_complements.Given as goal
 
 abbrev pub invariant-loop-seat : goal.invariant-loop-seat

@@ -1,8 +1,6 @@
-use Rattle.std.proofs.Common.{◌≡◌, ◌≢◌, ℕ, ◌+◌, ◌-◌, ◌*◌, ◌^◌, ◌/◌, ◌<◌, ◌≤◌, ◌==◌, ◌&&◌, ◌||◌, not, true, false, if◌then◌else◌, IsTrue, nat_lt, nat_le, min, max, length, filter, take, get_or}
-use Rattle.std.specs.List.{list_all, list_any}
-use Rattle.bit_set.specs.Sets.{elements, has}
-use Rattle.bit_set.specs.Members.{IsSubset, IsUnion}
-use Rattle.bit_matrix.specs.Matrices.{has_at}
+use Rattle.std.proofs.Common.{ℕ, ◌<◌, length, take, get_or}
+use Rattle.bit_set.specs.Sets.{elements}
+use Rattle.bit_set.specs.Members.{IsUnion}
 use Rattle.uses.proofs.round_three.insert_all.Given as goal
 
 abbrev pub invariant-loop-item : goal.invariant-loop-item
