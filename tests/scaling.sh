@@ -46,7 +46,7 @@ pop_first                     two    65536    8      2600
 pop_last                      two    65536    5      1300
 is_empty                      zero   65536  1.2        80
 next_missing                  full   65536   17    210000
-take_all                      many   65536   17   3000000
+take_all                      many   65536   17   4400000
 take_and_insert               many   65536   17   2800000
 iter                          two    65536    5       920
 iter                          many   65536   17   2200000
