@@ -1,13 +1,14 @@
 -- What a list becomes by a pass over two others at once.
-use Rattle.std.proofs.Common.{◌≡◌, ℕ, ◌/◌, ◌%◌, ◌<◌, ◌≤◌, false, not, ◌&&◌, List, [], map}
+use Rattle.std.proofs.Common.{◌≡◌, ℕ, ◌/◌, ◌%◌, ◌^◌, ◌<◌, ◌≤◌, All, Bool, false, not, ◌&&◌, List, [], map}
 use Rattle.std.proofs.Common.{length, get_or, take, replicate, sym, ap, ◌∙◌, arith, ⊎_elim, mod-lt}
 use Rattle.std.proofs.Common.{length-take, get_or-take}
 use Rattle.std.proofs.lemmas.{Bool.cases_lt, List.length-map}
 use Rattle.bit_blocks.specs.declared.block.merge.Merge.{Merge, TheVariants.{Difference, Intersection, Union}}
 use Rattle.bit_blocks.specs.Merges.{merge_of_values, merge_of}
-use Rattle.bit_blocks.specs.BlockMerges.{both_at, except_at, HasMerged, HaveBecome}
+use Rattle.bit_blocks.specs.BlockMerges.{both_at, except_at, AreKept, HasMerged, HaveBecome}
 use Rattle.bit_blocks.specs.Storage.{value_at, values_of, IsPacked, IsZeroFrom}
-use Rattle.bit_blocks.proofs.{BlockMergeLemmas.lists_merged_except}
+use Rattle.bit_blocks.specs.Digits.{is_one}
+use Rattle.bit_blocks.proofs.{BlockMergeLemmas.{lists_merged_except, same_numbers}}
 use Rattle.bit_blocks.proofs.MergeLemmas.{get_or-merged, length-merged, merge_of_values-none}
 use Rattle.bit_blocks.proofs.StorageLemmas.{get_or-values_of_zero_tail, length-values_of, value_at-is, value_at-past}
 use Rattle.bit_blocks.proofs.StorageLemmas.{values_of-replicate, values_of-same}
@@ -52,6 +53,32 @@ module _ {X : Type 0} (w : ℕ) (f : X → ℕ) (P : X → Type 0) (xs os ys : L
     };
     fits = packed.fits;
   }
+
+-- ---- a list that keeps what it has of another side, and then takes the rest of that
+
+module _ {X : Type 0} (w : ℕ) (f : X → ℕ) (P : X → Type 0) (other : ℕ → ℕ → Bool) (xs ys zs : List X) where
+  pub become_in_two : HasMerged Intersection w f P 0 (length xs) other xs ys
+      → HasMerged Union w f P 0 (length ys) other ys zs → HaveBecome w f P 0 (length xs) other xs zs
+  become_in_two first second = record {
+    digit = λ k j from below index. grind (arith, first.digit k j from below index, second.digit k j from (omega (arith, below, first.len)) index);
+    before = λ k h. absurd (omega arith);
+    after = λ k past. second.after k (omega (arith, past, first.len)) ∙ first.after k past;
+    each = second.each;
+    len = second.len ∙ first.len;
+  }
+
+  -- where it stays in all, it stays in both steps
+  pub kept_in_two : ((x : X) → P x → f x < 2 ^ w) → All P xs
+      → HasMerged Intersection w f P 0 (length xs) other xs ys → HasMerged Union w f P 0 (length ys) other ys zs
+      → AreKept (map f xs) (map f zs) → AreKept (map f xs) (map f ys) × AreKept (map f ys) (map f zs)
+  kept_in_two law each first second all =
+      let here : AreKept (map f xs) (map f ys) = λ k.
+      ⊎_elim
+      (λ below. (same_numbers w f P 0 (length xs) ys xs law first.each each).0 (record { digit = λ q j from within index.
+          grind (arith, first.digit q j from within index, (become_in_two first second).digit q j from within index, ap (λ n. is_one n j) (all q)) }) k (omega arith) below)
+      (λ past. first.after k past)
+      (cases_lt k (length xs)) in
+      (here, λ k. all k ∙ sym (here k))
 
 -- ---- the lists
 

@@ -22,6 +22,7 @@ pub(crate) mod clearing;
 pub(crate) mod comparing;
 pub(crate) mod copies;
 pub(crate) mod counts;
+pub(crate) mod differences;
 pub(crate) mod inclusion;
 pub(crate) mod merges;
 pub(crate) mod queries;

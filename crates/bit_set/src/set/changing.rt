@@ -180,7 +180,8 @@ impl<B: BitBlock> BitSet<B> {
         self.bits.truncate(len);
     }
 
-    /// Takes every element out; the length stays. Writes each block once.
+    /// Takes every element out; the length stays. Writes each block at most once: of many blocks it may pass over those that are
+    /// zero.
     pub fn make_empty(&mut self)
         ensures whole { self.new ≡ record {
           values = replicate (length self.old.values) false;

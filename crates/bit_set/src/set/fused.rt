@@ -48,9 +48,9 @@ impl<B: BitBlock> BitSet<B> {
     }
 
     /// Makes the elements those of `other` that are not in `except`, and returns whether they were others before. The
-    /// length becomes the greater of the set's own and that of `other`. One pass over the blocks of all three sets, and no
-    /// memory within the capacity. Fails only where the length of `other` passes the capacity and no memory is found;
-    /// elements, length and capacity then stay.
+    /// length becomes the greater of the set's own and that of `other`. Its time is by the blocks of all three sets, or by those
+    /// that have elements where they are few of many. Takes no memory within the capacity. Fails only where the length of
+    /// `other` passes the capacity and no memory is found; elements, length and capacity then stay.
     ///
     /// ```
     /// // What is asked for and was not given yet.

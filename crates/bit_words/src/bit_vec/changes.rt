@@ -3,7 +3,8 @@ ghost use Rattle.std.specs.Prelude.{◌≡◌, ◌≤◌, ◌↔◌, false, leng
 ghost use Rattle.bit_blocks.specs.{Merges.merge_of, declared.block.merge.Merge.Merge};
 
 use crate::bit_vec::BitVec;
-use crate::summary::changes::{become_difference, change_named, unite_common, unite_difference};
+use crate::summary::changes::{change_named, unite_common};
+use crate::summary::differences::{become_difference, unite_difference};
 use crate::summary::summarized::{Common, Listed};
 use bit_blocks::block::BitBlock;
 use bit_blocks::block::merge::Merge;
@@ -38,7 +39,7 @@ impl<B: BitBlock> BitVec<B> {
     /// What is true in `other` and not in `except` becomes true, and whether a value changed is returned. The other must
     /// not be longer; `except` is false past its end, and may be. Takes no memory. Blocks are written from the first group
     /// on of which one changes: that group is read twice. A long list goes by chunks, as in
-    /// [`merge_changes`](Self::merge_changes), unless `except` has fewer blocks than `other`.
+    /// [`merge_changes`](Self::merge_changes).
     ///
     /// ```
     /// // live |= live_after & !assigned
@@ -98,8 +99,9 @@ impl<B: BitBlock> BitVec<B> {
 
     /// Each value becomes whether it is true in `other` and not in `except`, and whether a value changed is returned. `other`
     /// must not be longer than the list, whose values past its end become false; `except` may be, and is false past its end.
-    /// One pass over the three lists, and no memory. Blocks are written from the first group on of which one changes: that
-    /// group is read twice, and the summary is then made anew.
+    /// Takes no memory. Blocks are written from the first group on of which one changes: that group is read twice, and the
+    /// summary is then made anew. A long list of which `other` has few blocks that are not 0 goes by chunks, twice: what is
+    /// not to be goes, and then the rest comes.
     ///
     /// ```
     /// // left = asked & !given
@@ -113,11 +115,19 @@ impl<B: BitBlock> BitVec<B> {
         ensures capacity { self.new.capacity ≡ self.old.capacity }
     {
         self.search_start = 0;
+        let others = Listed {
+            blocks: &other.blocks,
+            summary: &other.summary,
+        };
+        let apart = Listed {
+            blocks: &except.blocks,
+            summary: &except.summary,
+        };
         become_difference(
             self.blocks.as_mut_slice(),
             &mut self.summary,
-            &other.blocks,
-            &except.blocks,
+            others,
+            apart,
         )
     }
 }

@@ -109,7 +109,7 @@ pub(crate) fn clear_chunks<B: BitBlock>(
 
 // The blocks of a list that stores a summary become those of as many values `bit`.
 #[inline]
-fn fill_long<B: BitBlock>(blocks: &mut Vec<B>, summary: &[B], len: usize, bit: bool)
+fn fill_blocks<B: BitBlock>(blocks: &mut Vec<B>, summary: &[B], len: usize, bit: bool)
     requires packed { IsPacked B.width B.number B.is_block blocks.old.items len }
     requires summary { IsSummary B.width B.number B.is_block blocks.old.items summary.now }
     ensures filled { (i : ℕ) → i < len → value_at B.width (map B.number blocks.new.items) i ≡ bit }
@@ -121,6 +121,21 @@ fn fill_long<B: BitBlock>(blocks: &mut Vec<B>, summary: &[B], len: usize, bit: b
     } else {
         fill_bits(blocks, len, bit);
     }
+}
+
+// The same, and the summary becomes theirs. It is a call of its own, so that a short list saves no registers for it.
+#[inline(never)]
+fn fill_long<B: BitBlock>(blocks: &mut Vec<B>, summary: &mut Vec<B>, len: usize, bit: bool)
+    requires packed { IsPacked B.width B.number B.is_block blocks.old.items len }
+    requires summary { IsSummary B.width B.number B.is_block blocks.old.items summary.old.items }
+    ensures filled { (i : ℕ) → i < len → value_at B.width (map B.number blocks.new.items) i ≡ bit }
+    ensures packed { IsPacked B.width B.number B.is_block blocks.new.items len }
+    ensures summary { IsSummary B.width B.number B.is_block blocks.new.items summary.new.items }
+    ensures capacity { vec_capacity blocks.new ≡ vec_capacity blocks.old }
+    ensures summary_capacity { vec_capacity summary.new ≡ vec_capacity summary.old }
+{
+    fill_blocks(blocks, summary, len, bit);
+    fill_bits(summary, blocks.len(), bit);
 }
 
 // All values become `bit`, and the summary is that of what their blocks become.
@@ -140,8 +155,7 @@ pub(crate) fn fill_both<B: BitBlock>(
 {
     if is_short::<B>(blocks.len()) {
         fill_bits(blocks, len, bit);
-        return;
+    } else {
+        fill_long(blocks, summary, len, bit);
     }
-    fill_long(blocks, summary, len, bit);
-    fill_bits(summary, blocks.len(), bit);
 }

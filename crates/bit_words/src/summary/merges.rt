@@ -5,7 +5,7 @@ ghost use Rattle.bit_blocks.specs.{Bits.blocks_for, BlockMerges.{other_at, CanMe
 ghost use Rattle.bit_words.specs.Summary.{IsSummary, IsStoredSummary, SaysUsed};
 
 use crate::summary::merges::touched::{merge_touched, touched_by};
-use crate::summary::queries::{SAMPLED, has_few, samples};
+use crate::summary::queries::{SAMPLED, has_few, samples, saved_blocks};
 use crate::summary::summarized::{Listed, Summarized};
 use crate::summary::{is_nonzero, is_short, used_from};
 use bit_blocks::block::BitBlock;
@@ -238,8 +238,8 @@ pub(crate) fn chunks_to_merge<B: BitBlock, O: Operation, S: Others<B>>(
     }
 }
 
-// Whether more than a few blocks may change in the chunks that are looked at, but for one in sixteen: then a pass over all blocks
-// is the shortest.
+// Whether so many blocks may change in the chunks that are looked at that a pass over all blocks is the shortest: to take single
+// blocks saves less than a quarter of it.
 #[inline]
 pub(crate) fn is_dense<B: BitBlock, O: Operation, S: Summarized<B>>(
     blocks: &[B],
@@ -251,14 +251,14 @@ pub(crate) fn is_dense<B: BitBlock, O: Operation, S: Summarized<B>>(
     requires summary { IsSummary B.width B.number B.is_block blocks.now summary.now }
 {
     let samples = samples(chunks_to_merge::<B, O, S>(blocks, summary, others));
-    let mut spared = samples / 16;
+    let mut spared = samples.saturating_mul(B::bits()) / 4;
     for sample in 0..samples {
-        if has_few(touched_at::<B, O, S>(blocks, summary, others, sample * SAMPLED)) {
-            if spared == 0 {
-                return false;
-            }
-            spared -= 1;
+        let touched = touched_at::<B, O, S>(blocks, summary, others, sample * SAMPLED);
+        let saved = saved_blocks(touched);
+        if saved > spared {
+            return false;
         }
+        spared -= saved;
     }
     true
 }

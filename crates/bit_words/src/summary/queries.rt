@@ -126,6 +126,15 @@ pub(crate) fn has_few<B: BitBlock>(used: B) -> bool
     used.count_ones() <= B::bits() / FEW
 }
 
+// How many blocks of a chunk vector code could pass over in the time that is saved where those at the ones of `used` are taken one by
+// one.
+#[inline(always)]
+pub(crate) fn saved_blocks<B: BitBlock>(used: B) -> usize
+    requires { B.is_block used }
+{
+    B::bits().saturating_sub(used.count_ones().saturating_mul(FEW))
+}
+
 // Chunks of narrower blocks are so short that a pass over all of their blocks costs less than to pick some.
 const WIDE: usize = 32;
 

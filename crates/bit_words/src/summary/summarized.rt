@@ -3,6 +3,7 @@ ghost use Rattle.std.specs.Prelude.{◌≡◌, ℕ, ◌+◌, ◌*◌, ◌^◌, �
 ghost use Rattle.bit_blocks.specs.{BlockMerges.{except_at, other_at}, Digits.is_one, Storage.is_used};
 ghost use Rattle.bit_words.specs.Summary.{IsStoredSummary};
 
+use crate::summary::merges::touched::block_or_zero;
 use crate::summary::queries::summary_at;
 use bit_blocks::block::BitBlock;
 use bit_blocks::block::operation::{Difference, Intersection, Operation};
@@ -142,6 +143,57 @@ impl<'a, B: BitBlock> Summarized<B> for Apart<'a, B> {
     }
 
     // Only where `except` has a block may it take away all of one.
+    #[inline(always)]
+    fn unsure_at(self, q: usize) -> B {
+        self.except.used_at(q)
+    }
+}
+
+/// The blocks of one list except for the ones of another of any length, and the summaries that are stored of these. It tests for
+/// the end of the other at each block, so no vector code is made of it.
+#[derive(Clone, Copy)]
+pub(crate) struct Outside<'a, B> {
+    pub(crate) others: Listed<'a, B>,
+    pub(crate) except: Listed<'a, B>,
+}
+
+impl<'a, B: BitBlock> Others<B> for Outside<'a, B> {
+    ghost count = { λ outside. length outside.others.blocks.now };
+
+    ghost digit = { λ outside. except_at (map B.number outside.others.blocks.now)
+        (map B.number outside.except.blocks.now) };
+
+    ghost are_blocks = { λ outside. All B.is_block outside.others.blocks.now
+        × All B.is_block outside.except.blocks.now };
+
+    #[inline(always)]
+    fn len(self) -> usize {
+        self.others.blocks.len()
+    }
+
+    #[inline(always)]
+    fn block(self, k: usize) -> B {
+        Difference::of_blocks(
+            block_at(self.others.blocks, k),
+            block_or_zero(self.except.blocks, k),
+        )
+    }
+}
+
+impl<'a, B: BitBlock> Summarized<B> for Outside<'a, B> {
+    ghost are_summarized = { λ outside.
+        (All B.is_block outside.others.blocks.now
+        × IsStoredSummary B.width B.number B.is_block outside.others.blocks.now outside.others.summary.now)
+        × (All B.is_block outside.except.blocks.now
+        × IsStoredSummary B.width B.number B.is_block outside.except.blocks.now outside.except.summary.now) };
+
+    ghost may_use = { λ outside. is_used (map B.number outside.others.blocks.now) };
+
+    #[inline(always)]
+    fn used_at(self, q: usize) -> B {
+        self.others.used_at(q)
+    }
+
     #[inline(always)]
     fn unsure_at(self, q: usize) -> B {
         self.except.used_at(q)

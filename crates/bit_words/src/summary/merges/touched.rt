@@ -51,7 +51,7 @@ pub(crate) fn merge_any<B: BitBlock, O: Operation, S: Others<B>>(
 
 // The block with this index, and zeros past the last.
 #[inline]
-fn block_or_zero<B: BitBlock, S: Others<B>>(others: S, k: usize) -> B
+pub(crate) fn block_or_zero<B: BitBlock, S: Others<B>>(others: S, k: usize) -> B
     requires each { S.are_blocks others }
     ensures of_block { B.is_block result }
     ensures digits { (j : ℕ) → j < B.width → is_one (B.number result) j ≡ S.digit others k j }

@@ -20,7 +20,7 @@ merged : (g : Over) (c : After-become_difference g)
     → HaveBecome g.B.BitBlock.width g.B.BitBlock.number g.B.BitBlock.is_block 0 (length c.self.inside.blocks.items)
     (except_at (map g.B.BitBlock.number c.other.inside.blocks.items)
     (map g.B.BitBlock.number c.except.inside.blocks.items)) c.self.inside.blocks.items c.become_difference.new.blocks
-merged g c = rw (c.as_mut_slice.ensures.value, c.deref.ensures.value, c.deref-2.ensures.value) at c.become_difference.ensures.has
+merged g c = rw (c.as_mut_slice.ensures.value, c.deref.ensures.value, c.deref-3.ensures.value) at c.become_difference.ensures.has
 
 packed : (g : Over) (c : After-become_difference g) → IsPacked g.B.BitBlock.width g.B.BitBlock.number g.B.BitBlock.is_block c.become_difference.new.blocks c.self.inside.len
 packed g c =
@@ -40,7 +40,7 @@ become_difference-requires-clause-can g c =
     })
 
 pub become_difference-requires-clause-except : goal.become_difference-requires-clause-except
-become_difference-requires-clause-except g c = rw c.deref-2.ensures.value c.except.invariant.packed.each
+become_difference-requires-clause-except g c = rw c.deref-3.ensures.value c.except.invariant.packed.each
 
 pub become_difference-requires-clause-summary : goal.become_difference-requires-clause-summary
 become_difference-requires-clause-summary g c = rw c.as_mut_slice.ensures.value c.self.invariant.summary

@@ -1,4 +1,4 @@
-use Rattle.std.proofs.Common.{◌≡◌, ℕ, ◌+◌, ◌-◌, ◌/◌, ◌<◌, ◌++◌, All, not, ◌==◌, Bool, true, false, drop, length, min, max, take_all, refl, sym, ap, ap₂, subst, ◌∙◌, arith}
+use Rattle.std.proofs.Common.{◌≡◌, ℕ, ◌+◌, ◌-◌, ◌/◌, ◌<◌, ◌++◌, All, not, ◌==◌, Bool, true, false, drop, length, min, take_all, refl, sym, ap, ap₂, subst, ◌∙◌, arith}
 use Rattle.std.proofs.lemmas.{Bool.Decides.nat_tests, List.Elements.All-get_or, Option.{get_or_from_slice_get, slice_get_within}}
 use Rattle.bit_blocks.{specs.Bits.blocks_for, proofs.{BitsLemmas.blocks_for-le, UseLemmas.packed_blocks, VectorLemmas.length_from_view}}
 use Rattle.bit_words.specs.{Nonzero.nonzero_from, Pending.{left_from, next_at}}

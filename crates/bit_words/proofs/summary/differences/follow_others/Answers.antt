@@ -5,8 +5,8 @@ use Rattle.bit_blocks.specs.{Bits.blocks_for, Digits.is_one, Storage.{is_used, v
 use Rattle.bit_blocks.proofs.BitsLemmas.{blocks_for-enough, blocks_for-le, whole_before}
 use Rattle.bit_blocks.proofs.{StorageLemmas.value_at-index, UseLemmas.used_past}
 use Rattle.bit_words.proofs.SummaryLemmas.{summary_of_blocks, summary_put}
-use Rattle.bit_words.proofs.summary.changes.follow_others.{Given.Over, Goals.{After-block_count-q-end, After-summary_at-excepted}}
-use Rattle.bit_words.proofs.summary.changes.follow_others.Goals as goal
+use Rattle.bit_words.proofs.summary.differences.follow_others.{Given.Over, Goals.{After-block_count-q-end, After-summary_at-excepted}}
+use Rattle.bit_words.proofs.summary.differences.follow_others.Goals as goal
 
 -- the summary has the blocks that are made anew
 inside : (g : Over) (c : After-block_count-q-end g) → c.block_count-q-end.result ≤ length c.args.summary.now

@@ -1,8 +1,8 @@
 use Rattle.std.proofs.Common.{◌∙◌, ◌||◌, length, map, sym, ap, arith}
 use Rattle.bit_blocks.{specs.{declared.block.merge.Merge.TheVariants.Union, BlockMerges.{except_at, HasMerged}, Storage.is_used}, proofs.BlockMergeLemmas.{merged_past_stay, used_of_union}}
 use Rattle.bit_words.proofs.SummaryMergeLemmas.{used_with_others}
-use Rattle.bit_words.proofs.summary.changes.unite_long_from.{Given.Over, Goals.After-unite_except}
-use Rattle.bit_words.proofs.summary.changes.unite_long_from.Goals as goal
+use Rattle.bit_words.proofs.summary.differences.unite_long_from.{Given.Over, Goals.After-unite_except}
+use Rattle.bit_words.proofs.summary.differences.unite_long_from.Goals as goal
 
 -- all blocks, with those that stayed
 merged : (g : Over) (c : After-unite_except g)

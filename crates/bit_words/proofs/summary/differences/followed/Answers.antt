@@ -1,6 +1,6 @@
 use Rattle.std.proofs.Common.{◌≡◌, ◌∙◌, ap, arith}
 use Rattle.bit_blocks.{specs.Digits.is_one, proofs.Masks.is_one-zero}
-use Rattle.bit_words.proofs.summary.changes.followed.Goals as goal
+use Rattle.bit_words.proofs.summary.differences.followed.Goals as goal
 
 pub returns-else-is_nonzero-clause-digits : goal.returns-else-is_nonzero-clause-digits
 returns-else-is_nonzero-clause-digits g c = λ j index.

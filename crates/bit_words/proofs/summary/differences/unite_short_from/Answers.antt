@@ -1,6 +1,6 @@
 use Rattle.std.proofs.Common.{length, arith}
 use Rattle.bit_blocks.proofs.BlockMergeLemmas.{merged_past_stay}
-use Rattle.bit_words.proofs.summary.changes.unite_short_from.Goals as goal
+use Rattle.bit_words.proofs.summary.differences.unite_short_from.Goals as goal
 
 pub returns : goal.returns
 returns g c =

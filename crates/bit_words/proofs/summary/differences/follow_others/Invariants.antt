@@ -1,6 +1,6 @@
 use Rattle.std.proofs.Common.{◌≡◌, ℕ, ◌+◌, ◌*◌, ◌<◌, ◌≤◌, All, map, get_or, length}
 use Rattle.bit_blocks.specs.{Digits.is_one, Storage.is_used}
-use Rattle.bit_words.proofs.summary.changes.follow_others.Given as goal
+use Rattle.bit_words.proofs.summary.differences.follow_others.Given as goal
 
 abbrev pub invariant-loop-q : goal.invariant-loop-q
 invariant-loop-q g l = record {

@@ -1,0 +1,23 @@
+use Rattle.std.proofs.Common.{◌≡◌, ℕ, ◌∙◌, false, map, sym, arith}
+use Rattle.bit_blocks.specs.Storage.{value_at}
+use Rattle.bit_words.proofs.{ClearedLemmas.cleared_all, ComparedLemmas.summary_enough}
+use Rattle.bit_words.proofs.summary.clearing.fill_blocks.{Given.Over, Goals.After-clear_chunks}
+use Rattle.bit_words.proofs.summary.clearing.fill_blocks.Goals as goal
+
+-- no value is true in blocks that are 0
+falses : (g : Over) (c : After-clear_chunks g) (i : ℕ) → value_at g.B.BitBlock.width (map g.B.BitBlock.number c.clear_chunks.new.blocks.items) i ≡ false
+falses g c =
+    cleared_all _ _ g.B.BitBlock.number g.B.BitBlock.is_block _ _
+    (summary_enough _ _ _ _ _ g.met.B.BitBlock.width_law.positive c.requires.summary)
+    c.clear_chunks.ensures.cleared
+
+pub returns-then-not-is_full-clause-filled : goal.returns-then-not-is_full-clause-filled
+returns-then-not-is_full-clause-filled g c = λ i _. falses g (goal.at.returns-then-not-is_full-clause-filled g c).After-clear_chunks i ∙ sym c.if-not-bit.true
+
+pub returns-then-not-is_full-clause-packed : goal.returns-then-not-is_full-clause-packed
+returns-then-not-is_full-clause-packed g c = record {
+  each = c.clear_chunks.ensures.in_place.each;
+  count = omega (arith, c.requires.packed.count, c.clear_chunks.ensures.cleared.len);
+  tail = record { zero_tail = λ i _. falses g (goal.at.returns-then-not-is_full-clause-packed g c).After-clear_chunks i };
+  fits = c.requires.packed.fits;
+}
