@@ -12,6 +12,7 @@ pub enum Change {
     Difference,
     SymmetricDifference,
     UnionWithDifference,
+    CopyDifference,
     UnionOf,
     IntersectionOf,
     Eq,
@@ -26,6 +27,7 @@ impl Work for Change {
             "difference_changes" => Change::Difference,
             "symmetric_difference_changes" => Change::SymmetricDifference,
             "union_with_difference" => Change::UnionWithDifference,
+            "copy_difference" => Change::CopyDifference,
             "union_of" => Change::UnionOf,
             "intersection_of" => Change::IntersectionOf,
             "eq" => Change::Eq,
@@ -43,6 +45,9 @@ impl Work for Change {
             Change::SymmetricDifference => usize::from(set.symmetric_difference_changes(other)?),
             Change::UnionWithDifference => {
                 usize::from(set.union_with_difference(other, &BitSet::new_general(alloc))?)
+            }
+            Change::CopyDifference => {
+                usize::from(set.copy_difference(other, &BitSet::new_general(alloc))?)
             }
             Change::UnionOf => {
                 let united = BitSet::union_of(alloc, &copies(alloc, set, other)?)?;
