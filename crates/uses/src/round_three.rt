@@ -1,5 +1,6 @@
-//! Callers of a third round, two of each kind, as their author wrote them at first. Only two bodies were changed since: the
-//! round of `apply_rules` is a function of its own, and `move_pages` tests what it took out.
+//! Callers of a third round, two of each kind, as their author wrote them at first. Three bodies were changed since: the round
+//! of `apply_rules` is a function of its own, `move_pages` tests what it took out, and `place_in_queue` calls a law in place of three
+//! lines.
 
 ghost use Rattle.std.specs.Prelude.{◌≡◌, ℕ, ◌+◌, ◌-◌, ◌/◌, ◌^◌, if◌then◌else◌, ◌%◌, ◌<◌, ◌≤◌, ◌==◌, ◌&&◌, ◌||◌, ◌↔◌, not, true, false, IsTrue, nat_lt, nat_le, min, length, filter, get_or, slice_index, IfOk, IfSome, IsOk, OnOk, OnErr, MatchOption};
 ghost use Rattle.std.specs.{List.{list_all, list_any}, Int.{bit_at}};
