@@ -74,8 +74,10 @@ module _ {X : Type 0} (w : ℕ) (f : X → ℕ) (P : X → Type 0) (other : ℕ 
   kept_in_two law each first second all =
       let here : AreKept (map f xs) (map f ys) = λ k.
       ⊎_elim
-      (λ below. (same_numbers w f P 0 (length xs) ys xs law first.each each).0 (record { digit = λ q j from within index.
-          grind (arith, first.digit q j from within index, (become_in_two first second).digit q j from within index, ap (λ n. is_one n j) (all q)) }) k (omega arith) below)
+      (λ below. (same_numbers w f P 0 (length xs) ys xs law first.each each).0 (record {
+        digit = λ q j from within index.
+            grind (arith, first.digit q j from within index, (become_in_two first second).digit q j from within index, ap (λ n. is_one n j) (all q));
+      }) k (omega arith) below)
       (λ past. first.after k past)
       (cases_lt k (length xs)) in
       (here, λ k. all k ∙ sym (here k))

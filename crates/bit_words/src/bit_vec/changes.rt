@@ -123,11 +123,6 @@ impl<B: BitBlock> BitVec<B> {
             blocks: &except.blocks,
             summary: &except.summary,
         };
-        become_difference(
-            self.blocks.as_mut_slice(),
-            &mut self.summary,
-            others,
-            apart,
-        )
+        become_difference(self.blocks.as_mut_slice(), &mut self.summary, others, apart)
     }
 }

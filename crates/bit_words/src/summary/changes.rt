@@ -5,11 +5,11 @@ ghost use Rattle.bit_blocks.specs.BlockMerges.{both_at, other_at, AreKept, CanMe
 ghost use Rattle.bit_blocks.specs.declared.block.merge.Merge.{Merge};
 ghost use Rattle.bit_words.specs.Summary.{IsSummary, IsStoredSummary};
 
+use crate::summary::is_short;
 use crate::summary::merges::touched::changes_touched;
 use crate::summary::merges::{chunks_to_merge, is_dense, merge_long, merge_stored, touched_at};
 use crate::summary::queries::has_few;
 use crate::summary::summarized::{Common, Listed, Summarized};
-use crate::summary::is_short;
 use bit_blocks::block::BitBlock;
 use bit_blocks::block::merge::Merge;
 use bit_blocks::block::operation::{Difference, Intersection, Operation, Symmetric, Union};
