@@ -22,6 +22,7 @@ struct MallInfo([usize; 10]);
 thread_local! {
     static HELD: Cell<usize> = const { Cell::new(0) };
     static MOST: Cell<usize> = const { Cell::new(0) };
+    static LAST: Cell<usize> = const { Cell::new(0) };
     static ASKED: Cell<usize> = const { Cell::new(0) };
 }
 
@@ -39,6 +40,7 @@ fn found(place: *mut c_void) -> Found {
     }
     HELD.set(HELD.get() + unsafe { malloc_usable_size(place) });
     MOST.set(MOST.get().max(HELD.get()));
+    LAST.set(HELD.get());
     Found { is_there: 1, place }
 }
 
@@ -80,6 +82,13 @@ pub fn most_held(work: impl FnOnce() -> usize) -> usize {
     MOST.set(before);
     black_box(work());
     MOST.get() - before
+}
+
+/// How many bytes this library held at its last request while the work was done.
+pub fn last_held(work: impl FnOnce() -> usize) -> usize {
+    let before = HELD.get();
+    black_box(work());
+    LAST.get() - before
 }
 
 /// How many bytes this library asked for since the last time that this was called.

@@ -19,6 +19,9 @@ pub const CALLS: [(&str, &str); 8] = [
     ("`deserialize`", "call"),
 ];
 
+/// The work behind these, which makes a set and then another of one number.
+const HOLD: usize = CALLS.len();
+
 unsafe extern "C" {
     fn bench_roaring(
         work: usize,
@@ -124,9 +127,12 @@ pub fn sides_of<'a>(work: usize, input: &'a Input) -> [Option<BoxedSide<'a>>; 5]
 /// How many bytes each side's set holds.
 pub fn bytes_held(input: &Input) -> [Option<usize>; 5] {
     let numbers = &input.sets[0];
-    let (k, ks) = (numbers.len(), numbers.as_ptr());
-    // The sets that the work has beside those that it fills are empty.
-    let here = memory::most_held(|| unsafe { bench_roaring(1, ks, 0, ks, 0, ks, k, 1) });
+    // The work's last request is by a set of one number beside the set of these.
+    let with = |numbers: &[u32]| {
+        let (k, ks) = (numbers.len(), numbers.as_ptr());
+        memory::last_held(|| unsafe { bench_roaring(HOLD, ks, 0, ks, 0, ks, k, 1) })
+    };
+    let here = with(numbers) - with(&[]);
     let build = |place: usize| BUILDS[place].get().map(|calls| memory::held_by(|| croaring_of(calls, numbers)));
     let tree = memory::held_by(|| numbers.iter().copied().collect::<BTreeSet<u32>>());
     [Some(here), build(0), build(1), bits::bytes_held(input), Some(tree)]
