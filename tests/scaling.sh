@@ -85,6 +85,9 @@ difference_changes            two    65536   15     12700
 symmetric_difference_changes  many   65536   17    110000
 symmetric_difference_changes  two    65536  8.2      6600
 union_with_difference         many   65536   17     95000
+union_with_difference         two    65536    9      7700
+copy_difference               many   65536   17     47000
+copy_difference               two    65536   12     14700
 union_of                      many   65536   17   1070000
 union_of                      two    65536   17   1070000
 intersection_of               many   65536   17   1070000
