@@ -32,10 +32,10 @@ pub mod selecting;
 pub mod worklists;
 
 /// The even numbers below `n`.
-pub fn evens<B: BitBlock>(alloc: Global, n: usize) -> Result<BitSet<B>, SetError>
+pub fn evens(alloc: Global, n: usize) -> Result<BitSet, SetError>
     ensures { IfOk result (λ set. (x : ℕ) → has (elements set.values) x ≡ (nat_lt x n && x % 2 == 0)) }
 {
-    let mut set = BitSet::new_general(alloc);
+    let mut set = BitSet::new(alloc);
     for number in 0..n {
         if number % 2 == 0 {
             set.insert(number)?;

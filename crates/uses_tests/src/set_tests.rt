@@ -15,7 +15,7 @@ const EVENS: &[usize] = &[0, 2, 4, 6, 8];
 
 #[test]
 fn sets_are_made(rt: HostRuntime) {
-    has_members(&rt, &ok(&rt, evens::<u8>(rt.alloc(), 9)), EVENS);
+    has_members(&rt, &ok(&rt, evens(rt.alloc(), 9)), EVENS);
     has_members(&rt, &ok(&rt, evens_by_chain::<u64>(rt.alloc(), 9)), EVENS);
 }
 
