@@ -4,4 +4,4 @@ use Rattle.uses.proofs.evens.Given as goal
 
 -- the even numbers below the next one are in, and nothing else
 abbrev pub invariant-loop-number : goal.invariant-loop-number
-invariant-loop-number g l = (x : ℕ) → has (elements l.set.values) x ≡ (nat_lt x l.number && x % 2 == 0)
+invariant-loop-number l = (x : ℕ) → has (elements l.set.values) x ≡ (nat_lt x l.number && x % 2 == 0)
