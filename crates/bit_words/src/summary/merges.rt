@@ -5,7 +5,7 @@ ghost use Rattle.bit_blocks.specs.{Bits.blocks_for, BlockMerges.{other_at, CanMe
 ghost use Rattle.bit_words.specs.Summary.{IsSummary, IsStoredSummary, SaysUsed};
 
 use crate::summary::merges::touched::{merge_touched, touched_by};
-use crate::summary::queries::{SAMPLED, has_few, samples, saved_blocks};
+use crate::summary::queries::{SAMPLED, has_few, saved_blocks};
 use crate::summary::summarized::{Listed, Summarized};
 use crate::summary::{is_nonzero, is_short, used_from};
 use bit_blocks::block::BitBlock;
@@ -238,6 +238,9 @@ pub(crate) fn chunks_to_merge<B: BitBlock, O: Operation, S: Others<B>>(
     }
 }
 
+// Before a merge at most so many chunks of a list are looked at, since each may be in another line of the cache.
+const MOST_SAMPLES: usize = 64;
+
 // Whether so many blocks may change in the chunks that are looked at that a pass over all blocks is the shortest: to take single
 // blocks saves less than a quarter of it.
 #[inline]
@@ -250,11 +253,16 @@ pub(crate) fn is_dense<B: BitBlock, O: Operation, S: Summarized<B>>(
     requires summaries { S.are_summarized others }
     requires summary { IsSummary B.width B.number B.is_block blocks.now summary.now }
 {
-    let samples = samples(chunks_to_merge::<B, O, S>(blocks, summary, others));
+    let chunks = chunks_to_merge::<B, O, S>(blocks, summary, others);
+    if chunks == 0 {
+        return true;
+    }
+    let step = (chunks / MOST_SAMPLES).max(SAMPLED);
+    let samples = (chunks - 1).div_ceil(step);
     let mut spared = samples.saturating_mul(B::bits()) / 4;
     for sample in 0..samples {
-        let touched = touched_at::<B, O, S>(blocks, summary, others, sample * SAMPLED);
-        let saved = saved_blocks(touched);
+        let q = sample.saturating_mul(step).min(chunks - 1);
+        let saved = saved_blocks(touched_at::<B, O, S>(blocks, summary, others, q));
         if saved > spared {
             return false;
         }
