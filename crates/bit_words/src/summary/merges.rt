@@ -242,7 +242,7 @@ pub(crate) fn chunks_to_merge<B: BitBlock, O: Operation, S: Others<B>>(
 const MOST_SAMPLES: usize = 64;
 
 // Whether so many blocks may change in the chunks that are looked at that a pass over all blocks is the shortest: to take single
-// blocks saves less than a quarter of it.
+// blocks saves less than a third of it.
 #[inline]
 pub(crate) fn is_dense<B: BitBlock, O: Operation, S: Summarized<B>>(
     blocks: &[B],
@@ -259,7 +259,7 @@ pub(crate) fn is_dense<B: BitBlock, O: Operation, S: Summarized<B>>(
     }
     let step = (chunks / MOST_SAMPLES).max(SAMPLED);
     let samples = (chunks - 1).div_ceil(step);
-    let mut spared = samples.saturating_mul(B::bits()) / 4;
+    let mut spared = samples.saturating_mul(B::bits()) / 3;
     for sample in 0..samples {
         let q = sample.saturating_mul(step).min(chunks - 1);
         let saved = saved_blocks(touched_at::<B, O, S>(blocks, summary, others, q));
