@@ -27,6 +27,16 @@ union_use w k f P xs os ys xsummary osummary below each_x each_o each_y first se
     used_union w (map f xs) (map f os) (map f ys) k (numbers_below w f P xs below each_x k) (numbers_below w f P os below each_o k) (numbers_below w f P ys below each_y k) each
     ∙ sym (ap₂ (λ a b. a || b) (first.digit k) (second.digit k))
 
+-- a block of which a third takes nothing away is 0 where none of its digits is left
+pub unused_from_apart : {X : Type 0} (w k : ℕ) (f : X → ℕ) (P : X → Type 0) (os : List X) (es : List ℕ)
+    → ((x : X) → P x → f x < 2 ^ w) → All P os → is_used es k ≡ false
+    → ((j : ℕ) → j < w → except_at (map f os) es k j ≡ false) → is_used (map f os) k ≡ false
+unused_from_apart w k f P os es below each none all =
+    let gone : get_or es k 0 ≡ 0 = zero_from_unused (get_or es k 0) none in
+    ap (λ n. not (n == 0)) (zero_from_digits w (get_or (map f os) k 0) (numbers_below w f P os below each k) (λ j digit.
+    let lacks : is_one (get_or es k 0) j ≡ false = ap (λ n. is_one n j) gone ∙ is_one-zero j in
+    grind (arith, all j digit, lacks)))
+
 -- a block that takes in one of which a third takes nothing away
 used_with : (w m o e n : ℕ) → m < 2 ^ w → o < 2 ^ w → n < 2 ^ w
     → ((j : ℕ) → j < w → is_one n j ≡ (is_one m j || (is_one o j && not (is_one e j)))) → not (e == 0) ≡ false

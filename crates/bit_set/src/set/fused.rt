@@ -1,5 +1,5 @@
-// Calls that make a set, in one pass, what it and two others give, and tell whether that changed it. They write no block
-// before the first that change.
+// Calls that make a set what it and two others give, and tell whether that changed it. They write no block before the first
+// that changes.
 ghost use Rattle.std.specs.Prelude.{◌≡◌, ◌+◌, ◌≤◌, max, not, if◌then◌else◌, IfOk, OnOk, length, false};
 ghost use Rattle.bit_words.specs.Growth.{Grows};
 ghost use Rattle.bit_set.specs.Members.{IsCounted, IsDifference, IsUnionWithIntersection};

@@ -1,4 +1,4 @@
-// Calls that merge one or two other lists into the list in one pass, and say whether it changed.
+// Calls that merge one or two other lists into the list, and say whether it changed.
 ghost use Rattle.std.specs.Prelude.{◌≡◌, ◌≤◌, ◌↔◌, false, length, replicate, take};
 ghost use Rattle.bit_blocks.specs.{Merges.merge_of, declared.block.merge.Merge.Merge};
 

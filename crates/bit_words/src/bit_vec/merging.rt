@@ -10,7 +10,8 @@ use bit_blocks::steps::Steps;
 
 impl<B: BitBlock> BitVec<B> {
     /// Each value becomes its merge with that of `other`, which is false past its end. The other must
-    /// not be longer. Writes each block once, one step a block, and takes no memory.
+    /// not be longer. Takes no memory. Counts one step for each block, also for those of a long list that it passes
+    /// over, since by the summaries of both they cannot change.
     #[inline(always)]
     pub fn merge_blocks(&mut self, other: &Self, merge: Merge, steps: &mut Steps)
         requires { length other.now.values ≤ length self.old.values }

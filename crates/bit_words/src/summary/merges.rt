@@ -257,7 +257,7 @@ pub(crate) fn is_dense<B: BitBlock, O: Operation, S: Summarized<B>>(
     if chunks == 0 {
         return true;
     }
-    let step = (chunks / MOST_SAMPLES).max(SAMPLED);
+    let step = chunks.div_ceil(MOST_SAMPLES).max(SAMPLED);
     let samples = (chunks - 1).div_ceil(step);
     let mut spared = samples.saturating_mul(B::bits()) / 3;
     for sample in 0..samples {
