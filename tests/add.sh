@@ -7,7 +7,7 @@ unset CDPATH
 top="$(dirname "$(dirname "$(readlink -f "${BASH_SOURCE[0]}")")")"
 passed=0
 failed=0
-room="$(mktemp -d)"
+room="$(mktemp -d)" || exit 1
 trap 'rm -rf "$room"' EXIT
 
 # Counts whether a command succeeds.

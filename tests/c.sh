@@ -27,7 +27,7 @@ fail() {
 
 pass() { passed=$((passed + 1)); }
 
-room="$(mktemp -d)"
+room="$(mktemp -d)" || exit 1
 trap 'rm -rf "$room"' EXIT
 if ! command -v cc > /dev/null; then
     fail 'there is no cc to build c/example.c with'

@@ -4,8 +4,8 @@
 set -uo pipefail
 unset CDPATH
 top="$(dirname "$(dirname "$(readlink -f "${BASH_SOURCE[0]}")")")"
-kit="$(dirname "$(rt doc)")"
-room="$(mktemp -d)"
+kit="$(dirname "$(rt doc | head -n 1)")"
+room="$(mktemp -d)" || exit 1
 trap 'rm -rf "$room"' EXIT
 
 # What a crate's line in crates.txt names.

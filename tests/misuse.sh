@@ -8,7 +8,7 @@ unset CDPATH
 here="$(dirname "$(readlink -f "${BASH_SOURCE[0]}")")"
 passed=0
 failed=0
-room="$(mktemp -d)"
+room="$(mktemp -d)" || exit 1
 trap 'rm -rf "$room"' EXIT
 
 fail() {

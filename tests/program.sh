@@ -16,7 +16,7 @@ passed=0
 failed=0
 
 # In a folder of its own, where each run leaves the files `wrote` and `said`, and `rest` where it leaves input.
-room="$(mktemp -d)"
+room="$(mktemp -d)" || exit 1
 trap 'rm -rf "$room"' EXIT
 cd "$room" || exit 1
 : > nothing

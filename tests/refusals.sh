@@ -31,7 +31,7 @@ fail() {
 }
 
 # In a folder of its own, where each run leaves the files `wrote`, `said` and `counts`.
-room="$(mktemp -d)"
+room="$(mktemp -d)" || exit 1
 trap 'rm -rf "$room"' EXIT
 if ! command -v cc > /dev/null; then
     fail 'there is no cc to make a library of tests/shim.c with'

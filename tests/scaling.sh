@@ -25,7 +25,7 @@ if ! command -v valgrind > /dev/null; then
     echo '0 passed, 0 failed'
     exit 0
 fi
-room="$(mktemp -d)"
+room="$(mktemp -d)" || exit 1
 trap 'rm -rf "$room"' EXIT
 
 # The call, the set that it is made on, n, and how many instructions a turn may take at 16 n: so many times those at n, and
