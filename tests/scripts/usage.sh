@@ -23,6 +23,17 @@ for words in --cpu '--cpu x86-64-v4' '--cpu x86-64-v3 --wrong' '--cpu=x86-64-v3'
 done
 expect 'bench/run makes a folder for wrong words' [ ! -e "$room/bench" ]
 
+# A relative folder is below the current one, whatever CDPATH says. Nothing can be had here, so it ends before it builds.
+mkdir -p "$room/elsewhere/kept" "$room/none_to_get"
+for command in rustc apt-get; do
+    ln -s "$(type -P false)" "$room/none_to_get/$command"
+done
+ended=0
+(cd "$room" && CDPATH="$room/elsewhere" PATH="$room/none_to_get:$PATH" "$top/bench/run" kept work) \
+    > "$room/wrote" 2> "$room/said" < /dev/null || ended=$?
+expect "bench/run without packages ends with $ended" ends_with 2
+expect 'bench/run works in another folder by CDPATH' [ -d "$room/kept/x86-64-v2" ]
+
 # An empty repository beside that from which libraries are copied.
 from="$room/from"
 mkdir -p "$from" "$room/theirs/crates"
@@ -41,3 +52,6 @@ expect 'add writes a line of crates.txt twice' [ "$(grep -c '^bit_set:' crates.t
 expect 'add does not say how a library is proved' grep -qF "(cd \"$from/crates/bit_set\" && rt lib)" "$room/wrote"
 expect 'add fails a second time' "$from/add"
 cd "$top" || exit 1
+
+# Without a folder for temporary files a script would work at the root of the file system.
+expect 'a test goes on without a temporary folder' not grep -rq 'mktemp -d)"$' "$top/tests" --include='*.sh'
