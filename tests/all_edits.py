@@ -30,11 +30,13 @@ def read_rows(path):
 
 
 def write_rows(path, rows, listed):
-    """Writes the rows of the edits that are listed, in the order of the list."""
-    with path.open("w") as file:
+    """Writes the rows of the edits that are listed, in the order of the list. What ends it leaves the old rows."""
+    new = path.with_suffix(".new")
+    with new.open("w") as file:
         out = csv.DictWriter(file, COLUMNS, lineterminator="\n")
         out.writeheader()
         out.writerows(rows[it] for it in listed if it in rows)
+    new.replace(path)
 
 
 def git(root, *words):
@@ -76,6 +78,9 @@ def main():
     listed = [f"{name}/{edit.stem}" for name, edits in all_edits.items() for edit in edits]
     rows = read_rows(path)
     asked = [it for it in words if it != "--anew"] or list(crates)
+    if unknown := [it for it in asked if it not in crates and it not in listed]:
+        print(f"all_edits: no crate and no CRATE/EDIT of tests/edits.txt: {' '.join(unknown)}", file=sys.stderr)
+        return 2
     asked = [it for it in listed if it in asked or it.partition("/")[0] in asked]
 
     def at_row(row, shown):

@@ -221,7 +221,7 @@ fi
 
 if command -v python3 > /dev/null; then
     # Each public call of BitSet and BitMatrix has one for C, and this one in the packages, or a reason why it has none.
-    if python3 -B "$here/c_surface.py" "$top" > said 2>&1; then
+    if PYTHONUTF8=1 python3 -B "$here/c_surface.py" "$top" > said 2>&1; then
         pass
     else
         cat said

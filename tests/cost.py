@@ -66,6 +66,9 @@ def main():
     root, with_edits = Path(sys.argv[1]), "--edits" in words
     crates = crates_of(root)
     names = [it for it in words if it != "--edits"] or list(crates)
+    if unknown := [it for it in names if it not in crates]:
+        print(f"cost: crates.txt has no crate {' '.join(unknown)}", file=sys.stderr)
+        return 2
     print(f"{'processor seconds of':26}{'proof':>9}{'tests':>9}{'edits':>9}{'of':>6}")
     found = [cost_of(root, crates, name, with_edits) for name in names]
     for title, rows in (("functions", 2), ("edits", 3)):

@@ -121,6 +121,9 @@ def try_gate(root, crates, crate):
 
 def main():
     root = Path(sys.argv[1])
+    if len(sys.argv) < 3:
+        print("usage: tests/edits.sh CRATE..", file=sys.stderr)
+        return 2
     crates = crates_of(root)
     found = [it for crate in sys.argv[2:] for it in try_gate(root, crates, crate)]
     print(f"{sum(found)} passed, {len(found) - sum(found)} failed")

@@ -4,4 +4,6 @@
 set -euo pipefail
 unset CDPATH
 here="$(dirname "$(readlink -f "${BASH_SOURCE[0]}")")"
+# Whatever the locale, texts are UTF-8.
+export PYTHONUTF8=1
 exec python3 -B "$here/edits.py" "$(dirname "$here")" "$@"

@@ -1,7 +1,7 @@
 # What scripts say of how they are called, and what `add` does with what is in its way. To be sourced by tests/scripts.sh.
 # shellcheck shell=bash disable=SC2154
 
-for script in add gate look c/build release diff/run bench/run; do
+for script in add gate look c/build c/clients release diff/run bench/run; do
     ended=0
     env -u HOME PATH=/usr/bin:/bin "$top/$script" --help > "$room/wrote" 2> "$room/said" < /dev/null || ended=$?
     expect "$script --help ends with $ended" ends_with 0
@@ -22,6 +22,23 @@ for words in --cpu '--cpu x86-64-v4' '--cpu x86-64-v3 --wrong' '--cpu=x86-64-v3'
     expect "bench/run $words says no usage" says 'usage: '
 done
 expect 'bench/run makes a folder for wrong words' [ ! -e "$room/bench" ]
+
+# Names of nothing, files that are not there, and a locale of another encoding.
+for words in edits.sh 'all_edits.sh bit_set/none' 'cost.sh none'; do
+    ended=0
+    # shellcheck disable=SC2086  # each word is one
+    "$top/tests/"$words > "$room/wrote" 2> "$room/said" < /dev/null || ended=$?
+    expect "tests/$words ends with $ended" ends_with 2
+done
+for words in tables "tables $room/none" offsets; do
+    ended=0
+    # shellcheck disable=SC2086  # each word is one
+    "$top/bench/"$words > "$room/wrote" 2> "$room/said" < /dev/null || ended=$?
+    expect "bench/$words ends with 0" not ends_with 0
+    expect "bench/$words says where in its text it ended" not says Traceback
+done
+LC_ALL=C PYTHONUTF8=0 PYTHONCOERCECLOCALE=0 "$top/tests/docs.sh" > "$room/wrote" 2> "$room/said" < /dev/null
+expect 'tests/docs.sh cannot read where the locale has another encoding' not says UnicodeDecodeError
 
 # A relative folder is below the current one, whatever CDPATH says. Nothing can be had here, so it ends before it builds.
 mkdir -p "$room/elsewhere/kept" "$room/none_to_get"
