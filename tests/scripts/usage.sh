@@ -68,6 +68,29 @@ expect 'add changes how lines of crates.txt end' [ "$(grep -c $'\r$' crates.txt)
 expect 'add writes a line of crates.txt twice' [ "$(grep -c '^bit_set:' crates.txt)" -eq 1 ]
 expect 'add does not say how a library is proved' grep -qF "(cd \"$from/crates/bit_set\" && rt lib)" "$room/wrote"
 expect 'add fails a second time' "$from/add"
+
+# A signal where a copy takes the place of an older one, and no copy is there.
+mkdir "$room/slow"
+cat > "$room/slow/mv" << 'MOVES'
+#!/bin/sh
+command -p mv "$@"
+case "$*" in *.old) touch "$STAND_INS/moved" && sleep 1 ;; esac
+MOVES
+chmod +x "$room/slow/mv"
+mkdir -p crates/bit_set/out/incremental
+echo older > crates/bit_set/README.md
+(cd crates/bit_set && find . -path ./out -prune -o -type f ! -name COPIED -print0 | LC_ALL=C sort -z | xargs -0 sha256sum) \
+    > "$room/sums"
+cp "$room/sums" crates/bit_set/COPIED
+start_group env --default-signal=TERM PATH="$room/slow:$PATH" "$from/add" > "$room/wrote" 2> "$room/said" < /dev/null
+run=$!
+expect 'add does not begin to exchange copies' wait_until [ -e "$STAND_INS/moved" ]
+kill -s TERM "$run"
+finish "$run"
+expect "add by SIGTERM ends with $ended" ends_with 143
+expect 'add by SIGTERM leaves neither copy' [ -f crates/bit_set/COPIED ]
+expect 'add by SIGTERM takes away what rt kept' [ -d crates/bit_set/out/incremental ]
+expect 'add fails after a signal' "$from/add"
 cd "$top" || exit 1
 
 # Without a folder for temporary files a script would work at the root of the file system.
