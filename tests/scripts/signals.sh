@@ -49,6 +49,19 @@ for signal in HUP INT QUIT TERM; do
     ended_by_signal 'c/build --proved' "$signal" 'bit_set_c$' "$library/c/build" "$room/built" --proved
 done
 
+# A disk that is full, or is only to be read: what is there stays.
+if [ "$(id -u)" -eq 0 ] && mkdir "$room/disk" && mount -t tmpfs -o size=32k none "$room/disk" 2> /dev/null; then
+    echo older > "$room/disk/libbit_set.a"
+    expect 'c/build succeeds on a full disk' not "$library/c/build" "$room/disk" --proved
+    expect 'c/build takes away what is on a full disk' [ "$(cat "$room/disk"/*)" = older ]
+    expect 'c/build leaves something on a full disk' [ "$(ls -A "$room/disk")" = libbit_set.a ]
+    mount -o remount,ro "$room/disk"
+    forget_calls
+    expect 'c/build succeeds on a disk that is only to be read' not "$library/c/build" "$room/disk" --proved
+    expect 'c/build proves what it cannot write' not is_called 'bit_set_c$'
+    umount "$room/disk"
+fi
+
 # The tests of edits, over libraries that are only named here.
 cp -r "$top"/tests/{edits,{edits,gate_edits}.txt,{edits,copies}.py,edits.sh} "$library/tests"
 for name in $(sed -n 's/^\([a-z_]*\):.*/\1/p' "$library/crates.txt"); do
