@@ -199,7 +199,8 @@ build_croaring() {
     fi
     local root
     root="$(echo "$folder"/sources/CRoaring-*)"
-    quietly cc -O3 "-march=$cpu" -DNDEBUG -std=c11 -D_GNU_SOURCE -fPIC -shared "-I$root/include" "$root"/src/*.c "$root"/src/containers/*.c -o "$croaring_built"
+    quietly cc -O3 "-march=$cpu" -DNDEBUG -std=c11 -D_GNU_SOURCE -fPIC -shared "-I$root/include" "$root"/src/*.c "$root"/src/containers/*.c -o "$croaring_built.new"
+    mv "$croaring_built.new" "$croaring_built"
 }
 
 # LLVM's sparse bit vectors, by C names: headers alone, of Debian's package.

@@ -18,7 +18,7 @@ look_at_folder() {
 no_change() {
     local but=()
     [[ "$released" != "$top"/* ]] || but=(":(exclude,literal)${released#"$top"/}")
-    [ -z "$(git status --porcelain -- . "${but[@]}")" ]
+    [ -z "$(git status --porcelain --untracked-files=normal -- . "${but[@]}")" ]
 }
 
 # Writes what was made into the folder, at once: no signal ends it in between.
