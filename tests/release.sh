@@ -17,6 +17,10 @@ if [ $# -lt 1 ] || [ $# -gt 2 ] || [[ "$1" = -* ]]; then
     echo 'usage: tests/release.sh FOLDER [ROOTS]' >&2
     exit 2
 fi
+if [ ! -f "$1/SHA256SUMS" ]; then
+    echo "tests/release.sh: ./release wrote nothing into $1" >&2
+    exit 2
+fi
 release="$(readlink -f "$1")"
 mkdir -p "${2:-${XDG_CACHE_HOME:-$HOME/.cache}/bit_set_roots}"
 roots="$(readlink -f "${2:-${XDG_CACHE_HOME:-$HOME/.cache}/bit_set_roots}")"
