@@ -1,13 +1,14 @@
 # What scripts say of how they are called, and what `add` does with what is in its way. To be sourced by tests/scripts.sh.
 # shellcheck shell=bash disable=SC2154
 
-for script in add gate look c/build c/clients release diff/run bench/run; do
+for script in add bitset gate look c/build c/clients release diff/run bench/run; do
     ended=0
     env -u HOME PATH=/usr/bin:/bin "$top/$script" --help > "$room/wrote" 2> "$room/said" < /dev/null || ended=$?
     expect "$script --help ends with $ended" ends_with 0
     expect "$script --help writes no usage" grep -q '^usage: ' "$room/wrote"
     expect "$script --help writes to standard error" [ ! -s "$room/said" ]
-    [ "$script" != look ] || continue
+    # These hand their words on to the program.
+    [[ "$script" != @(look|bitset) ]] || continue
     ended=0
     (cd "$room" && "$top/$script" --wrong --words) > "$room/wrote" 2> "$room/said" < /dev/null || ended=$?
     expect "$script with wrong words ends with $ended" ends_with 2
