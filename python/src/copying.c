@@ -27,8 +27,10 @@ static bool put_slots(PyObject *made, PyObject *slots)
     bool is_good = items;
     for (Py_ssize_t at = 0; is_good && at < PyList_Size(items); at++) {
         PyObject *item = PyList_GetItem(items, at);
-        is_good = PyTuple_Check(item) && PyTuple_Size(item) == 2
-            && !PyObject_SetAttr(made, PyTuple_GetItem(item, 0), PyTuple_GetItem(item, 1));
+        bool is_pair = PyTuple_Check(item) && PyTuple_Size(item) == 2;
+        if (!is_pair)
+            PyErr_SetString(PyExc_TypeError, "an attribute of a state is a pair of its name and what it is");
+        is_good = is_pair && !PyObject_SetAttr(made, PyTuple_GetItem(item, 0), PyTuple_GetItem(item, 1));
     }
     Py_XDECREF(items);
     return is_good;

@@ -279,7 +279,10 @@ PyObject *set_discard(PyObject *self, PyObject *member)
 PyObject *set_remove(PyObject *self, PyObject *member)
 {
     enum reading done = take_out(self, member);
-    if (done == NO_NUMBER)
-        PyErr_SetObject(PyExc_KeyError, member);
+    /* A tuple by itself would be all arguments of the exception. */
+    PyObject *arguments = done == NO_NUMBER ? PyTuple_Pack(1, member) : NULL;
+    if (arguments)
+        PyErr_SetObject(PyExc_KeyError, arguments);
+    Py_XDECREF(arguments);
     return done == NUMBER ? none_if(true) : NULL;
 }
