@@ -1,7 +1,7 @@
 # What scripts say of how they are called, and what `add` does with what is in its way. To be sourced by tests/scripts.sh.
 # shellcheck shell=bash disable=SC2154
 
-for script in add bitset gate look c/build c/clients release diff/run bench/run; do
+for script in add bitset gate look c/build c/clients python/build release diff/run bench/run; do
     ended=0
     env -u HOME PATH=/usr/bin:/bin "$top/$script" --help > "$room/wrote" 2> "$room/said" < /dev/null || ended=$?
     expect "$script --help ends with $ended" ends_with 0
