@@ -47,7 +47,7 @@ try_cmake() {
     cp -r "$source" "$at/part/bit set"
     cp "$source/examples/example.c" "$at/found/main.c"
     cp "$source/examples/example.c" "$at/part/main.c"
-    printf '%s\n' "$lines" 'find_package(bit_set REQUIRED)' 'target_link_libraries(use bit_set::bit_set)' \
+    printf '%s\n' "$lines" "find_package(bit_set ${version%.*} REQUIRED)" 'target_link_libraries(use bit_set::bit_set)' \
         > "$at/found/CMakeLists.txt"
     printf '%s\n' "$lines" 'add_subdirectory("bit set")' 'target_link_libraries(use bit_set::bit_set)' \
         > "$at/part/CMakeLists.txt"
