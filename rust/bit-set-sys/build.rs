@@ -16,10 +16,23 @@ fn main() {
     let folder = env::var("BIT_SET_LIBRARY_DIR")
         .ok()
         .or_else(own_library)
-        .expect("BIT_SET_LIBRARY_DIR is not set: it names the folder into which c/build wrote libbit_set.a");
+        .unwrap_or_else(|| panic!("{}", missing_library()));
+    // One that does not begin at the root is below the folder of the program, which is not known here.
+    if Path::new(&folder).is_absolute() && !Path::new(&folder).join("libbit_set.a").is_file() {
+        panic!("there is no libbit_set.a in {folder}, which BIT_SET_LIBRARY_DIR names");
+    }
     println!("cargo:rerun-if-changed={folder}/libbit_set.a");
     println!("cargo:rustc-link-search=native={folder}");
     println!("cargo:rustc-link-lib=static=bit_set");
+}
+
+/// What to do where there is no library.
+fn missing_library() -> String {
+    let target = env::var("TARGET").unwrap_or_default();
+    format!(
+        "this package has no library for {target}: set BIT_SET_LIBRARY_DIR to a folder with \
+         libbit_set.a, as c/build or the source release's make writes it"
+    )
 }
 
 /// The folder in this package with the library for what Cargo builds for, if there is one.
