@@ -82,3 +82,9 @@ expect "look with a full output ends with $ended" ends_with 4
 expect 'look does not say that it cannot write' says 'write failed'
 look < /dev/null >&-
 expect "look with a closed output ends with $ended" ends_with 4
+if [ "$(id -u)" -eq 0 ] && mkdir "$room/temporary_disk" && mount -t tmpfs -o size=64k none "$room/temporary_disk" 2> /dev/null; then
+    head -c 200000 /dev/zero | TMPDIR="$room/temporary_disk" look > "$room/wrote"
+    expect 'look does not say that the disk of its temporary files is full' says 'nothing more can be written'
+    expect 'look leaves something on a full disk' is_empty "$room/temporary_disk"
+    umount "$room/temporary_disk"
+fi
