@@ -130,3 +130,20 @@ for signal in HUP INT QUIT TERM; do
     CI='' ended_by_signal gate "$signal" 'ci$' "$library/gate"
     CI='' ended_by_signal tests/ahead.sh "$signal" 'ci graph_walks' "$library/tests/ahead.sh"
 done
+
+# Two runs in one checkout: the second waits.
+forget_calls
+take_seconds 30
+begun=()
+for run in first second; do
+    start_group env CI='' "$library/gate" < /dev/null > "$room/wrote" 2> "$room/$run"
+    begun+=("$!")
+    [ "$run" != first ] || expect 'gate does not begin' wait_until is_called 'ci$'
+done
+expect 'a second gate does not wait' wait_until grep -q 'another run' "$room/second"
+kill -s TERM "${begun[@]}"
+for run in "${begun[@]}"; do
+    finish "$run"
+    expect "a gate beside another ended with $ended" ends_with 143
+done
+take_seconds 0.1
