@@ -94,7 +94,7 @@ printf '%s\n' 'low:' 'mid: low' 'bitset: mid' > "$repository/crates.txt"
 expect_marks 'with crates.txt as it was' 6 7 1
 
 # With sources that are older than the run nothing but their times is looked at.
-sleep 2.1
+sleep 3.1
 expect_marks 'with older sources' 6 7 1
 forget_calls
 expect_marks 'with older sources, once more' 6 7 1
