@@ -23,6 +23,13 @@ for words in --cpu '--cpu x86-64-v4' '--cpu x86-64-v3 --wrong' '--cpu=x86-64-v3'
     expect "bench/run $words says no usage" says 'usage: '
 done
 expect 'bench/run makes a folder for wrong words' [ ! -e "$room/bench" ]
+for words in '' roaring; do
+    ended=0
+    # shellcheck disable=SC2086  # a word or none
+    "$top/diff/run" $words --script "$room/none" > "$room/wrote" 2> "$room/said" < /dev/null || ended=$?
+    expect "diff/run $words with no script ends with $ended" ends_with 2
+    expect "diff/run $words does not say that there is no script" says "$room/none cannot be read"
+done
 
 # Names of nothing, files that are not there, and a locale of another encoding.
 for words in edits.sh 'all_edits.sh bit_set/none' 'cost.sh none'; do
