@@ -7,6 +7,10 @@ unset CDPATH
 top="$(dirname "$(dirname "$(readlink -f "${BASH_SOURCE[0]}")")")"
 passed=0
 failed=0
+case "$*" in
+    '' | --prove) ;;
+    *) echo 'usage: tests/add.sh [--prove]' >&2 && exit 2 ;;
+esac
 room="$(mktemp -d)" || exit 1
 trap 'rm -rf "$room"' EXIT
 

@@ -13,6 +13,10 @@ here="$(dirname "$(readlink -f "${BASH_SOURCE[0]}")")"
 top="$(dirname "$here")"
 passed=0
 failed=0
+if [ $# -gt 1 ] || [[ "${1:-}" = -* ]]; then
+    echo 'usage: tests/c.sh [FOLDER]' >&2
+    exit 2
+fi
 
 finish() {
     echo "$passed passed, $failed failed"

@@ -12,6 +12,10 @@ top="$(dirname "$here")"
 . "$top/tools/ending.sh"
 passed=0
 failed=0
+case "$*" in
+    '' | --real) ;;
+    *) echo 'usage: tests/scripts.sh [--real]' >&2 && exit 2 ;;
+esac
 room="$(mktemp -d)" || exit 1
 passing+=("$room")
 
