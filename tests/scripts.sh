@@ -108,15 +108,19 @@ ended_by_signal() {
     take_seconds 0.1
 }
 
-if [ "${1:-}" = --real ]; then
-    # shellcheck source=/dev/null
-    . "$here/scripts/real.sh"
-else
-    set_up_toolchain
-    for part in bitset waiting signals usage; do
+# Bash reads all of this before it begins, so an edit of this script meanwhile is for the next run.
+{
+    if [ "${1:-}" = --real ]; then
         # shellcheck source=/dev/null
-        . "$here/scripts/$part.sh"
-    done
-fi
-echo "$passed passed, $failed failed"
-[ "$failed" -eq 0 ]
+        . "$here/scripts/real.sh"
+    else
+        set_up_toolchain
+        for part in bitset waiting signals usage; do
+            # shellcheck source=/dev/null
+            . "$here/scripts/$part.sh"
+        done
+    fi
+    echo "$passed passed, $failed failed"
+    [ "$failed" -eq 0 ]
+    exit
+}

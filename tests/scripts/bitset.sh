@@ -81,6 +81,14 @@ mark mid 6
 mark low 6
 expect_begun 'with an edit of a crate that is begun, and of one below' 4 5 1
 expect_marks 'after an edit of a crate that was begun, and of one below' 6 6 1
+# In place, so that what bash reads next lies elsewhere.
+cp "$repository/bitset" "$room/script"
+mark bitset 2
+begin_until bitset
+sed 2,3d "$room/script" > "$repository/bitset"
+expect_begun 'with an edit of the script' 6 6 2
+cat "$room/script" > "$repository/bitset"
+mark bitset 1
 mkdir -p "$repository/crates/extra/src"
 echo '// mark: new' > "$repository/crates/extra/src/lib.rt"
 mark mid 7
