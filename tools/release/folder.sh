@@ -23,11 +23,14 @@ no_change() {
 
 # Writes what was made into the folder, at once: no signal ends it in between.
 hand_over() {
+    local was_there=''
     trap '' HUP INT QUIT TERM
     look_at_folder "$released"
+    [ ! -d "$released" ] || was_there=yes
     mkdir -p -- "$released"
     cp -p -- "$folder"/* "$released" || {
         (cd "$folder" && printf '%s\0' *) | (cd "$released" && xargs -0 rm -f --)
+        [ -n "$was_there" ] || rmdir -- "$released"
         stop "$released cannot be written"
     }
 }
