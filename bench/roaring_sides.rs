@@ -8,10 +8,11 @@ use std::hint::black_box;
 use std::sync::OnceLock;
 
 /// What is done in each turn, and what its time is divided by, in the order of `crates/roaring_calls/src/timing.rt`.
-pub const CALLS: [(&str, &str); 8] = [
+pub const CALLS: [(&str, &str); 9] = [
     ("`contains`", "number"),
     ("`insert` into an empty set", "item"),
     ("walk", "item"),
+    ("`next_many`, 256 at once", "item"),
     ("union in place", "call"),
     ("intersection in place", "call"),
     ("`intersection_len`", "call"),
@@ -72,14 +73,15 @@ fn run_croaring(calls: &'static Calls, work: usize, input: &Input, turns: usize)
     match work {
         0 => total(turns, |turn| input.numbers.iter().filter(|number| ones[turn % 2].contains(**number)).count()),
         1 => total(turns, |_| croaring_of(calls, &input.sets[0]).len() as usize),
-        2 => total(turns, |turn| ones[turn % 2].sum()),
-        3 | 4 => {
-            let merge = if work == 3 { Merge::Union } else { Merge::Intersection };
+        2 => total(turns, |turn| ones[turn % 2].sum_one_by_one()),
+        3 => total(turns, |turn| ones[turn % 2].sum()),
+        4 | 5 => {
+            let merge = if work == 4 { Merge::Union } else { Merge::Intersection };
             (0..turns).for_each(|turn| ones[turn % 2].merge(merge, &other));
             ones[0].len() as usize
         }
-        5 => total(turns, |turn| ones[turn % 2].merged_len(Merge::Intersection, &other) as usize),
-        6 => total(turns, |turn| ones[turn % 2].bytes().len()),
+        6 => total(turns, |turn| ones[turn % 2].merged_len(Merge::Intersection, &other) as usize),
+        7 => total(turns, |turn| ones[turn % 2].bytes().len()),
         _ => {
             let bytes = ones[0].bytes();
             total(turns, |_| Set::of_bytes(calls, &bytes).map_or(0, |(set, _)| set.len() as usize))
@@ -100,12 +102,12 @@ fn run_tree(work: usize, input: &Input, turns: usize) -> usize {
     match work {
         0 => total(turns, |turn| input.numbers.iter().filter(|number| ones[turn % 2].contains(*number)).count()),
         1 => total(turns, |_| tree(&input.sets[0]).len()),
-        2 => total(turns, |turn| sum(ones[turn % 2].iter().map(|number| *number as usize))),
-        3 => {
+        2 | 3 => total(turns, |turn| sum(ones[turn % 2].iter().map(|number| *number as usize))),
+        4 => {
             (0..turns).for_each(|turn| ones[turn % 2].extend(&other));
             ones[0].len()
         }
-        4 => {
+        5 => {
             (0..turns).for_each(|turn| ones[turn % 2].retain(|number| other.contains(number)));
             ones[0].len()
         }
@@ -120,7 +122,7 @@ pub fn sides_of<'a>(work: usize, input: &'a Input) -> [Option<BoxedSide<'a>>; 5]
         Some(Box::new(move |_, turns| run_croaring(calls, work, input, turns)))
     };
     let bits = bits::side_of(work, input);
-    let tree: Option<BoxedSide<'a>> = if work < 6 { Some(Box::new(move |_, turns| run_tree(work, input, turns))) } else { None };
+    let tree: Option<BoxedSide<'a>> = if work < 7 { Some(Box::new(move |_, turns| run_tree(work, input, turns))) } else { None };
     [Some(Box::new(move |_, turns| run_here(work, input, turns))), build(0), build(1), bits, tree]
 }
 
@@ -156,7 +158,7 @@ mod bits {
 
     /// The number of the work in `crates/bench_calls/src/sparse.rt`, for those that are there.
     fn sparse_work(work: usize) -> Option<usize> {
-        [None, None, Some(9), Some(0), Some(1), Some(4)].get(work).copied().flatten()
+        [None, None, Some(9), Some(9), Some(0), Some(1), Some(4)].get(work).copied().flatten()
     }
 
     pub fn side_of<'a>(work: usize, input: &'a Input) -> Option<BoxedSide<'a>> {

@@ -1,7 +1,7 @@
 //! Wrong calls of CRoaring's side, for the self test: each is to be seen.
 use crate::calls::{Call, Line};
 use crate::croaring::Set;
-use crate::sides::digest_of_walk;
+use crate::sides::{digest_of, digest_of_walk};
 use crate::walks::{digest_of_steps, numbers_between};
 
 /// What a wrong call gets wrong, of its set after the call, beside the second one, and of what was returned.
@@ -24,7 +24,7 @@ fn past_container(set: &Set) -> Option<u32> {
     set.numbers().into_iter().find(|number| number / 65_536 != key)
 }
 
-pub static BENDS: [Bend; 14] = [
+pub static BENDS: [Bend; 15] = [
     Bend {
         name: "insert returns true for the first number of a container, in or not",
         call: Call::Insert,
@@ -123,6 +123,17 @@ pub static BENDS: [Bend; 14] = [
         turn: |line, set, _, returned| {
             let members = numbers_between(set, line.first, line.second.saturating_add(1));
             *returned = digest_of_steps(set, &members, line);
+        },
+    },
+    Bend {
+        name: "next_many stops at the end of a container",
+        call: Call::NextMany,
+        turn: |line, set, _, returned| {
+            let mut kept = set.clone();
+            if let Some(past) = past_container(set) {
+                kept.remove_range(past as u64, 1 << 32);
+            }
+            *returned = digest_of(0, kept.reads(line.first, line.count).into_iter());
         },
     },
     Bend {

@@ -64,6 +64,7 @@ calls! {
     Walk "walk" "snc"
     Range "range" "snmc"
     ToBitSet "to_bit_set" "snc"
+    NextMany "next_many" "snc"
 }
 
 impl Call {

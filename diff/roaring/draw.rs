@@ -109,6 +109,10 @@ impl Draw {
                 self.range(line, set);
                 line.count = self.steps();
             }
+            Call::NextMany => {
+                line.first = self.random.of(&[0, 1, 7, 64, 255, 256]);
+                line.count = self.steps();
+            }
             Call::Select => line.first = self.random.below(set.len() as usize + 3),
             Call::Iter => {
                 let steps = [self.random.below(7), self.random.below(set.len() as usize + 3)];

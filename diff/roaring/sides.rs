@@ -223,6 +223,7 @@ impl<'a> Peer<'a> {
             Call::Iter => digest_of_walk(&set.numbers(), line.count),
             Call::Walk => digest_of_steps(set, &set.numbers(), line),
             Call::Range => digest_of_steps(set, &numbers_between(set, line.first, line.second), line),
+            Call::NextMany => digest_of(0, set.reads(line.first, line.count).into_iter()),
             Call::ToBitSet => {
                 let below = numbers_between(set, 0, line.first);
                 digest_of_walk(&below, below.len())
