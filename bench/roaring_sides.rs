@@ -12,7 +12,7 @@ pub const CALLS: [(&str, &str); 9] = [
     ("`contains`", "number"),
     ("`insert` into an empty set", "item"),
     ("walk", "item"),
-    ("`next_many`, 256 at once", "item"),
+    ("`next_many` of 256", "item"),
     ("union in place", "call"),
     ("intersection in place", "call"),
     ("`intersection_len`", "call"),
