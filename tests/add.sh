@@ -4,6 +4,8 @@
 # The last line is 'N passed, M failed'.
 set -uo pipefail
 unset CDPATH
+# A hook of git names its own repository to what it runs, whatever folder that works in.
+unset GIT_DIR GIT_WORK_TREE GIT_INDEX_FILE GIT_OBJECT_DIRECTORY GIT_COMMON_DIR
 top="$(dirname "$(dirname "$(readlink -f "${BASH_SOURCE[0]}")")")"
 passed=0
 failed=0

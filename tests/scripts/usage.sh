@@ -103,3 +103,8 @@ cd "$top" || exit 1
 
 # Without a folder for temporary files a script would work at the root of the file system.
 expect 'a test goes on without a temporary folder' not grep -rq 'mktemp -d)"$' "$top/tests" --include='*.sh'
+
+# A hook of git says to all that it runs which repository is its own, and that one is not to be changed.
+for script in gate release tests/scripts.sh tests/add.sh; do
+    expect "$script works in the repository whose hook runs it" grep -q '^unset GIT_DIR ' "$top/$script"
+done
