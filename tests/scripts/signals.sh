@@ -94,7 +94,11 @@ for command in python3 dpkg-deb strip objdump aarch64-linux-gnu-{gcc,ar,strip}; 
 done
 cp -r "$top/release" "$library"
 cp -r "$top/tools/release" "$library/tools"
-in_library() { git -C "$library" -c user.name=stand_in -c user.email=stand_in@example.com "$@" > /dev/null; }
+# Who runs this may have git sign each commit, or run hooks.
+in_library() {
+    GIT_CONFIG_GLOBAL=/dev/null GIT_CONFIG_NOSYSTEM=1 \
+        git -C "$library" -c user.name=stand_in -c user.email=stand_in@example.com "$@" > /dev/null
+}
 release() {
     ended=0
     env PATH="${1:-$others:$PATH}" "$library/release" "$room/released" < /dev/null > "$room/wrote" 2> "$room/said" \
@@ -118,7 +122,7 @@ release
 expect "release of what is not committed ended with $ended" ends_with 1
 expect 'release does not say what is not committed' says 'not committed'
 expect 'release makes a folder where it fails' [ ! -e "$room/released" ]
-in_library checkout c/build
+in_library checkout -q c/build
 
 # All that the gate runs beside `rt ci` here is what runs ahead of it, since it too has folders of its own.
 for test in docs add misuse first_run edits c program refusals scripts; do
