@@ -33,7 +33,10 @@ start_group() {
 # which that leaves where it is ended. rt runs tests and programs as nobody, who has to get there.
 make_room() {
     hold_signals
-    room="$(trap '' HUP INT QUIT TERM && mktemp -d)" && passing+=("$room")
+    room="$(trap '' HUP INT QUIT TERM && mktemp -d)"
+    # TMPDIR may be relative to the current folder, which will be another one.
+    [[ "$room" != [!/]* ]] || room="$PWD/$room"
+    [ -z "$room" ] || passing+=("$room")
     heed_signals
     [ -n "$room" ] || return
     export TMPDIR="$room/temporary"

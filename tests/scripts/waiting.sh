@@ -64,6 +64,12 @@ expect "look ends with $ended" ends_with 0
 expect 'look gives the program other words or another input' wrote $'tried: try -- u8\ncount a'
 expect 'look shows what rt says of a program that ended' not says 'run=ended'
 expect 'look does not show what the program says' says 'program: said'
+mkdir "$room/relative"
+cd "$room" || exit 1
+TMPDIR=relative look u8 <<< 'count a' > "$room/wrote"
+expect "look with a relative folder for temporary files ends with $ended" ends_with 0
+expect 'look leaves something in a relative folder' is_empty "$room/relative"
+cd "$top" || exit 1
 STAND_IN_STATUS=3 look < /dev/null > "$room/wrote"
 expect "look of a program that ends with 3 ends with $ended" ends_with 3
 for input in "$room" '&-'; do
