@@ -108,3 +108,10 @@ expect 'a test goes on without a temporary folder' not grep -rq 'mktemp -d)"$' "
 for script in gate release tests/scripts.sh tests/add.sh; do
     expect "$script works in the repository whose hook runs it" grep -q '^unset GIT_DIR ' "$top/$script"
 done
+
+# Where the library is installed may have a space, which pkg-config would take for the end of a word.
+cp -r "$top/c/source" "$room/source"
+make -s -C "$room/source" PREFIX='/opt/a b' PROCESSOR=none build/none/bit_set.pc > "$room/wrote" 2>&1 < /dev/null
+for name in prefix= libdir= includedir=; do
+    expect "bit_set.pc has a space of a path as it is in $name" grep -q "^$name/opt/a\\\\ b" "$room/source/build/none/bit_set.pc"
+done
