@@ -43,6 +43,8 @@ for file in libbit_set.a libbit_set.so bit_set.h bit_set32.h bit_set.pc; do
     expect "c/build makes no $file" [ -s "$room/built/$file" ]
 done
 expect 'c/build --proved fails' "$library/c/build" "$room/built" --proved
+expect 'c/build fails in a make that has another BUILD' env MAKEFLAGS=' -- BUILD=theirs' "$library/c/build" "$room/built" --proved
+expect 'c/build fails where make is to say alone what it would do' env MAKEFLAGS=n "$library/c/build" "$room/built" --proved
 expect 'c/build leaves temporary files' is_empty "$TMPDIR"
 for signal in HUP INT QUIT TERM; do
     ended_by_signal c/build "$signal" 'bit_set_c$' "$library/c/build" "$room/built"
