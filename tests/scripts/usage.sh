@@ -115,3 +115,27 @@ make -s -C "$room/source" PREFIX='/opt/a b' PROCESSOR=none build/none/bit_set.pc
 for name in prefix= libdir= includedir=; do
     expect "bit_set.pc has a space of a path as it is in $name" grep -q "^$name/opt/a\\\\ b" "$room/source/build/none/bit_set.pc"
 done
+
+# A compiler that is called with a word of its own, of which two runs at a time write into one folder.
+mkdir -p "$room/headers" "$room/words"
+touch "$room/headers"/{Python.h,bit_set.h}
+printf '#!/bin/sh\necho "%s/headers"\n' "$room" > "$room/words/python"
+cat > "$room/words/cc" << 'COMPILES'
+#!/bin/sh
+[ "$1" = --theirs ] || exit 1
+for made; do :; done
+sleep 0.5
+echo made > "$made"
+COMPILES
+chmod +x "$room/words"/*
+declare -A run_of=()
+for run in first second; do
+    CC="$room/words/cc --theirs" PYTHON="$room/words/python" start_group "$top/python/build" "$room/headers" "$room/module" \
+        < /dev/null > "$room/$run" 2>&1
+    run_of[$!]="$run"
+done
+for run in "${!run_of[@]}"; do
+    finish "$run"
+    expect "python/build, the ${run_of[$run]} of two, ends with $ended: $(cat "$room/${run_of[$run]}")" ends_with 0
+done
+expect 'python/build leaves a file of its own' [ "$(find "$room/module" -type f | wc -l)" -eq 4 ]
