@@ -15,6 +15,7 @@ fn main() {
     println!("cargo:rerun-if-env-changed=BIT_SET_LIBRARY_DIR");
     let folder = env::var("BIT_SET_LIBRARY_DIR")
         .ok()
+        .filter(|named| !named.is_empty())
         .or_else(own_library)
         .unwrap_or_else(|| panic!("{}", missing_library()));
     // One that does not begin at the root is below the folder of the program, which is not known here.

@@ -139,3 +139,15 @@ for run in "${!run_of[@]}"; do
     expect "python/build, the ${run_of[$run]} of two, ends with $ended: $(cat "$room/${run_of[$run]}")" ends_with 0
 done
 expect 'python/build leaves a file of its own' [ "$(find "$room/module" -type f | wc -l)" -eq 4 ]
+
+# A variable that is empty names no folder: then the package takes the library that it has in it.
+if command -v rustc > /dev/null; then
+    mkdir -p "$room/package/lib/x86-64"
+    touch "$room/package/lib/x86-64/libbit_set.a"
+    expect 'rustc does not build the script of bit-set-sys' \
+        rustc --edition 2021 "$top/rust/bit-set-sys/build.rs" -o "$room/build_script" --crate-name build_script
+    env BIT_SET_LIBRARY_DIR= CARGO_MANIFEST_DIR="$room/package" CARGO_CFG_TARGET_ARCH=x86_64 CARGO_CFG_TARGET_OS=linux \
+        "$room/build_script" > "$room/wrote" 2> "$room/said"
+    expect 'bit-set-sys takes an empty variable for a folder' \
+        grep -qxF "cargo:rustc-link-search=native=$room/package/lib/x86-64" "$room/wrote"
+fi
