@@ -151,3 +151,12 @@ if command -v rustc > /dev/null; then
     expect 'bit-set-sys takes an empty variable for a folder' \
         grep -qxF "cargo:rustc-link-search=native=$room/package/lib/x86-64" "$room/wrote"
 fi
+
+# Whatever git is told of how lines end, a release has them as they were committed.
+library="$room/lines"
+mkdir "$library"
+cp "$top/.gitattributes" "$library"
+printf '%s\n' '#!/bin/sh' : > "$library/script"
+in_library init -q && in_library add . && in_library commit -qm stand_in
+expect 'an archive has other ends of lines where core.autocrlf is true' \
+    cmp "$library/script" <(git -C "$library" -c core.autocrlf=true archive HEAD script | tar xO)
