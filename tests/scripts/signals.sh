@@ -88,6 +88,37 @@ finish "$begun"
 expect "c/build beside another ended with $ended" ends_with 0
 take_seconds 0.1
 
+# What others wrote for sets, which is empty here, with a stand-in for what runs it.
+clients="$room/clients"
+registry="$clients/root/usr/share/cargo/registry"
+for package in bit-set fancy-regex fixedbitset lalrpop petgraph proptest; do
+    mkdir -p "$registry/$package-1.0"/{src,tests/common}
+    touch "$registry/$package-1.0"/{Cargo.toml,src/lib.rs,tests/{captures,finding,matching,replace}.rs}
+done
+mkdir "$room/runs"
+for command in apt-get dpkg-deb python3; do
+    ln -s "$(type -P true)" "$room/runs/$command"
+done
+cat > "$room/runs/cargo" << 'RUNS'
+#!/bin/sh
+echo "cargo $$ $*" >> "$STAND_INS/calls"
+exec sleep "$(cat "$STAND_INS/seconds")"
+RUNS
+chmod +x "$room/runs/cargo"
+for signal in HUP INT QUIT TERM; do
+    ended_by_signal c/clients "$signal" 'test --offline' env PATH="$room/runs:$PATH" "$top/c/clients" "$room/built" "$clients"
+    ended_by_signal 'c/clients speed' "$signal" 'run --offline' \
+        env PATH="$room/runs:$PATH" "$top/c/clients" "$room/built" "$clients" speed
+done
+ended=0
+env PATH="$room/runs:$PATH" "$top/c/clients" "$room/built" "$clients" speed > "$room/wrote" 2> "$room/said" < /dev/null || ended=$?
+expect "c/clients speed ends with $ended: $(cat "$room/said")" ends_with 0
+ln -sf "$(type -P false)" "$room/runs/cargo"
+ended=0
+env PATH="$room/runs:$PATH" "$top/c/clients" "$room/built" "$clients" > "$room/wrote" 2> "$room/said" < /dev/null || ended=$?
+expect "c/clients whose first tests fail ends with $ended" ends_with 1
+expect 'c/clients goes on where tests fail' not says 'all passed'
+
 # A release of that repository, which gets no further than its proofs here, so that what comes then is not needed.
 others="$room/others"
 mkdir "$others"
