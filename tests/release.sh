@@ -22,8 +22,9 @@ if [ ! -f "$1/SHA256SUMS" ]; then
     exit 2
 fi
 release="$(readlink -f "$1")"
-mkdir -p "${2:-${XDG_CACHE_HOME:-$HOME/.cache}/bit_set_roots}"
-roots="$(readlink -f "${2:-${XDG_CACHE_HOME:-$HOME/.cache}/bit_set_roots}")"
+roots="${2:-${XDG_CACHE_HOME:-${HOME:-${TMPDIR:-/tmp}}/.cache}/bit_set_roots}"
+mkdir -p "$roots" || exit 1
+roots="$(readlink -f "$roots")"
 # shellcheck source=../tools/ending.sh
 . "$here/../tools/ending.sh"
 make_room

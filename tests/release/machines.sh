@@ -58,10 +58,12 @@ try_cmake() {
         cmake --build '$at/shared' && (cd '$at/shared' && ctest) && cmake --install '$at/shared' --prefix '$at/put here'
         readelf -nW '$at/shared/libbit_set.so' | grep 'x86 feature: IBT, SHSTK'
         cmake -S '$at/found' -B '$at/found/made' -DCMAKE_PREFIX_PATH='$at/put here' && cmake --build '$at/found/made'
-        '$at/found/made/use' | cmp - '$source/examples/example.out'"
+        '$at/found/made/use' > '$at/wrote'
+        cmp '$at/wrote' '$source/examples/example.out'"
     try 'CMake: a part of another project' bare sh -ec "
         cmake -S '$at/part' -B '$at/part/made' && cmake --build '$at/part/made'
-        '$at/part/made/use' | cmp - '$source/examples/example.out'"
+        '$at/part/made/use' > '$at/wrote'
+        cmp '$at/wrote' '$source/examples/example.out'"
 }
 
 # The same calls on two of the shared objects, one beside the other.
@@ -108,7 +110,8 @@ try_musl() {
     try 'musl: the source release, with random calls' bare make -s -C "$at" CC=musl-gcc check ROUNDS="$rounds"
     try 'musl: a static program' bare sh -ec "
         cd '$at' && musl-gcc -static -Iinclude examples/example.c build/x86-64/libbit_set.a -o alone
-        ./alone | cmp - examples/example.out"
+        ./alone > wrote
+        cmp wrote examples/example.out"
 }
 
 try_arm() {
@@ -138,7 +141,7 @@ try_arm() {
 #   over_library HEADERS LIBRARY
 over_library() {
     bare aarch64-linux-gnu-gcc -I"$1" "$source/examples/example.c" -L"$2" -lbit_set -Wl,-rpath,"$2" -o "$room/example" \
-        && on_arm "$room/example" | cmp - "$source/examples/example.out"
+        && on_arm "$room/example" > "$room/wrote" && cmp "$room/wrote" "$source/examples/example.out"
 }
 
 # Python's own files for aarch64 are unpacked alone, since nothing here runs the scripts that would set them up.

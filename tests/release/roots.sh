@@ -48,11 +48,15 @@ try_packages() {
         [ "$(pkg-config --variable=includedir bit_set)" = /usr/include ]
         cp bit_set-$VERSION/examples/* .
         gcc -std=c99 -Wall -Wextra -Werror example.c $(pkg-config --cflags --libs bit_set) -o shared
-        ./shared | cmp - example.out
-        gcc example.c -l:libbit_set.a -o static && ./static | cmp - example.out'
+        ./shared > wrote
+        cmp wrote example.out
+        gcc example.c -l:libbit_set.a -o static
+        ./static > wrote
+        cmp wrote example.out'
     try "$on: an example in C++ over the package" inside '
         g++ -std=c++17 example.cc $(pkg-config --cflags --libs bit_set) -o shared_cc
-        ./shared_cc | cmp - example.out'
+        ./shared_cc > wrote
+        cmp wrote example.out'
     # The loader says what it takes, which is the newest that the processor has.
     if [ "$1" != 11 ] && grep -q '\bavx2\b' /proc/cpuinfo && grep -q '\bmovbe\b' /proc/cpuinfo; then
         try "$on: the loader takes the object for v3" inside 'ldd ./shared | grep -F x86-64-v3/libbit_set.so'
@@ -110,7 +114,10 @@ try_archive() {
         ! echo > lib/written
 END
         chroot --userspec=65534:65534 --skip-chdir / sh -eu /tmp/use
-        /tmp/example | cmp - examples/example.out && /tmp/alone | cmp - examples/example.out
+        for program in example alone; do
+            /tmp/$program > /tmp/wrote
+            cmp /tmp/wrote examples/example.out
+        done
         ldd /tmp/example | grep -F "$PWD/lib"'
 }
 

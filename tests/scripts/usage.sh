@@ -103,6 +103,8 @@ cd "$top" || exit 1
 
 # Without a folder for temporary files a script would work at the root of the file system.
 expect 'a test goes on without a temporary folder' not grep -rq 'mktemp -d)"$' "$top/tests" --include='*.sh'
+# A pipe ends as its last command does, whatever the program ended with that wrote into it.
+expect 'a test of a release loses how a program ends' not grep -rqE '[^|][|] cmp ' "$top/tests/release"
 
 # A hook of git says to all that it runs which repository is its own, and that one is not to be changed.
 for script in gate release tests/scripts.sh tests/add.sh; do
