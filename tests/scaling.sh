@@ -6,6 +6,8 @@
 # Where there is no valgrind, it says so and counts nothing. The last line is 'N passed, M failed'.
 set -uo pipefail
 unset CDPATH
+# Elsewhere awk may write a fraction with a comma, and then take it for text.
+export LC_ALL=C
 if [ $# -ne 1 ] && [ "$# ${2:-}" != '2 --show' ]; then
     echo 'usage: tests/scaling.sh PROGRAM [--show]' >&2
     exit 2

@@ -7,6 +7,8 @@
 # The last line is 'N passed, M failed'.
 set -uo pipefail
 unset CDPATH
+# What the system's commands say is looked for in English.
+export LC_ALL=C
 # A hook of git names its own repository to what it runs, whatever folder that works in.
 unset GIT_DIR GIT_WORK_TREE GIT_INDEX_FILE GIT_OBJECT_DIRECTORY GIT_COMMON_DIR
 here="$(dirname "$(readlink -f "${BASH_SOURCE[0]}")")"

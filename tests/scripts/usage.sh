@@ -162,3 +162,20 @@ printf '%s\n' '#!/bin/sh' : > "$library/script"
 in_library init -q && in_library add . && in_library commit -qm stand_in
 expect 'an archive has other ends of lines where core.autocrlf is true' \
     cmp "$library/script" <(git -C "$library" -c core.autocrlf=true archive HEAD script | tar xO)
+
+# Where a comma stands before a fraction, rows of scaling are judged as elsewhere. Each takes 5.2 times as much here.
+comma="$(locale -a 2> /dev/null | grep -m 1 '^\(de_DE\|fr_FR\|tr_TR\)\.utf8$')"
+if [ -n "$comma" ]; then
+    mkdir "$room/counts"
+    cat > "$room/counts/valgrind" << 'COUNTS'
+#!/bin/sh
+[ "$6" -ge 1024 ] && [ "$6" != 65536 ] && turn=520 || turn=100
+echo "== Collected : $((turn * $7))" >&2
+COUNTS
+    chmod +x "$room/counts/valgrind"
+    for locale in C "$comma"; do
+        LC_ALL="$locale" PATH="$room/counts:$PATH" "$top/tests/scaling.sh" "$room/none" > "$room/$locale" 2>&1 < /dev/null
+    done
+    expect "tests/scaling.sh judges otherwise under $comma" cmp "$room/C" "$room/$comma"
+    expect 'tests/scaling.sh counts nothing by a stand-in' not grep -q 'nothing was counted' "$room/C"
+fi
