@@ -213,7 +213,7 @@ for by in bit_set bit_set32; do
 done
 
 # The names that are declared are those that are exported.
-sed -n '/^static/d; s/^[a-z].*\(bit_\(set\|matrix\)\(32\)\?_[a-z_]*\)(.*/\1/p' \
+LC_ALL=C sed -n '/^static/d; s/^[a-z].*\(bit_\(set\|matrix\)\(32\)\?_[a-z_]*\)(.*/\1/p' \
     "$library/bit_set.h" "$library/bit_set32.h" | sort > declared
 nm -D --defined-only "$library/libbit_set.so" | sed -n 's/.* T //p' | sort > exported
 if [ -s declared ] && cmp declared exported; then

@@ -113,6 +113,8 @@ assemble() {
 # blocks of other bits than 64 each exported name with these in it.
 #   name_calls BITS < ASSEMBLY
 name_calls() {
+    # In Turkish, i is none of a-z.
+    local -x LC_ALL=C
     local text memory='s/\brattle_\(alloc\|realloc\|dealloc\)\b/bit_set_c_\1/g'
     text="$(sed "$memory; /^\t\.cfi_sections \.debug_frame\$/d" | plain_names)"
     if [ "$1" = 64 ]; then

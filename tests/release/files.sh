@@ -92,7 +92,7 @@ agree_in_places() {
 
 # The calls that the headers declare, a name a line.
 declared() {
-    sed -n '/^static/d; s/^[a-z][a-z0-9_ ]*[ *]\(bit_[a-z0-9_]*\)(.*/\1/p' "$source"/include/*.h | LC_ALL=C sort
+    LC_ALL=C sed -n '/^static/d; s/^[a-z][a-z0-9_ ]*[ *]\(bit_[a-z0-9_]*\)(.*/\1/p' "$source"/include/*.h | LC_ALL=C sort
 }
 
 export_calls() {

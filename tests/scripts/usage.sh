@@ -179,3 +179,14 @@ COUNTS
     expect "tests/scaling.sh judges otherwise under $comma" cmp "$room/C" "$room/$comma"
     expect 'tests/scaling.sh counts nothing by a stand-in' not grep -q 'nothing was counted' "$room/C"
 fi
+
+# In Turkish, i is none of a-z. The calls over blocks of 32 bits have names of their own there too.
+if locale -a 2> /dev/null | grep -qx 'tr_TR\.utf8'; then
+    printf '\t.globl\t%s\n' bit_set_insert bit_matrix_fill_row | LC_ALL=tr_TR.utf8 bash -c '
+        . "$1/tools/c_library.sh"
+        name_calls 32' bash "$top" > "$room/wrote" 2> "$room/said"
+    expect 'c/build leaves calls under other names in Turkish' wrote $'\t.globl\tbit_set32_insert\n\t.globl\tbit_matrix32_fill_row'
+    mkdir "$room/theirs/crates/.add.iiiiii"
+    (cd "$room/theirs" && LC_ALL=tr_TR.utf8 "$from/add") > "$room/wrote" 2> "$room/said"
+    expect 'add leaves what an earlier run left in Turkish' [ ! -e "$room/theirs/crates/.add.iiiiii" ]
+fi
