@@ -58,7 +58,7 @@ make_toolchain() {
         echo 'typedef int nothing;' > "$folder/notes.c"
         "$kit/toolchain/bin/clang" --target="$target" -fcf-protection=full -emit-llvm -c "$folder/notes.c" \
             -o "$folder/notes.bc"
-        notes="-Xclang -mlink-bitcode-file -Xclang '$folder/notes.bc'"
+        notes="-Xclang -mlink-bitcode-file -Xclang ${folder@Q}/notes.bc"
     fi
     cat > "$folder/bin/clang" << END
 #!/usr/bin/env bash
@@ -66,12 +66,12 @@ words=()
 for word in "\$@"; do
     case "\$word" in
         -c) word=-S ;;
-        *.o) word='$folder/assembly' ;;
+        *.o) word=${folder@Q}/assembly ;;
     esac
     words+=("\$word")
 done
-"$kit/toolchain/bin/clang" "\${words[@]}" -fno-addrsig -fforce-dwarf-frame $notes || exit
-exec "$kit/toolchain/bin/clang" "\$@"
+${kit@Q}/toolchain/bin/clang "\${words[@]}" -fno-addrsig -fforce-dwarf-frame $notes || exit
+exec ${kit@Q}/toolchain/bin/clang "\$@"
 END
     chmod +x "$folder/bin/clang"
 }

@@ -45,6 +45,8 @@ done
 expect 'c/build --proved fails' "$library/c/build" "$room/built" --proved
 expect 'c/build fails in a make that has another BUILD' env MAKEFLAGS=' -- BUILD=theirs' "$library/c/build" "$room/built" --proved
 expect 'c/build fails where make is to say alone what it would do' env MAKEFLAGS=n "$library/c/build" "$room/built" --proved
+mkdir "$room/who's"
+expect 'c/build fails where the path of its temporary files has a quote' env TMPDIR="$room/who's" "$library/c/build" "$room/built"
 expect 'c/build leaves temporary files' is_empty "$TMPDIR"
 for signal in HUP INT QUIT TERM; do
     ended_by_signal c/build "$signal" 'bit_set_c$' "$library/c/build" "$room/built"
