@@ -7,4 +7,6 @@ unset CDPATH
 here="$(dirname "$(readlink -f "${BASH_SOURCE[0]}")")"
 # Whatever the locale, texts are UTF-8.
 export PYTHONUTF8=1
+# It imports what is beside it.
+unset PYTHONSAFEPATH
 exec python3 -B "$here/cost.py" "$(dirname "$here")" "$@"

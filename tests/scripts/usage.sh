@@ -35,7 +35,7 @@ done
 for words in edits.sh 'all_edits.sh bit_set/none' 'cost.sh none' 'add.sh --wrong' 'c.sh --wrong' 'c.sh a b'; do
     ended=0
     # shellcheck disable=SC2086  # each word is one
-    "$top/tests/"$words > "$room/wrote" 2> "$room/said" < /dev/null || ended=$?
+    PYTHONSAFEPATH=1 "$top/tests/"$words > "$room/wrote" 2> "$room/said" < /dev/null || ended=$?
     expect "tests/$words ends with $ended" ends_with 2
 done
 for words in tables "tables $room/none" offsets; do
