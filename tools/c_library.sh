@@ -1,6 +1,6 @@
 # What c/build and release share: the crate bit_set_c, proved and compiled to assembly, and the source release that is
 # made of it. To be sourced after tools/ending.sh.
-# shellcheck shell=bash disable=SC2034
+# shellcheck shell=bash disable=SC2034,SC2154
 
 top="$(dirname "$(dirname "$(readlink -f "${BASH_SOURCE[0]}")")")"
 crates="$top/crates"
@@ -15,6 +15,13 @@ lock() {
         echo "${0##*/}: another run writes into $1: waiting for its end" >&2
         run_group flock "$locked"
     fi
+}
+
+# Stops where the system runs no program from `room`, as it must once all is proved.
+look_at_room() {
+    printf '#!/bin/sh\n' > "$room/runs"
+    chmod +x "$room/runs"
+    "$room/runs" 2> /dev/null || stop "no program can be run from ${room%/*}: set TMPDIR to another folder"
 }
 
 # The libraries that the crate stands on, the highest first.

@@ -66,6 +66,18 @@ if [ "$(id -u)" -eq 0 ] && mkdir "$room/disk" && mount -t tmpfs -o size=32k none
     umount "$room/disk"
 fi
 
+# A disk for temporary files from which no program is run.
+if [ "$(id -u)" -eq 0 ] && mkdir "$room/no_programs" && mount -t tmpfs -o noexec none "$room/no_programs" 2> /dev/null; then
+    forget_calls
+    ended=0
+    TMPDIR="$room/no_programs" "$library/c/build" "$room/built" > "$room/wrote" 2> "$room/said" < /dev/null || ended=$?
+    expect "c/build on a disk with no programs ends with $ended" ends_with 1
+    expect 'c/build does not say that a disk has no programs' says 'set TMPDIR to another folder'
+    expect 'c/build proves what it cannot build' not is_called 'bit_set_c$'
+    expect 'c/build leaves something on a disk with no programs' is_empty "$room/no_programs"
+    umount "$room/no_programs"
+fi
+
 # The tests of edits, over libraries that are only named here.
 cp -r "$top"/tests/{edits,{edits,gate_edits}.txt,{edits,copies}.py,edits.sh} "$library/tests"
 for name in $(sed -n 's/^\([a-z_]*\):.*/\1/p' "$library/crates.txt"); do
