@@ -117,13 +117,16 @@ build_peers() {
     peer fixedbitset
 }
 
-# Whether the file is newer than each source in the folders.
+# Whether the file is newer than each source in the folders, and this toolchain made it.
 is_newer() {
     local file="$1"
     shift
-    [ -e "$file" ] && [ -z "$(find "$@" -name out -prune \
+    [ -e "$file" ] && [ "$(cat "$file.by" 2> /dev/null)" = "$(rt version)" ] && [ -z "$(find "$@" -name out -prune \
         -o \( -name '*.rs' -o -name '*.rt' -o -name '*.antt' \) -newer "$file" -print -quit)" ]
 }
+
+# Takes note of which toolchain made a file.
+note_toolchain() { rt version > "$1.by"; }
 
 # Makes the static library NAME, out/PROCESSOR/libNAME.a of its crate. To rt the crate is a library as any other, which
 # the gate proves in less time; so the compiler is called here, over the libraries below as rt proves them. What it
@@ -147,8 +150,10 @@ build_static() {
     words+=(--toolchain "$kit/toolchain" --antt-project "$kit/rattle/logic/antt-project.json")
     words+=(--logic-built "$kit/logic_built" --backend llvm -o "$archive")
     mkdir -p "$crates/$name/out/$cpu" "$crates/$name/out/kept"
-    is_newer "$crates/$name/$archive" "$crates" \
-        || quietly in_folder "$crates/$name" "$kit/bin/rattle" build "${words[@]}" src/lib.rt
+    if ! is_newer "$crates/$name/$archive" "$crates"; then
+        quietly in_folder "$crates/$name" "$kit/bin/rattle" build "${words[@]}" src/lib.rt
+        note_toolchain "$crates/$name/$archive"
+    fi
 }
 
 # Builds the Rust program SOURCE over the static libraries NAMES.
@@ -161,6 +166,7 @@ build_over() {
         libraries+=(-C "link-arg=$crates/$name/out/$cpu/lib$name.a")
     done
     rust --edition 2024 "$2" "${libraries[@]}" -o "$3" "${@:4}"
+    note_toolchain "$3"
 }
 
 # The same, over the peers too.

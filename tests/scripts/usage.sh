@@ -59,6 +59,24 @@ ended=0
 expect "bench/run without packages ends with $ended" ends_with 2
 expect 'bench/run works in another folder by CDPATH' [ -d "$room/kept/x86-64-v2" ]
 
+# What another toolchain made is not taken for new.
+if command -v rustc > /dev/null; then
+    (
+        # shellcheck disable=SC2034  # what peers.sh reads
+        script=tests cpu=x86-64-v2 folder="$room/peers"
+        # shellcheck source=/dev/null
+        . "$top/bench/peers.sh"
+        mkdir "$room/sources"
+        touch "$room/sources/lib.rt" "$room/library_made"
+        note_toolchain "$room/library_made"
+        is_newer "$room/library_made" "$room/sources" || exit
+        echo 'kit of other stand-ins' > "$STAND_INS/kit/KIT-ID"
+        ! is_newer "$room/library_made" "$room/sources"
+    ) > "$room/wrote" 2>&1 < /dev/null
+    ended=$?
+    expect "what another toolchain made is taken for new: $(cat "$room/wrote")" ends_with 0
+fi
+
 # An empty repository beside that from which libraries are copied.
 from="$room/from"
 mkdir -p "$from" "$room/theirs/crates"
