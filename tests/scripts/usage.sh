@@ -150,8 +150,8 @@ COMPILES
 chmod +x "$room/words"/*
 declare -A run_of=()
 for run in first second; do
-    CC="$room/words/cc --theirs" PYTHON="$room/words/python" start_group "$top/python/build" "$room/headers" "$room/module" \
-        < /dev/null > "$room/$run" 2>&1
+    PATH="$room/words:$PATH" CC='cc --theirs' PYTHON="$room/words/python" \
+        start_group "$top/python/build" "$room/headers" "$room/module" < /dev/null > "$room/$run" 2>&1
     run_of[$!]="$run"
 done
 for run in "${!run_of[@]}"; do
