@@ -41,7 +41,7 @@ fn own_library() -> Option<String> {
     let of_target = |name: &str| env::var(format!("CARGO_CFG_TARGET_{name}")).unwrap_or_default();
     let (machine, features) = (of_target("ARCH"), of_target("FEATURE"));
     let has = |feature: &&str| features.split(',').any(|found| found == *feature);
-    let fits = |needs: &[&str]| of_target("OS") == "linux" && needs.iter().all(|it| has(it));
+    let fits = |needs: &[&str]| of_target("OS") == "linux" && needs.iter().all(has);
     let libraries = Path::new(&env::var("CARGO_MANIFEST_DIR").ok()?).join("lib");
     PROCESSORS
         .iter()

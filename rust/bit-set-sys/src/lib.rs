@@ -4,6 +4,8 @@
 //! Packages over this library share this one, since one program links the library once.
 #![no_std]
 #![deny(unsafe_op_in_unsafe_fn)]
+// What a call asks of its caller is said once, at the trait, and `new` is the header's name.
+#![allow(clippy::missing_safety_doc, clippy::new_ret_no_self)]
 
 use core::ffi::c_void;
 use core::marker::PhantomData;
