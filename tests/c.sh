@@ -234,6 +234,14 @@ if command -v python3 > /dev/null; then
     if [ ! -f "$(python3 -c 'import sysconfig; print(sysconfig.get_path("include"))')/Python.h" ]; then
         echo 'left out: the Python module, without the headers of Python'
     elif "$top/python/build" "$library" module > said 2>&1; then
+        # The headers of Python 3.8 have this for it.
+        if CC='cc -DPyMODINIT_FUNC=PyObject*' "$top/python/build" "$library" older > said 2>&1 \
+            && nm -D --defined-only older/bit_set/*.so | grep -q ' PyInit__bit_set$'; then
+            pass
+        else
+            cat said
+            fail 'the Python module cannot be loaded where the headers of Python 3.8 built it'
+        fi
         for file in tests faults; do
             if PYTHONPATH=module python3 -B "$top/python/$file.py" > said 2>&1; then
                 pass

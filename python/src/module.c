@@ -188,7 +188,8 @@ static bool add_object(PyObject *module, const char *name, PyObject *object)
     return false;
 }
 
-PyMODINIT_FUNC PyInit__bit_set(void)
+/* The headers of Python 3.8 do not say that this is seen from outside. */
+__attribute__((visibility("default"))) PyMODINIT_FUNC PyInit__bit_set(void)
 {
     PyObject *module = PyModule_Create(&module_definition);
     PyObject *greatest = PyLong_FromSize_t(NO_MEMBER - 1);
