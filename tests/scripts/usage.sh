@@ -94,6 +94,13 @@ expect 'add changes how lines of crates.txt end' [ "$(grep -c $'\r$' crates.txt)
 expect 'add writes a line of crates.txt twice' [ "$(grep -c '^bit_set:' crates.txt)" -eq 1 ]
 expect 'add does not say how a library is proved' grep -qF "(cd \"$from/crates/bit_set\" && rt lib)" "$room/wrote"
 expect 'add fails a second time' "$from/add"
+mv crates.txt named.txt
+ln -s named.txt crates.txt
+sed -i 's/^bit_set:.*/bit_set: older/' named.txt
+expect 'add fails where crates.txt is a link' "$from/add"
+expect 'add does not bring the file up to date that crates.txt leads to' not grep -q older named.txt
+expect 'add puts a file in the place of a link' [ -L crates.txt ]
+mv named.txt crates.txt
 
 # A signal where a copy takes the place of an older one, and no copy is there.
 mkdir "$room/slow"
