@@ -2,6 +2,13 @@
 # made of it. To be sourced after tools/ending.sh.
 # shellcheck shell=bash disable=SC2034,SC2154
 
+# A program would take what is closed here for the first file that it opens, as bash does for the script.
+for stream in 0 1 2; do
+    if [ ! -e "/dev/fd/$stream" ] || [ "/dev/fd/$stream" -ef "$0" ]; then
+        eval "exec $stream<> /dev/null"
+    fi
+done
+
 top="$(dirname "$(dirname "$(readlink -f "${BASH_SOURCE[0]}")")")"
 crates="$top/crates"
 kit="$(dirname "$(rt doc | head -n 1)")"

@@ -45,6 +45,12 @@ done
 expect 'c/build --proved fails' "$library/c/build" "$room/built" --proved
 expect 'c/build fails in a make that has another BUILD' env MAKEFLAGS=' -- BUILD=theirs' "$library/c/build" "$room/built" --proved
 expect 'c/build fails where make is to say alone what it would do' env MAKEFLAGS=n "$library/c/build" "$room/built" --proved
+expect 'c/build fails where its input is closed' "$library/c/build" "$room/built" --proved <&-
+for closed in '>&-' '2>&-' '<&- >&- 2>&-'; do
+    ended=0
+    eval '"$library/c/build" "$room/built" --proved > "$room/wrote" 2> "$room/said"' "$closed" || ended=$?
+    expect "c/build $closed ends with $ended" ends_with 0
+done
 mkdir "$room/who's"
 expect 'c/build fails where the path of its temporary files has a quote' env TMPDIR="$room/who's" "$library/c/build" "$room/built"
 expect 'c/build leaves temporary files' is_empty "$TMPDIR"
