@@ -1,10 +1,11 @@
 -- What one call, and then many, make of a set.
-use Rattle.std.proofs.{Common.{◌≡◌, ◌≢◌, ℕ, ◌<◌, not, Bool, true, false, List, [], ◌∷◌, map, All, Result, refl, ap, arith}, lemmas.{Bool.Decides.nat_tests, List.Elements.{All-head, All-tail}}}
+use Rattle.std.proofs.{Common.{◌≡◌, ◌≢◌, ℕ, ◌<◌, not, Bool, true, false, List, [], ◌∷◌, map, All, Err, Ok, OnErr, OnOk, Result, refl, ap, arith}, lemmas.{Bool.Decides.nat_tests, List.Elements.{All-head, All-tail}}}
+use Rattle.bit_blocks.specs.Bits.{Bits}
 use Rattle.bit_words.specs.Bounds.{greatest}
-use Rattle.bit_set.specs.Changes.{Change, Change.{Insert, ShrinkToFit, Toggle}, Changes, Event, Happens, Outcome, Outcome.{NoMemory, Returned}, elements_after, outcome_of_result, outcome_of, outcomes}
+use Rattle.bit_set.specs.Changes.{Change, Change.{Insert, InsertRange, ShrinkToFit, Toggle}, Changes, Event, Happens, Outcome, Outcome.{NoMemory, Returned}, elements_after, outcome_of_result, outcome_of, outcomes}
 use Rattle.bit_set.specs.Changes.{set_after}
 use Rattle.bit_set.specs.{Sets.elements}
-use Rattle.bit_set.specs.Sets.{has, put, without}
+use Rattle.bit_set.specs.{Ranges.span, Sets.{has, put, union, without}}
 
 -- ---- one call
 
@@ -24,6 +25,13 @@ changes_toggled value old next fits was is = grind (arith, nat_tests)
 pub changes_shrunk : {T E : Type 0} (r : Result T E) (old next : List Bool) → elements next ≡ elements old → Changes ShrinkToFit old (outcome_of_result r) next
 unfolding Changes
 changes_shrunk r old next same = grind arith
+
+-- a range that went in where memory was found
+pub changes_filled : {T E : Type 0} (a b : ℕ) (r : Result T E) (old next : Bits) → OnOk r (elements next.values ≡ union (elements old.values) (span a b))
+    → OnErr r (next ≡ old) → Changes (InsertRange a b) old.values (outcome_of_result r) next.values
+unfolding Changes
+changes_filled a b (Ok x) old next done failed = (done, refl)
+changes_filled a b (Err e) old next done failed = ap (λ bits. elements bits.values) failed
 
 found : (call : Change) (old new : List Bool) (outcome : Outcome) → outcome ≢ NoMemory → Changes call old outcome new
     → (elements new ≡ elements_after call (elements old)) × (outcome ≡ outcome_of call (elements old))

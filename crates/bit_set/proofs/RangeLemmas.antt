@@ -1,7 +1,7 @@
 -- What calls on a range do to a set, by its members.
-use Rattle.std.proofs.Common.{◌≡◌, ℕ, zero, suc, ◌+◌, ◌-◌, ◌<◌, ◌≤◌, max, min, Bool, true, false, not, ◌&&◌, nat_le, nat_lt, cond, List, [], ◌∷◌, filter, ◌++◌, eqb, get_or, length, refl, sym, ap, ◌∙◌}
-use Rattle.std.proofs.Common.{arith, ⊎_elim}
-use Rattle.std.{proofs.lemmas.{Bool.{cases_lt, Decides.nat_tests}, List.{Folds.list_any-append, FromFn.length-range_with_len}}, specs.List.range_with_len}
+use Rattle.std.proofs.Common.{◌≡◌, ℕ, zero, suc, ◌+◌, ◌-◌, ◌<◌, ◌≤◌, max, min, Bool, true, false, not, ◌&&◌, nat_le, nat_lt, cond, List, [], ◌∷◌, filter, ◌++◌, eqb, get_or, length, replicate, refl, sym, ap, ◌∙◌}
+use Rattle.std.proofs.Common.{arith, ⊎_elim, Result, Ok, Err, OnOk}
+use Rattle.std.{proofs.lemmas.{Bool.{cases_lt, Decides.nat_tests}, List.{get_or_append_left, get_or-append_right, get_or-replicate, get_or_past, length-replicate, Folds.list_any-append, FromFn.length-range_with_len}}, specs.List.range_with_len}
 use Rattle.bit_blocks.specs.{declared.block.merge.Merge.TheVariants.Symmetric, Ranges.{changed_in_range, in_range}}
 use Rattle.bit_words.proofs.RangeLemmas.{get_or-changed}
 use Rattle.bit_set.specs.{Members.UpdatesRange, Ranges.{span, span_end, those_in_range}}
@@ -41,6 +41,21 @@ members_changed f a b s mid new same within is n =
     ∙ ap (λ bs. get_or bs n false) is
     ∙ get_or-changed f a b mid n within
     ∙ ap (λ x. cond (in_range a b n) (f x) x) (sym (has-elements mid n) ∙ ap (λ t. has t n) same)
+
+-- the part of a range within a list is put in, and then the rest is added past it
+pub members_filled : (a b : ℕ) (old mid new : List Bool) → a ≤ length mid → length mid ≤ b → UpdatesRange (λ _. true) (elements old) (elements mid) a (length mid)
+    → new ≡ mid ++ replicate (b - length mid) true → UpdatesRange (λ _. true) (elements old) (elements new) a b
+members_filled a b old mid new reaches within members is n =
+    let k = b - length mid in
+    let front = get_or_append_left mid (replicate k true) false n in
+    let rest = get_or-append_right mid (replicate k true) (length mid) n false refl in
+    let added = get_or-replicate k (n - length mid) true false in
+    let past = get_or_past (replicate k true) (n - length mid) false in
+    let of_new = has-elements new n ∙ ap (λ bs. get_or bs n false) is in
+    grind (arith, nat_tests, members n, has-elements mid n, has-past mid n, length-replicate k true)
+
+pub none_filled : (a : ℕ) (old mid : List Bool) → elements mid ≡ elements old → length mid ≡ a → UpdatesRange (λ _. true) (elements old) (elements mid) a (length mid)
+none_filled a old mid same long n = ap (λ s. has s n) same ∙ grind (arith, nat_tests, long)
 
 -- a range that is cut at the end of the list clears the same members
 pub members_cleared : (a b c : ℕ) (bs new : List Bool) → c ≡ min b (length bs) → new ≡ changed_in_range (λ _. false) a c bs → UpdatesRange (λ _. false) (elements bs) (elements new) a b
@@ -85,6 +100,11 @@ has-without_range a b s n =
 pub removed_range : (a b : ℕ) (s t : List ℕ) → IsAscending s → IsAscending t → UpdatesRange (λ _. false) s t a b → t ≡ those_below s a ++ those_from s (max a b)
 removed_range a b s t up also members =
     same_members t _ also (IsAscending-without_range a b s up) (λ n. members n ∙ grind (arith, nat_tests, has-without_range a b s n))
+
+-- what follows where a call succeeds
+pub on_ok : {T E P Q : Type 0} (result : Result T E) → (P → Q) → OnOk result P → OnOk result Q
+on_ok (Ok x) next is = next is
+on_ok (Err e) next is = tt
 
 -- ---- how many members it has then
 

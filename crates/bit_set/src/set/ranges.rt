@@ -27,6 +27,30 @@ impl<B: BitBlock> BitSet<B> {
         Ok(())
     }
 
+    // Puts in the numbers of a range that ends past the list. Each new block is written once: the memory is there
+    // before the list changes, and so neither growth fails.
+    #[inline(never)]
+    fn insert_past(&mut self, range: Range<usize>) -> Result<(), SetError>
+        requires some { range.start < range.end }
+        requires past { length self.old.values < range.end }
+        ensures members { OnOk result (UpdatesRange (λ _. true) (elements self.old.values) (elements self.new.values)
+            range.start range.end) }
+        ensures length { OnOk result (length self.new.values ≡ range.end) }
+        ensures fails { IfErr result (λ fault. IsInsertFault fault (range.end - 1) self.old.capacity) }
+        ensures grows { Grows range.end result self.old self.new }
+    {
+        let len = self.bits.len();
+        self.bits.reserve(range.end - len)?;
+        if range.start > len {
+            self.bits.grow(range.start - len, false).unwrap();
+        } else {
+            self.bits.fill_range(range.start..len, true);
+        }
+        let start = self.bits.len();
+        self.bits.grow(range.end - start, true).unwrap();
+        Ok(())
+    }
+
     /// Puts each number of the range in. The length becomes at least `range.end`; nothing changes where the range is
     /// empty. Writes each block of the range once, the whole ones as a fill. Fails only where `range.end` passes the
     /// capacity and no memory is found; elements, length and capacity then stay. Each number of a range is below
@@ -52,7 +76,9 @@ impl<B: BitBlock> BitSet<B> {
         ensures changes { Changes (Change.InsertRange range.start range.end)
             self.old.values (outcome_of_result result) self.new.values }
     {
-        self.lengthen_for(&range)?;
+        if range.end > self.bits.len() && range.start < range.end {
+            return self.insert_past(range);
+        }
         self.bits.fill_range(range, true);
         Ok(())
     }
