@@ -4,11 +4,17 @@ use Rattle.std.proofs.Common.{Err}
 use Rattle.std.proofs.lemmas.{List.Elements.{All-nil, All-cons, All-head, All-tail}, Bool.Decides.nat_tests}
 use Rattle.bit_blocks.{specs.Bits.{Bits, blocks_for, capacity_of, true_end, whole_blocks}, proofs.BitsLemmas.{blocks_for-le, blocks_for-least, blocks_for-enough}}
 use Rattle.bit_words.{specs.Growth.Grows, proofs.CapacityLemmas.whole_blocks-fits}
-use Rattle.bit_set.{specs.{Sets.{elements, elements_from, bound_of}, Capacity.Run}, proofs.{SetLaws.slice_get-elements, SetLemmas.{IsAscending-elements, same_members}}}
+use Rattle.bit_set.{specs.{Sets.{elements, elements_from, bound_of}, Capacity.{IsPastBlocks, Run}, declared.faults.SetError.{SetError, TheVariants.{Element, Length, Memory}}}, proofs.{SetLaws.slice_get-elements, SetLemmas.{IsAscending-elements, same_members}}}
 
 -- more values take no less capacity
 capacity_of-grows : (w m n : ℕ) → 0 < w → m ≤ n → capacity_of w (blocks_for w m) ≤ capacity_of w (blocks_for w n)
 capacity_of-grows w m n pos le = let more = mul-le-mul_right w (blocks_for-le w m n pos le) in omega (arith, more)
+
+-- an item past the blocks of a list is past those of a shorter one
+pub past_fewer_blocks : (fault : SetError) (w m n item : ℕ) → 0 < w → m ≤ n → IsPastBlocks fault w n item → IsPastBlocks fault w m item
+past_fewer_blocks Element w m n item pos le past = tt
+past_fewer_blocks Length w m n item pos le past = tt
+past_fewer_blocks (Memory fault) w m n item pos le past = omega (arith, past, capacity_of-grows w m n pos le)
 
 -- capacity for a length, asked for as what is missing past the list
 pub capacity_for_length : (w old new long len missing : ℕ) → 0 < w → missing ≡ len - long → long ≤ old → (long + missing ≤ old → new ≡ old)

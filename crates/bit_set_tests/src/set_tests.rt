@@ -75,6 +75,27 @@ fn items_before_one_that_fails_stay_in(rt: HostRuntime) {
     take_new(&rt, rt.alloc(), ITEMS_BEFORE);
 }
 
+// The list grows ahead of an item, and afterwards is as long as the items ask, also where one does not go in. The
+// capacity stays.
+const FAR_ITEMS: &[Step] = &[
+    Step::ReserveExact(5000),
+    Step::Extend(&[3000, 5, 2500]),
+    Step::Elements(&[5, 2500, 3000]),
+    Step::Len(3001),
+    Step::Blocks(94),
+    Step::Capacity(5024),
+    Step::ExtendFails(&[4000, GREATEST, 9], SetError::Element),
+    Step::Elements(&[5, 2500, 3000, 4000]),
+    Step::Len(4001),
+    Step::Blocks(126),
+    Step::Capacity(5024),
+];
+
+#[test]
+fn a_list_is_as_long_as_far_items_ask(rt: HostRuntime) {
+    take_new(&rt, rt.alloc(), FAR_ITEMS);
+}
+
 // Of {20, 21, 22, 23}.
 const FOUR: &[Step] = &[
     Step::Count(4),

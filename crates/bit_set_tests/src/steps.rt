@@ -12,6 +12,7 @@ pub(crate) enum Step {
     Insert(usize, bool),
     // A number does not go in.
     InsertFails(usize, SetError),
+    Extend(&'static [usize]),
     // One of the numbers does not go in.
     ExtendFails(&'static [usize], SetError),
     // A number goes out, and was in or not.
@@ -95,6 +96,7 @@ fn goes_well<B: BitBlock>(set: &mut BitSet<B>, step: Step) -> bool {
     match step {
         Step::Insert(value, is_new) => set.insert(value) == Ok(is_new),
         Step::InsertFails(value, fault) => set.insert(value) == Err(fault),
+        Step::Extend(values) => extend(set, values).is_ok(),
         Step::ExtendFails(values, fault) => extend(set, values) == Err(fault),
         Step::Remove(value, was_in) => set.remove(value) == was_in,
         Step::ReserveExact(len) => set.reserve_len_exact(len).is_ok(),

@@ -1,5 +1,5 @@
 // Calls that change a set in place.
-ghost use Rattle.std.specs.Prelude.{◌≡◌, ℕ, ◌+◌, ◌-◌, ◌<◌, ◌≤◌, ◌↔◌, if◌then◌else◌, max, min, not, IfOk, IfErr, OnOk, IsOk, IsErrOf, All, List, [], ◌++◌, length, replicate, false, true, Some};
+ghost use Rattle.std.specs.Prelude.{◌≡◌, ℕ, ◌+◌, ◌-◌, ◌<◌, ◌≤◌, ◌↔◌, if◌then◌else◌, max, min, not, IfOk, IfErr, OnErr, OnOk, IsOk, IsErrOf, All, List, [], ◌++◌, length, replicate, false, true, Some};
 ghost use Rattle.std.specs.{Iterator.Drains};
 ghost use Rattle.std.specs.Iterator.{HoldsAlong, IsFinite, YieldsThen, Runs.WholeRun};
 ghost use Rattle.bit_blocks.specs.Bits.{blocks_for, capacity_of};
@@ -10,6 +10,12 @@ ghost use Rattle.bit_set.specs.{Changes.{outcome_of_result, outcome_of_insert, O
 
 use crate::{BitBlock, BitSet, SetError};
 use std::alloc::AllocError;
+
+// A list with fewer blocks does not grow ahead of the items of `extend`.
+const FEW_BLOCKS: usize = 64;
+
+// How many values it grows ahead at most: 64 KB of bits.
+const MOST_AHEAD: usize = 1 << 19;
 
 impl<B: BitBlock> BitSet<B> {
     /// Puts `value` in, and returns whether it is new. Constant time, but for a growth at or past the length.
@@ -82,10 +88,74 @@ impl<B: BitBlock> BitSet<B> {
             → self.new.capacity ≡ self.old.capacity }
         ensures kept { length self.new.values ≤ self.old.capacity → self.new.capacity ≡ self.old.capacity }
     {
+        let start = self.bits.len();
+        let mut len = start;
         for item in iter {
-            self.insert(item)?;
+            if let Err(fault) = self.put_ahead(start, item) {
+                self.bits.truncate(len);
+                return Err(fault);
+            }
+            len = len.max(item + 1);
         }
+        self.bits.truncate(len);
         Ok(())
+    }
+
+    // Puts an item of `extend` in. The list had `start` values before the first item, and may become longer than the
+    // items ask.
+    #[inline]
+    fn put_ahead(&mut self, start: usize, item: usize) -> Result<(), SetError>
+        requires { start ≤ length self.old.values }
+        ensures elements { OnOk result (elements self.new.values ≡ put (elements self.old.values) item) }
+        ensures within { OnOk result (item < length self.new.values) }
+        ensures longer { OnOk result (length self.old.values ≤ length self.new.values) }
+        ensures fit { OnOk result (item < usize.MAX) }
+        ensures fails { IfErr result (λ fault. IsInsertFault fault item self.old.capacity) }
+        ensures past { OnErr result (length self.old.values ≤ item) }
+        ensures grows { Grows (item + 1) result self.old self.new }
+        ensures past_blocks { IfErr result (λ fault. IsPastBlocks fault B.width (length self.old.values) item) }
+    {
+        if item >= self.bits.len() {
+            self.lengthen_ahead(start, item)?;
+        }
+        self.bits.set(item, true);
+        Ok(())
+    }
+
+    // Makes the list longer than an item at or past its end, and then ahead of the item.
+    #[cold]
+    #[inline(never)]
+    fn lengthen_ahead(&mut self, start: usize, item: usize) -> Result<(), SetError>
+        requires start { start ≤ length self.old.values }
+        requires past { length self.old.values ≤ item }
+        ensures elements { OnOk result (elements self.new.values ≡ elements self.old.values) }
+        ensures within { OnOk result (item < length self.new.values) }
+        ensures fit { OnOk result (item < usize.MAX) }
+        ensures fails { IfErr result (λ fault. IsInsertFault fault item self.old.capacity) }
+        ensures grows { Grows (item + 1) result self.old self.new }
+        ensures past_blocks { IfErr result (λ fault. IsPastBlocks fault B.width (length self.old.values) item) }
+    {
+        self.lengthen_past(item)?;
+        self.go_ahead(start);
+        Ok(())
+    }
+
+    // Makes the list longer by as much as it has grown past `start`, and so by no more than the items needed, by 64 KB
+    // at most, and within the capacity. A list of few blocks stays: one block at a time costs it little.
+    fn go_ahead(&mut self, start: usize)
+        requires { start ≤ length self.old.values }
+        ensures elements { elements self.new.values ≡ elements self.old.values }
+        ensures longer { length self.old.values ≤ length self.new.values }
+        ensures capacity { self.new.capacity ≡ self.old.capacity }
+    {
+        if self.bits.storage().len() < FEW_BLOCKS {
+            return;
+        }
+        let len = self.bits.len();
+        let free = self.bits.capacity() - len;
+        let ahead = (len - start).min(MOST_AHEAD).min(free);
+        // Within the capacity it succeeds.
+        let _grown = self.bits.grow(ahead, false);
     }
 
     /// Takes `value` out, and returns whether it was in. Constant time.

@@ -1,0 +1,8 @@
+use Rattle.std.proofs.Common.{ap, ◌∙◌}
+use Rattle.bit_set.{specs.Sets.elements, proofs.ItemLemmas.elements-grown}
+use Rattle.bit_set.proofs.set.BitSet.go_ahead.Goals as goal
+
+pub returns-clause-elements : goal.returns-clause-elements
+returns-clause-elements g c =
+    elements-grown _ _ c.grow-grown.result c.self.inside.bits c.grow-grown.new.self c.grow-grown.ensures.ok c.grow-grown.ensures.grows
+    ∙ ap (λ bits. elements bits.values) c.self.view_is

@@ -1,0 +1,24 @@
+use Rattle.std.proofs.Common.{◌≡◌, ◌<◌, ℕ, length, ap, ◌∙◌, refl, arith}
+use Rattle.bit_blocks.specs.Bits.{Bits}
+use Rattle.bit_set.{specs.Sets.{elements, put}, proofs.SetLemmas.elements-set_true}
+use Rattle.bit_set.proofs.set.BitSet.put_ahead.Goals.{then-item-len+in_ok-lengthen_ahead, else-item-len}
+use Rattle.bit_set.proofs.set.BitSet.put_ahead.Goals as goal
+
+-- the set once it is long enough for the item
+record IsLong (item : ℕ) (old mid : Bits) : Type 0 where
+  same : elements mid.values ≡ elements old.values
+  within : item < length mid.values
+
+long : (g : _) (c : goal.After-set g) → IsLong c.args.item c.args.self.now c.if-item-len.self
+long g c =
+    let old : length c.self.inside.bits.values ≡ length c.args.self.now.values = ap (λ bits. length bits.values) c.self.view_is in
+    elim c.if-item-len.branch [
+      | then-item-len+in_ok-lengthen_ahead w ↦
+          let grown = w.in_ok-lengthen_ahead.ensures in
+          rw w.self-is record { same = grown.elements; within = grown.within }
+      | else-item-len w ↦ rw w.self-is record { same = refl; within = omega (arith, old) }
+    ]
+
+pub returns-clause-elements : goal.returns-clause-elements
+returns-clause-elements g c =
+    rw (c.set.ensures.values, c.self-2.view_is) (elements-set_true c.if-item-len.self.values c.args.item (long g c).within ∙ ap (λ s. put s c.args.item) (long g c).same)
