@@ -11,10 +11,7 @@ ghost use Rattle.bit_set.specs.{Changes.{outcome_of_result, outcome_of_insert, O
 use crate::{BitBlock, BitSet, SetError};
 use std::alloc::AllocError;
 
-// A list with fewer blocks does not grow ahead of the items of `extend`.
-const FEW_BLOCKS: usize = 64;
-
-// How many values it grows ahead at most: 64 KB of bits.
+// How many values a list grows ahead of the items of `extend` at most: 64 KB of bits.
 const MOST_AHEAD: usize = 1 << 19;
 
 impl<B: BitBlock> BitSet<B> {
@@ -122,7 +119,8 @@ impl<B: BitBlock> BitSet<B> {
         Ok(())
     }
 
-    // Makes the list longer than an item at or past its end, and then ahead of the item.
+    // Makes the list longer than an item at or past its end, and then ahead of it by what it had grown for the items
+    // before: so the first one costs what it needs alone.
     #[cold]
     #[inline(never)]
     fn lengthen_ahead(&mut self, start: usize, item: usize) -> Result<(), SetError>
@@ -135,25 +133,24 @@ impl<B: BitBlock> BitSet<B> {
         ensures grows { Grows (item + 1) result self.old self.new }
         ensures past_blocks { IfErr result (λ fault. IsPastBlocks fault B.width (length self.old.values) item) }
     {
+        let before = self.bits.len() - start;
         self.lengthen_past(item)?;
-        self.go_ahead(start);
+        self.go_ahead(before);
         Ok(())
     }
 
-    // Makes the list longer by as much as it has grown past `start`, and so by no more than the items needed, by 64 KB
-    // at most, and within the capacity. A list of few blocks stays: one block at a time costs it little.
-    fn go_ahead(&mut self, start: usize)
-        requires { start ≤ length self.old.values }
+    // Makes the list longer by so many values, by 64 KB at most, and within the capacity.
+    #[inline]
+    fn go_ahead(&mut self, most: usize)
         ensures elements { elements self.new.values ≡ elements self.old.values }
         ensures longer { length self.old.values ≤ length self.new.values }
         ensures capacity { self.new.capacity ≡ self.old.capacity }
     {
-        if self.bits.storage().len() < FEW_BLOCKS {
+        if most == 0 {
             return;
         }
-        let len = self.bits.len();
-        let free = self.bits.capacity() - len;
-        let ahead = (len - start).min(MOST_AHEAD).min(free);
+        let free = self.bits.capacity() - self.bits.len();
+        let ahead = most.min(MOST_AHEAD).min(free);
         // Within the capacity it succeeds.
         let _grown = self.bits.grow(ahead, false);
     }
