@@ -11,7 +11,10 @@ ghost use Rattle.bit_set.specs.{Changes.{outcome_of_result, outcome_of_insert, O
 use crate::{BitBlock, BitSet, SetError};
 use std::alloc::AllocError;
 
-// How many values a list grows ahead of the items of `extend` at most: 64 KB of bits.
+// By how many values the items of `extend` have to make a list grow before it grows ahead of the next.
+const LEAST_GROWN: usize = 64;
+
+// How many values it grows ahead at most: 64 KB of bits.
 const MOST_AHEAD: usize = 1 << 19;
 
 impl<B: BitBlock> BitSet<B> {
@@ -99,7 +102,7 @@ impl<B: BitBlock> BitSet<B> {
     }
 
     // Puts an item of `extend` in. The list had `start` values before the first item, and may become longer than the
-    // items ask.
+    // items ask: it goes ahead by what it had grown for the items before, and so the first costs what it needs alone.
     #[inline]
     fn put_ahead(&mut self, start: usize, item: usize) -> Result<(), SetError>
         requires { start ≤ length self.old.values }
@@ -113,42 +116,34 @@ impl<B: BitBlock> BitSet<B> {
         ensures past_blocks { IfErr result (λ fault. IsPastBlocks fault B.width (length self.old.values) item) }
     {
         if item >= self.bits.len() {
-            self.lengthen_ahead(start, item)?;
+            let before = self.bits.len() - start;
+            self.lengthen_past(item)?;
+            self.go_ahead(before);
         }
         self.bits.set(item, true);
         Ok(())
     }
 
-    // Makes the list longer than an item at or past its end, and then ahead of it by what it had grown for the items
-    // before: so the first one costs what it needs alone.
-    #[cold]
-    #[inline(never)]
-    fn lengthen_ahead(&mut self, start: usize, item: usize) -> Result<(), SetError>
-        requires start { start ≤ length self.old.values }
-        requires past { length self.old.values ≤ item }
-        ensures elements { OnOk result (elements self.new.values ≡ elements self.old.values) }
-        ensures within { OnOk result (item < length self.new.values) }
-        ensures fit { OnOk result (item < usize.MAX) }
-        ensures fails { IfErr result (λ fault. IsInsertFault fault item self.old.capacity) }
-        ensures grows { Grows (item + 1) result self.old self.new }
-        ensures past_blocks { IfErr result (λ fault. IsPastBlocks fault B.width (length self.old.values) item) }
-    {
-        let before = self.bits.len() - start;
-        self.lengthen_past(item)?;
-        self.go_ahead(before);
-        Ok(())
-    }
-
-    // Makes the list longer by so many values, by 64 KB at most, and within the capacity.
+    // Makes the list longer by so many values, by 64 KB at most, and within the capacity; nothing where they are few.
     #[inline]
     fn go_ahead(&mut self, most: usize)
         ensures elements { elements self.new.values ≡ elements self.old.values }
         ensures longer { length self.old.values ≤ length self.new.values }
         ensures capacity { self.new.capacity ≡ self.old.capacity }
     {
-        if most == 0 {
-            return;
+        if most >= LEAST_GROWN {
+            self.grow_within(most);
         }
+    }
+
+    // The same where they are not few.
+    #[cold]
+    #[inline(never)]
+    fn grow_within(&mut self, most: usize)
+        ensures elements { elements self.new.values ≡ elements self.old.values }
+        ensures longer { length self.old.values ≤ length self.new.values }
+        ensures capacity { self.new.capacity ≡ self.old.capacity }
+    {
         let free = self.bits.capacity() - self.bits.len();
         let ahead = most.min(MOST_AHEAD).min(free);
         // Within the capacity it succeeds.

@@ -1,7 +1,7 @@
-use Rattle.std.proofs.Common.{◌≡◌, ◌<◌, ℕ, length, ap, ◌∙◌, refl, arith}
+use Rattle.std.proofs.{Common.{◌≡◌, ◌<◌, ℕ, length, length-append, ap, ◌∙◌, refl, arith}, lemmas.List.length-replicate}
 use Rattle.bit_blocks.specs.Bits.{Bits}
-use Rattle.bit_set.{specs.Sets.{elements, put}, proofs.SetLemmas.elements-set_true}
-use Rattle.bit_set.proofs.set.BitSet.put_ahead.Goals.{then-item-len+in_ok-lengthen_ahead, else-item-len}
+use Rattle.bit_set.{specs.Sets.{elements, put}, proofs.SetLemmas.{elements-padded, elements-set_true}}
+use Rattle.bit_set.proofs.set.BitSet.put_ahead.Goals.{then-item-len+in_ok-lengthen_past, else-item-len}
 use Rattle.bit_set.proofs.set.BitSet.put_ahead.Goals as goal
 
 -- the set once it is long enough for the item
@@ -13,9 +13,13 @@ long : (g : _) (c : goal.After-set g) → IsLong c.args.item c.args.self.now c.i
 long g c =
     let old : length c.self.inside.bits.values ≡ length c.args.self.now.values = ap (λ bits. length bits.values) c.self.view_is in
     elim c.if-item-len.branch [
-      | then-item-len+in_ok-lengthen_ahead w ↦
-          let grown = w.in_ok-lengthen_ahead.ensures in
-          rw w.self-is record { same = grown.elements; within = grown.within }
+      | then-item-len+in_ok-lengthen_past w ↦
+          let grown = w.in_ok-lengthen_past.ensures.values in
+          let size = simp (length-append, length-replicate) at (ap length grown) in
+          rw w.self-is record {
+            same = w.go_ahead.ensures.elements ∙ ap elements grown ∙ elements-padded c.args.self.now.values _;
+            within = omega (arith, size, w.go_ahead.ensures.longer);
+          }
       | else-item-len w ↦ rw w.self-is record { same = refl; within = omega (arith, old) }
     ]
 
