@@ -2,8 +2,10 @@
 # Tries each edit of tests/edits.txt, or of the crates or the CRATE/EDIT that are named, over the libraries that the checkout has built,
 # and writes tests/edits.csv. A run that was stopped goes on where it was; --anew tries all again. The last line is
 # 'N passed, M failed'.
+# Options of bash that are exported, and what it is to read first, are for other scripts.
+[[ ${SHELLOPTS@a}${BASHOPTS@a}${BASH_ENV+x} != *x* ]] || exec env -u SHELLOPTS -u BASHOPTS -u BASH_ENV bash "$0" "$@"
 set -euo pipefail
-unset CDPATH
+unset CDPATH GLOBIGNORE POSIXLY_CORRECT
 here="$(dirname "$(readlink -f "${BASH_SOURCE[0]}")")"
 # Whatever the locale, texts are UTF-8.
 export PYTHONUTF8=1

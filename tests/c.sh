@@ -7,8 +7,10 @@
 #   tests/c.sh [FOLDER]      over the library that c/build wrote into the folder; where none is given it is built, over
 #                            the libraries as `rt ci` has just proved them here
 # The last line is 'N passed, M failed'.
+# Options of bash that are exported, and what it is to read first, are for other scripts.
+[[ ${SHELLOPTS@a}${BASHOPTS@a}${BASH_ENV+x} != *x* ]] || exec env -u SHELLOPTS -u BASHOPTS -u BASH_ENV bash "$0" "$@"
 set -uo pipefail
-unset CDPATH
+unset CDPATH GLOBIGNORE POSIXLY_CORRECT
 here="$(dirname "$(readlink -f "${BASH_SOURCE[0]}")")"
 top="$(dirname "$here")"
 passed=0

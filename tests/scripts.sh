@@ -5,8 +5,10 @@
 #   tests/scripts.sh --real    instead `./bitset` with the real toolchain and a comment that changes, over the libraries
 #                              as `rt ci` has just proved them here
 # The last line is 'N passed, M failed'.
+# Options of bash that are exported, and what it is to read first, are for other scripts.
+[[ ${SHELLOPTS@a}${BASHOPTS@a}${BASH_ENV+x} != *x* ]] || exec env -u SHELLOPTS -u BASHOPTS -u BASH_ENV bash "$0" "$@"
 set -uo pipefail
-unset CDPATH
+unset CDPATH GLOBIGNORE POSIXLY_CORRECT
 # What the system's commands say is looked for in English.
 export LC_ALL=C
 # A hook of git names its own repository to what it runs, whatever folder that works in.
@@ -77,6 +79,13 @@ is_called() { [ "$(calls "$1")" -ge 1 ]; }
 
 forget_calls() { : > "$STAND_INS/calls"; }
 take_seconds() { echo "$1" > "$STAND_INS/seconds"; }
+
+# Runs a command where options of bash are exported that scripts do not have, and a file is named that it is to read first.
+with_options() {
+    echo 'set -o noclobber -o noglob && export SHELLOPTS' > "$room/first"
+    env SHELLOPTS=allexport:errexit:keyword:noclobber:noglob:nounset:onecmd:physical:posix:xtrace \
+        BASHOPTS=extglob:failglob:lastpipe:nocasematch:xpg_echo BASH_ENV="$room/first" POSIXLY_CORRECT=1 GLOBIGNORE='*' "$@"
+}
 
 # The stand-ins as a toolchain, whose commands are on the PATH.
 set_up_toolchain() {

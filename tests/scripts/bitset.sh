@@ -24,7 +24,7 @@ marks() { printf '%s\n' 'words: u8' "low: $1" "mid: $2" "bitset: $3"; }
 
 run() {
     ended=0
-    "$repository/bitset" u8 < /dev/null > "$room/wrote" 2> "$room/said" || ended=$?
+    "$@" "$repository/bitset" u8 < /dev/null > "$room/wrote" 2> "$room/said" || ended=$?
 }
 
 # Runs it, and looks at how it ended and which marks it wrote.
@@ -100,6 +100,15 @@ run
 expect 'an edit of crates.txt, which has CRLF now, is not heeded' grep -qx 'extra: new' "$room/wrote"
 printf '%s\n' 'low:' 'mid: low' 'bitset: mid' > "$repository/crates.txt"
 expect_marks 'with crates.txt as it was' 6 7 1
+
+run with_options
+expect "where options of bash are exported, with nothing changed, it ended with $ended" ends_with 0
+mark bitset 3
+run with_options
+expect "where options of bash are exported it ended with $ended: $(tail -n 1 "$room/said")" ends_with 0
+expect 'where options of bash are exported another program was run' wrote "$(marks 6 7 3)"
+mark bitset 1
+expect_marks 'with a text that it had' 6 7 1
 
 # With sources that are older than the run nothing but their times is looked at.
 sleep 3.1

@@ -45,6 +45,7 @@ done
 expect 'c/build --proved fails' "$library/c/build" "$room/built" --proved
 expect 'c/build fails in a make that has another BUILD' env MAKEFLAGS=' -- BUILD=theirs' "$library/c/build" "$room/built" --proved
 expect 'c/build fails where make is to say alone what it would do' env MAKEFLAGS=n "$library/c/build" "$room/built" --proved
+expect 'c/build fails where options of bash are exported' with_options "$library/c/build" "$room/built" --proved
 expect 'c/build fails where its input is closed' "$library/c/build" "$room/built" --proved <&-
 for closed in '>&-' '2>&-' '<&- >&- 2>&-'; do
     ended=0

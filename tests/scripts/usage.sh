@@ -15,6 +15,15 @@ for script in add bitset gate look c/build c/clients python/build release diff/r
     expect "$script with wrong words says no usage" says 'usage: '
 done
 
+# Each script that bash runs.
+scripts() {
+    find "$top" "$top"/{bench,c,diff,diff/roaring,python,tests,tools} -maxdepth 1 -type f -exec sed -ns '1{/^#!.* bash$/F}' {} +
+}
+while read -r script; do
+    expect "$script has the options of bash that are exported" grep -qF ' exec env -u SHELLOPTS ' "$script"
+done < <(scripts)
+expect 'there is no script' [ "$(scripts | wc -l)" -gt 20 ]
+
 for words in --cpu '--cpu x86-64-v4' '--cpu x86-64-v3 --wrong' '--cpu=x86-64-v3' "$room/bench no-table"; do
     ended=0
     # shellcheck disable=SC2086  # each word is one
@@ -77,6 +86,14 @@ if command -v rustc > /dev/null; then
     expect "what another toolchain made is taken for new: $(cat "$room/wrote")" ends_with 0
 fi
 
+# Makes of a copy of a library one that `add` takes for its own of an older library.
+make_older() {
+    echo older > crates/bit_set/README.md
+    (cd crates/bit_set && find . -path ./out -prune -o -type f ! -name COPIED -print0 | LC_ALL=C sort -z | xargs -0 sha256sum) \
+        > "$room/sums"
+    cp "$room/sums" crates/bit_set/COPIED
+}
+
 # An empty repository beside that from which libraries are copied.
 from="$room/from"
 mkdir -p "$from" "$room/theirs/crates"
@@ -94,6 +111,9 @@ expect 'add changes how lines of crates.txt end' [ "$(grep -c $'\r$' crates.txt)
 expect 'add writes a line of crates.txt twice' [ "$(grep -c '^bit_set:' crates.txt)" -eq 1 ]
 expect 'add does not say how a library is proved' grep -qF "(cd \"$from/crates/bit_set\" && rt lib)" "$room/wrote"
 expect 'add fails a second time' "$from/add"
+make_older
+expect 'add fails where options of bash are exported' with_options "$from/add"
+expect 'add leaves an older copy where options of bash are exported' not grep -qx older crates/bit_set/README.md
 mv crates.txt named.txt
 ln -s named.txt crates.txt
 sed -i 's/^bit_set:.*/bit_set: older/' named.txt
@@ -111,10 +131,7 @@ case "$*" in *.old) touch "$STAND_INS/moved" && sleep 1 ;; esac
 MOVES
 chmod +x "$room/slow/mv"
 mkdir -p crates/bit_set/out/incremental
-echo older > crates/bit_set/README.md
-(cd crates/bit_set && find . -path ./out -prune -o -type f ! -name COPIED -print0 | LC_ALL=C sort -z | xargs -0 sha256sum) \
-    > "$room/sums"
-cp "$room/sums" crates/bit_set/COPIED
+make_older
 start_group env --default-signal=TERM PATH="$room/slow:$PATH" "$from/add" > "$room/wrote" 2> "$room/said" < /dev/null
 run=$!
 expect 'add does not begin to exchange copies' wait_until [ -e "$STAND_INS/moved" ]

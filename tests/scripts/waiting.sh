@@ -64,6 +64,8 @@ expect "look ends with $ended" ends_with 0
 expect 'look gives the program other words or another input' wrote $'tried: try -- u8\ncount a'
 expect 'look shows what rt says of a program that ended' not says 'run=ended'
 expect 'look does not show what the program says' says 'program: said'
+with_options "$repository/look" u8 <<< 'count a' > "$room/wrote" 2> "$room/said"
+expect 'look writes something else where options of bash are exported' wrote $'tried: try -- u8\ncount a'
 mkdir "$room/relative"
 cd "$room" || exit 1
 TMPDIR=relative look u8 <<< 'count a' > "$room/wrote"
