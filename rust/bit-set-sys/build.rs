@@ -1,5 +1,5 @@
-//! Links the library: that in the folder that the variable BIT_SET_LIBRARY_DIR names, as `c/build` or a release has it,
-//! or else the one that this package has in it for the processor that is built for.
+//! Links the library: that in the folder whose absolute path the variable BIT_SET_LIBRARY_DIR has, as `c/build` or a
+//! release has it, or else the one that this package has in it for the processor that is built for.
 use std::env;
 use std::path::Path;
 
@@ -13,18 +13,29 @@ const PROCESSORS: [(&str, &str, &[&str]); 4] = [
 
 fn main() {
     println!("cargo:rerun-if-env-changed=BIT_SET_LIBRARY_DIR");
-    let folder = env::var("BIT_SET_LIBRARY_DIR")
-        .ok()
-        .filter(|named| !named.is_empty())
-        .or_else(own_library)
-        .unwrap_or_else(|| panic!("{}", missing_library()));
-    // One that does not begin at the root is below the folder of the program, which is not known here.
-    if Path::new(&folder).is_absolute() && !Path::new(&folder).join("libbit_set.a").is_file() {
-        panic!("there is no libbit_set.a in {folder}, which BIT_SET_LIBRARY_DIR names");
-    }
+    let folder = named_library().or_else(own_library).unwrap_or_else(|| panic!("{}", missing_library()));
     println!("cargo:rerun-if-changed={folder}/libbit_set.a");
     println!("cargo:rustc-link-search=native={folder}");
     println!("cargo:rustc-link-lib=static=bit_set");
+}
+
+/// The folder that the variable names, if it names one.
+fn named_library() -> Option<String> {
+    let named = env::var_os("BIT_SET_LIBRARY_DIR").filter(|named| !named.is_empty())?;
+    let Some(folder) = named.to_str() else {
+        panic!("BIT_SET_LIBRARY_DIR is {named:?}, and Cargo takes paths of UTF-8 alone");
+    };
+    // Cargo does not say in which folder it was called, and runs this and the linker in others.
+    if !Path::new(folder).is_absolute() {
+        panic!(
+            "BIT_SET_LIBRARY_DIR is {folder}, and must be an absolute path, as Cargo makes it of one in [env] \
+             that has `relative = true`"
+        );
+    }
+    if !Path::new(folder).join("libbit_set.a").is_file() {
+        panic!("there is no libbit_set.a in {folder}, which BIT_SET_LIBRARY_DIR names");
+    }
+    Some(folder.to_string())
 }
 
 /// What to do where there is no library.

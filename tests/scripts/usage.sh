@@ -194,6 +194,17 @@ if command -v rustc > /dev/null; then
         "$room/build_script" > "$room/wrote" 2> "$room/said"
     expect 'bit-set-sys takes an empty variable for a folder' \
         grep -qxF "cargo:rustc-link-search=native=$room/package/lib/x86-64" "$room/wrote"
+    # Cargo builds in other folders than the one that it is called in.
+    for named in package/lib/x86-64 "$room/package/lib" "$room/"$'\xff'; do
+        ended=0
+        (cd "$room" && BIT_SET_LIBRARY_DIR="$named" ./build_script) > "$room/wrote" 2> "$room/said" || ended=$?
+        expect "bit-set-sys takes the library in $named" not ends_with 0
+        expect "bit-set-sys does not say what is wrong with $named" \
+            grep -q -e 'must be an absolute path' -e 'there is no libbit_set.a' -e 'UTF-8' "$room/said"
+    done
+    BIT_SET_LIBRARY_DIR="$room/package/lib/x86-64" "$room/build_script" > "$room/wrote" 2> "$room/said"
+    expect 'bit-set-sys does not take the folder that is named' \
+        grep -qxF "cargo:rustc-link-search=native=$room/package/lib/x86-64" "$room/wrote"
 fi
 
 # Whatever git is told of how lines end, a release has them as they were committed.
