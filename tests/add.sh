@@ -15,8 +15,8 @@ case "$*" in
     '' | --prove) ;;
     *) echo 'usage: tests/add.sh [--prove]' >&2 && exit 2 ;;
 esac
-room="$(mktemp -d)" || exit 1
-trap 'rm -rf "$room"' EXIT
+. "$top/tools/ending.sh"
+make_room || exit 1
 
 # Counts whether a command succeeds.
 expect() {
@@ -47,6 +47,7 @@ for library in "${libraries[@]}"; do
     echo "$library" > "$from/crates/$library/out/rlib/proved"
 done
 
+# shellcheck disable=SC2120  # the words are those of `expect` and `not`
 add() { "$from/add" "$@"; }
 
 # What a folder has, but for what rt keeps.
@@ -84,80 +85,94 @@ copied() { [ "$(ls crates)" = "$(printf '%s\n' "$@" | sort)" ]; }
 
 same_lines() { [ "$(sort "$1")" = "$(sort "$2")" ]; }
 
-start first
-expect 'add fails in an empty repository' add
-for library in bit_blocks bit_words bit_set; do
-    expect "the copy of $library is not the library" is_copy "$library"
-done
-expect 'a link of the copied documents leads nowhere' links_lead_on
-expect 'crates.txt has not the lines of the libraries' same_lines crates.txt <(grep -E '^bit_(blocks|words|set):' "$top/crates.txt")
-expect 'HANDLES is not written' grep -qx 'Handles allowed: none.' HANDLES
-before="$(texts)"
-expect 'add fails where the copies are up to date' add
-expect 'add changes copies that are up to date' [ "$(texts)" = "$before" ]
-rm crates/bit_set/src/hash.rt
-expect 'add takes a copy that was changed for its own' refuses
+try_first() {
+    start first
+    expect 'add fails in an empty repository' add
+    for library in bit_blocks bit_words bit_set; do
+        expect "the copy of $library is not the library" is_copy "$library"
+    done
+    expect 'a link of the copied documents leads nowhere' links_lead_on
+    expect 'crates.txt has not the lines of the libraries' same_lines crates.txt <(grep -E '^bit_(blocks|words|set):' "$top/crates.txt")
+    expect 'HANDLES is not written' grep -qx 'Handles allowed: none.' HANDLES
+    before="$(texts)"
+    expect 'add fails where the copies are up to date' add
+    expect 'add changes copies that are up to date' [ "$(texts)" = "$before" ]
+    rm crates/bit_set/src/hash.rt
+    expect 'add takes a copy that was changed for its own' refuses
+}
 
-start table
-expect 'add fails with a matrix' add bit_matrix
-for library in bit_set bit_matrix; do
-    expect "the copy of $library beside a matrix is not the library" is_copy "$library"
-done
-expect 'a link of the documents copied with a matrix leads nowhere' links_lead_on
-expect 'crates.txt has no line of the matrix' grep -q '^bit_matrix:' crates.txt
-echo older > crates/bit_matrix/README.md
-(cd crates/bit_matrix && find . -path ./out -prune -o -type f ! -name COPIED -print0 | LC_ALL=C sort -z | xargs -0 sha256sum > COPIED)
-expect 'add fails beside a matrix that it copied' add
-expect 'add leaves an older copy of the matrix' not grep -qx older crates/bit_matrix/README.md
-expect 'add takes an argument that is no library' not add bit_graph
+try_matrix() {
+    start table
+    expect 'add fails with a matrix' add bit_matrix
+    for library in bit_set bit_matrix; do
+        expect "the copy of $library beside a matrix is not the library" is_copy "$library"
+    done
+    expect 'a link of the documents copied with a matrix leads nowhere' links_lead_on
+    expect 'crates.txt has no line of the matrix' grep -q '^bit_matrix:' crates.txt
+    echo older > crates/bit_matrix/README.md
+    (cd crates/bit_matrix && find . -path ./out -prune -o -type f ! -name COPIED -print0 | LC_ALL=C sort -z | xargs -0 sha256sum > COPIED)
+    expect 'add fails beside a matrix that it copied' add
+    expect 'add leaves an older copy of the matrix' not grep -qx older crates/bit_matrix/README.md
+    expect 'add takes an argument that is no library' not add bit_graph
+}
 
-start walks
-expect 'add fails with a library above the matrix' add graph_walks
-expect 'add does not copy what a library stands on' copied bit_blocks bit_words bit_set bit_matrix graph_walks
-expect 'the copy of graph_walks is not the library' is_copy graph_walks
-expect 'a link of the documents copied with graph_walks leads nowhere' links_lead_on
-expect 'add fails with two more libraries' add free_slots roaring
-expect 'add does not copy two more' copied bit_blocks bit_words bit_set bit_matrix graph_walks free_slots roaring
+try_walks() {
+    start walks
+    expect 'add fails with a library above the matrix' add graph_walks
+    expect 'add does not copy what a library stands on' copied bit_blocks bit_words bit_set bit_matrix graph_walks
+    expect 'the copy of graph_walks is not the library' is_copy graph_walks
+    expect 'a link of the documents copied with graph_walks leads nowhere' links_lead_on
+    expect 'add fails with two more libraries' add free_slots roaring
+    expect 'add does not copy two more' copied bit_blocks bit_words bit_set bit_matrix graph_walks free_slots roaring
+}
 
-start all
-expect 'add fails with all libraries' add dataflow automata free_slots graph_walks roaring
-expect 'add does not copy all' copied "${libraries[@]}"
-for library in "${libraries[@]}"; do
-    expect "the copy of $library beside all is not the library" is_copy "$library"
-    expect "crates.txt has not one line of $library" [ "$(grep -c "^$library:" crates.txt)" -eq 1 ]
-done
-expect 'a link of all copied documents leads nowhere' links_lead_on
+try_everything() {
+    start all
+    expect 'add fails with all libraries' add dataflow automata free_slots graph_walks roaring
+    expect 'add does not copy all' copied "${libraries[@]}"
+    for library in "${libraries[@]}"; do
+        expect "the copy of $library beside all is not the library" is_copy "$library"
+        expect "crates.txt has not one line of $library" [ "$(grep -c "^$library:" crates.txt)" -eq 1 ]
+    done
+    expect 'a link of all copied documents leads nowhere' links_lead_on
+}
 
-start older
-expect 'add fails' add
-sed -i '$d' crates/bit_set/proofs/Lib.antt
-listed="$(cd crates/bit_set && find . -path ./out -prune -o -type f ! -name COPIED -print0 | LC_ALL=C sort -z | xargs -0 sha256sum)"
-echo "$listed" > crates/bit_set/COPIED
-echo older > crates/bit_set/out/rlib/proved
-mkdir -p crates/bit_set/out/incremental
-expect 'add fails to bring a copy up to date' add
-expect 'add does not bring a copy up to date' is_copy bit_set
-expect 'add takes away what rt kept of a copy' [ -d crates/bit_set/out/incremental ]
+try_older() {
+    start older
+    expect 'add fails' add
+    sed -i '$d' crates/bit_set/proofs/Lib.antt
+    listed="$(cd crates/bit_set && find . -path ./out -prune -o -type f ! -name COPIED -print0 | LC_ALL=C sort -z | xargs -0 sha256sum)"
+    echo "$listed" > crates/bit_set/COPIED
+    echo older > crates/bit_set/out/rlib/proved
+    mkdir -p crates/bit_set/out/incremental
+    expect 'add fails to bring a copy up to date' add
+    expect 'add does not bring a copy up to date' is_copy bit_set
+    expect 'add takes away what rt kept of a copy' [ -d crates/bit_set/out/incremental ]
+}
 
-start mine
-mkdir -p crates/mine/src
-printf '# mine\nmine: std' > crates.txt
-echo 'Handles allowed: Files.' > HANDLES
-echo '// mine' > crates/mine/src/lib.rt
-expect 'add fails beside crates of the user' add
-expect 'add changes HANDLES' grep -qx 'Handles allowed: Files.' HANDLES
-expect 'add changes the lines of crates.txt' [ "$(head -n 2 crates.txt)" = $'# mine\nmine: std' ]
-expect 'add changes the crates of the user' [ "$(cat crates/mine/src/lib.rt)" = '// mine' ]
+try_mine() {
+    start mine
+    mkdir -p crates/mine/src
+    printf '# mine\nmine: std' > crates.txt
+    echo 'Handles allowed: Files.' > HANDLES
+    echo '// mine' > crates/mine/src/lib.rt
+    expect 'add fails beside crates of the user' add
+    expect 'add changes HANDLES' grep -qx 'Handles allowed: Files.' HANDLES
+    expect 'add changes the lines of crates.txt' [ "$(head -n 2 crates.txt)" = $'# mine\nmine: std' ]
+    expect 'add changes the crates of the user' [ "$(cat crates/mine/src/lib.rt)" = '// mine' ]
+}
 
-start theirs
-mkdir -p crates/bit_set/src
-echo '// theirs' > crates/bit_set/src/lib.rt
-expect 'add takes a crate of the user for its copy' refuses
-rm -r crates
-echo 'bit_set: another' > crates.txt
-expect 'add takes a line of the user for its own' refuses
-rm -r crates.txt .git
-expect 'add runs outside a repository' refuses
+try_theirs() {
+    start theirs
+    mkdir -p crates/bit_set/src
+    echo '// theirs' > crates/bit_set/src/lib.rt
+    expect 'add takes a crate of the user for its copy' refuses
+    rm -r crates
+    echo 'bit_set: another' > crates.txt
+    expect 'add takes a line of the user for its own' refuses
+    rm -r crates.txt .git
+    expect 'add runs outside a repository' refuses
+}
 
 # README's blocks, and the lines around the function, as files of the crate `mine`.
 write_example() {
@@ -183,9 +198,24 @@ prove_example() {
     [ "$status" -eq 0 ] && grep -qF '{0, 2, 4, 6, 8}' said
 }
 
-if [ "${1:-}" = --prove ]; then
-    start example
-    expect "README's example is not proved" prove_example
-fi
-echo "$passed passed, $failed failed"
-[ "$failed" -eq 0 ]
+try_all() {
+    try_first
+    try_matrix
+    try_walks
+    try_everything
+    try_older
+    try_mine
+    try_theirs
+    if [ "${1:-}" = --prove ]; then
+        start example
+        expect "README's example is not proved" prove_example
+    fi
+    echo "$passed passed, $failed failed"
+    [ "$failed" -eq 0 ]
+}
+
+# Bash reads all of this before it begins, so an edit of this script meanwhile is for the next run.
+{
+    run_group try_all "$@" < /dev/null
+    exit
+}

@@ -7,8 +7,8 @@ set -uo pipefail
 unset CDPATH GLOBIGNORE POSIXLY_CORRECT
 top="$(dirname "$(dirname "$(readlink -f "${BASH_SOURCE[0]}")")")"
 kit="$(dirname "$(rt doc | head -n 1)")"
-room="$(mktemp -d)" || exit 1
-trap 'rm -rf "$room"' EXIT
+. "$top/tools/ending.sh"
+make_room || exit 1
 
 # What a crate's line in crates.txt names.
 named_by() {
@@ -36,15 +36,23 @@ look_below() {
     fi
 }
 
-look_below bitset
-cd "$room/bitset" || exit 1
-if rattle check --crate-name bitset --only '' --extern "std=$kit/rlibs/std.rlib" "${words[@]}" \
-    -L "dependency=$kit/rlibs" --antt-project "$kit/rattle/logic/antt-project.json" --logic-built "$kit/logic_built" \
-    src/main.rt > "$room/said" 2>&1; then
-    echo '1 passed, 0 failed'
-else
-    cat "$room/said"
-    echo 'FAILED: without what left_out.txt names the program does not compile'
-    echo '0 passed, 1 failed'
-    exit 1
-fi
+try_all() {
+    look_below bitset
+    cd "$room/bitset" || exit 1
+    if rattle check --crate-name bitset --only '' --extern "std=$kit/rlibs/std.rlib" "${words[@]}" \
+        -L "dependency=$kit/rlibs" --antt-project "$kit/rattle/logic/antt-project.json" --logic-built "$kit/logic_built" \
+        src/main.rt > "$room/said" 2>&1; then
+        echo '1 passed, 0 failed'
+    else
+        cat "$room/said"
+        echo 'FAILED: without what left_out.txt names the program does not compile'
+        echo '0 passed, 1 failed'
+        exit 1
+    fi
+}
+
+# Bash reads all of this before it begins, so an edit of this script meanwhile is for the next run.
+{
+    run_group try_all < /dev/null
+    exit
+}

@@ -8,10 +8,11 @@
 set -uo pipefail
 unset CDPATH GLOBIGNORE POSIXLY_CORRECT
 here="$(dirname "$(readlink -f "${BASH_SOURCE[0]}")")"
+top="$(dirname "$here")"
 passed=0
 failed=0
-room="$(mktemp -d)" || exit 1
-trap 'rm -rf "$room"' EXIT
+. "$top/tools/ending.sh"
+make_room || exit 1
 
 fail() {
     echo "FAILED: $1"
@@ -45,7 +46,7 @@ try_edit() {
     crate="$room/crates/$(line_of "$edit" crate)"
     file="$(line_of "$edit" file)"
     says="$(line_of "$edit" says)"
-    (cd "$here/.." && tar cf - --exclude=out crates.txt crates) | tar xf - -C "$room"
+    (cd "$top" && tar cf - --exclude=out crates.txt crates) | tar xf - -C "$room"
     if ! apply "$crate/$file" "$(line_of "$edit" old)" "$(line_of "$edit" new)"; then
         fail "$name: its old text is not in $file, or more than once"
         return
@@ -63,8 +64,16 @@ try_edit() {
     fi
 }
 
-for edit in "$here"/misuse/*.edit; do
-    try_edit "$edit"
-done
-echo "$passed passed, $failed failed"
-[ "$failed" -eq 0 ]
+try_all() {
+    for edit in "$here"/misuse/*.edit; do
+        try_edit "$edit"
+    done
+    echo "$passed passed, $failed failed"
+    [ "$failed" -eq 0 ]
+}
+
+# Bash reads all of this before it begins, so an edit of this script meanwhile is for the next run.
+{
+    run_group try_all < /dev/null
+    exit
+}

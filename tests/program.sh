@@ -18,8 +18,8 @@ passed=0
 failed=0
 
 # In a folder of its own, where each run leaves the files `wrote` and `said`, and `rest` where it leaves input.
-room="$(mktemp -d)" || exit 1
-trap 'rm -rf "$room"' EXIT
+. "$top/tools/ending.sh"
+make_room || exit 1
 cd "$room" || exit 1
 : > nothing
 
@@ -52,7 +52,7 @@ judge() {
     forget
 }
 
-bitset() { timeout 60 "$program" "$@"; }
+bitset() { timeout --foreground 60 "$program" "$@"; }
 
 stored_run() { bitset "$@" < "$stored/stdin" > wrote 2> said; }
 
@@ -61,67 +61,88 @@ if ! [ -x "$program" ]; then
     echo "$passed passed, $failed failed"
     exit 1
 fi
-forget
-stored_run
-judge 'no word' $? 0 "$stored/stdout" ''
-for word in u8 u16 u32 u64 usize u128; do
-    stored_run "$word"
-    judge "$word" $? 0 "$stored/stdout" ''
-    bitset "$word" < "$examples/sets.txt" > wrote 2> said
-    judge "most verbs under $word" $? 0 "$examples/sets.replies.txt" ''
-    bitset "$word" < "$examples/parts.txt" > wrote 2> said
-    judge "append and split_off under $word" $? 0 "$examples/parts.replies.txt" ''
-    echo 'reserve a 18446744073709551615' | bitset "$word" > wrote 2> said
-    judge "room that no memory has, under $word" $? 3 nothing 'memory refused'
-done
-for word in u9 U8 u8x u '' --help; do
-    stored_run "$word"
-    judge "the word '$word'" $? 2 nothing "$usage"
-done
-for words in 'u8 u8' 'u128 u8' 'u9 u8' 'u8 u9' 'usize x' 'u8 u16 u32' 'u32 u32 u32'; do
-    # shellcheck disable=SC2086  # each word is one
-    stored_run $words
-    judge "the words $words" $? 2 nothing "$usage"
-done
-stored_run $'\xff'
-judge 'a word that is no UTF-8' $? 3 nothing 'memory refused'
+
+try_words() {
+    stored_run
+    judge 'no word' $? 0 "$stored/stdout" ''
+    for word in u8 u16 u32 u64 usize u128; do
+        stored_run "$word"
+        judge "$word" $? 0 "$stored/stdout" ''
+        bitset "$word" < "$examples/sets.txt" > wrote 2> said
+        judge "most verbs under $word" $? 0 "$examples/sets.replies.txt" ''
+        bitset "$word" < "$examples/parts.txt" > wrote 2> said
+        judge "append and split_off under $word" $? 0 "$examples/parts.replies.txt" ''
+        echo 'reserve a 18446744073709551615' | bitset "$word" > wrote 2> said
+        judge "room that no memory has, under $word" $? 3 nothing 'memory refused'
+    done
+    for word in u9 U8 u8x u '' --help; do
+        stored_run "$word"
+        judge "the word '$word'" $? 2 nothing "$usage"
+    done
+    for words in 'u8 u8' 'u128 u8' 'u9 u8' 'u8 u9' 'usize x' 'u8 u16 u32' 'u32 u32 u32'; do
+        # shellcheck disable=SC2086  # each word is one
+        stored_run $words
+        judge "the words $words" $? 2 nothing "$usage"
+    done
+    stored_run $'\xff'
+    judge 'a word that is no UTF-8' $? 3 nothing 'memory refused'
+}
 
 # A run that has no use for its input leaves it to the next.
-{
-    bitset u9 > wrote 2> said
-    ended=$?
-    cat > rest
-} < "$stored/stdin"
-if cmp rest "$stored/stdin"; then
-    judge 'input beside a wrong word' "$ended" 2 nothing "$usage"
-else
-    fail 'input beside a wrong word: it took some of it'
+try_unread() {
+    {
+        bitset u9 > wrote 2> said
+        ended=$?
+        cat > rest
+    } < "$stored/stdin"
+    if cmp rest "$stored/stdin"; then
+        judge 'input beside a wrong word' "$ended" 2 nothing "$usage"
+    else
+        fail 'input beside a wrong word: it took some of it'
+        forget
+    fi
+}
+
+try_inputs() {
+    bitset < nothing > wrote 2> said
+    judge 'empty input' $? 0 nothing ''
+    echo 'insert a 18446744073709551614' | bitset > wrote 2> said
+    judge 'a set that no memory holds' $? 3 nothing 'memory refused'
+
+    yes '' | head -c 1048576 > lines
+    yes 'bad command' | head -n 1048576 > replies
+    bitset < lines > wrote 2> said
+    judge '1,048,576 bytes' $? 0 replies ''
+    echo >> lines
+    bitset < lines > wrote 2> said
+    judge '1,048,577 bytes' $? 5 nothing 'input too large'
+}
+
+try_streams() {
+    bitset < . > wrote 2> said
+    judge 'a folder as input' $? 4 nothing 'read failed'
+    bitset <&- > wrote 2> said
+    judge 'a closed standard input' $? 4 nothing 'read failed'
+    bitset < "$stored/stdin" > /dev/full 2> said
+    judge 'a full disk' $? 4 - 'write failed'
+    bitset < "$stored/stdin" >&- 2> said
+    judge 'a closed standard output' $? 4 - 'write failed'
+    bitset u9 < "$stored/stdin" > wrote 2>&-
+    judge 'a closed standard error' $? 2 nothing -
+}
+
+try_all() {
     forget
-fi
+    try_words
+    try_unread
+    try_inputs
+    try_streams
+    echo "$passed passed, $failed failed"
+    [ "$failed" -eq 0 ]
+}
 
-bitset < nothing > wrote 2> said
-judge 'empty input' $? 0 nothing ''
-echo 'insert a 18446744073709551614' | bitset > wrote 2> said
-judge 'a set that no memory holds' $? 3 nothing 'memory refused'
-
-yes '' | head -c 1048576 > lines
-yes 'bad command' | head -n 1048576 > replies
-bitset < lines > wrote 2> said
-judge '1,048,576 bytes' $? 0 replies ''
-echo >> lines
-bitset < lines > wrote 2> said
-judge '1,048,577 bytes' $? 5 nothing 'input too large'
-
-bitset < . > wrote 2> said
-judge 'a folder as input' $? 4 nothing 'read failed'
-bitset <&- > wrote 2> said
-judge 'a closed standard input' $? 4 nothing 'read failed'
-bitset < "$stored/stdin" > /dev/full 2> said
-judge 'a full disk' $? 4 - 'write failed'
-bitset < "$stored/stdin" >&- 2> said
-judge 'a closed standard output' $? 4 - 'write failed'
-bitset u9 < "$stored/stdin" > wrote 2>&-
-judge 'a closed standard error' $? 2 nothing -
-
-echo "$passed passed, $failed failed"
-[ "$failed" -eq 0 ]
+# Bash reads all of this before it begins, so an edit of this script meanwhile is for the next run.
+{
+    run_group try_all < /dev/null
+    exit
+}

@@ -15,7 +15,8 @@ refusals="$(readlink -f "$1")"
 roaring_refusals="$(readlink -f "$2")"
 bitset="$(readlink -f "$3")"
 here="$(dirname "$(readlink -f "${BASH_SOURCE[0]}")")"
-crates="$(dirname "$here")/crates"
+top="$(dirname "$here")"
+crates="$top/crates"
 # No run asks for memory so often.
 most=1000
 passed=0
@@ -33,8 +34,8 @@ fail() {
 }
 
 # In a folder of its own, where each run leaves the files `wrote`, `said` and `counts`.
-room="$(mktemp -d)" || exit 1
-trap 'rm -rf "$room"' EXIT
+. "$top/tools/ending.sh"
+make_room || exit 1
 if ! command -v cc > /dev/null; then
     fail 'there is no cc to make a library of tests/shim.c with'
     finish
@@ -53,10 +54,10 @@ cd "$room" || exit 1
 : | tee nothing > wrote
 
 # Runs a program behind the shim, with these of the shim's variables before it, and keeps its status, the counts, and
-# the bytes of each request.
+# the bytes of each request. The shim's path has none of the spaces that `room` may have.
 shimmed() {
     rm -f counts
-    timeout 60 env LD_PRELOAD="$room/shim.so" SHIM_COUNTS=counts "$@" > wrote 2> said
+    timeout --foreground 60 env LD_PRELOAD=./shim.so SHIM_COUNTS=counts "$@" > wrote 2> said
     status=$?
     requests=-1
     reads=-1
@@ -143,11 +144,10 @@ sweep_all() {
     judge "all calls of $stored" 0 "$stored" '' 'requests > 0'
 }
 
-sweep_all "$refusals" "$crates/refusals/stdout"
-sweep_all "$roaring_refusals" "$crates/roaring_refusals/stdout"
-
 # The whole program, where one of its requests after another fails: then nothing is written.
-cat > short << 'END'
+try_requests() {
+    local word all n
+    cat > short << 'END'
 extend a 3 447
 insert b 5000
 copy a c
@@ -160,7 +160,7 @@ reserve a 9000
 reserve_exact b 9000
 shrink a
 END
-cat > replies << 'END'
+    cat > replies << 'END'
 ok
 true
 ok
@@ -173,44 +173,47 @@ ok
 ok
 ok
 END
-for word in u8 u32 u64 u128; do
-    shimmed "$bitset" "$word" < short
-    judge "$word: no request fails" 0 replies '' 'requests > 1 && writes > 0' || continue
-    # Where a summary is stored, the last of them is for the smaller one of the set that is shrunk. Where it fails the
-    # capacity is that of the blocks already, so the shrink has done what it is for.
-    all=0
-    [[ "$word" != u@(8|32) ]] || all="$requests"
-    for ((n = 1; n <= most; n++)); do
-        shimmed SHIM_FAIL="$n" "$bitset" "$word" < short
-        if [ "$requests" -lt "$n" ]; then
-            break
-        elif [ "$n" -eq "$all" ]; then
-            judge "$word: the last request fails" 0 replies '' 'requests == n && writes > 0' || break
-        elif [ "$status" -eq 0 ]; then
-            judge "$word: request $n fails, and another is made for it" 0 replies '' 'requests > n' || break
-        else
-            judge "$word: request $n fails" 3 nothing 'memory refused' 'writes == 0' || break
-        fi
+    for word in u8 u32 u64 u128; do
+        shimmed "$bitset" "$word" < short
+        judge "$word: no request fails" 0 replies '' 'requests > 1 && writes > 0' || continue
+        # Where a summary is stored, the last of them is for the smaller one of the set that is shrunk. Where it fails the
+        # capacity is that of the blocks already, so the shrink has done what it is for.
+        all=0
+        [[ "$word" != u@(8|32) ]] || all="$requests"
+        for ((n = 1; n <= most; n++)); do
+            shimmed SHIM_FAIL="$n" "$bitset" "$word" < short
+            if [ "$requests" -lt "$n" ]; then
+                break
+            elif [ "$n" -eq "$all" ]; then
+                judge "$word: the last request fails" 0 replies '' 'requests == n && writes > 0' || break
+            elif [ "$status" -eq 0 ]; then
+                judge "$word: request $n fails, and another is made for it" 0 replies '' 'requests > n' || break
+            else
+                judge "$word: request $n fails" 3 nothing 'memory refused' 'writes == 0' || break
+            fi
+        done
+        judge "$word: past the last request" 0 replies '' 'n > 1 && requests == n - 1 && writes > 0'
     done
-    judge "$word: past the last request" 0 replies '' 'n > 1 && requests == n - 1 && writes > 0'
-done
+}
 
 # Each word has its own type of blocks: capacity for 8,000,000 numbers is a million bytes of blocks, and a bit for each of
 # these blocks, in blocks of the same type. Nothing else is so large. `u64` and `usize` have blocks of one size. With no
 # word it is `u32`.
-echo ok > replies
-while read -r word summary; do
-    words=("$word")
-    [ "$word" != none ] || words=()
-    shimmed "$bitset" "${words[@]}" <<< 'reserve a 8000000'
-    judge "$word: capacity for 8,000,000 numbers" 0 replies '' 'requests > 0' || continue
-    large="$(printf '%s\n' "${sizes[@]}" | awk '$1 > 4096' | sort -n | tr '\n' ' ')"
-    if [ "$large" = "$summary 1000000 " ]; then
-        passed=$((passed + 1))
-    else
-        fail "$word: capacity for 8,000,000 numbers: its large requests have these bytes: $large"
-    fi
-done << 'END'
+try_sizes() {
+    local word summary words large
+    echo ok > replies
+    while read -r word summary; do
+        words=("$word")
+        [ "$word" != none ] || words=()
+        shimmed "$bitset" "${words[@]}" <<< 'reserve a 8000000'
+        judge "$word: capacity for 8,000,000 numbers" 0 replies '' 'requests > 0' || continue
+        large="$(printf '%s\n' "${sizes[@]}" | awk '$1 > 4096' | sort -n | tr '\n' ' ')"
+        if [ "$large" = "$summary 1000000 " ]; then
+            passed=$((passed + 1))
+        else
+            fail "$word: capacity for 8,000,000 numbers: its large requests have these bytes: $large"
+        fi
+    done << 'END'
 none 31252
 u8 125000
 u16 62500
@@ -219,18 +222,22 @@ u64 15632
 usize 15632
 u128 7824
 END
+}
 
 # A line that needs no memory takes none: a thousand ask for no more than one, but for the input of 13,000 bytes and the
 # output of 6,000. Each of these doubles, the first from a read of 8,192 bytes, and the second from 8 bytes.
-echo 'contains a 1' > contains
-echo false > replies
-shimmed "$bitset" < contains
-judge 'a line that needs no memory' 0 replies '' 'requests > 0'
-no_more="requests <= $requests + 1 + 10 && bytes <= $bytes + 4 * 13000 + 4 * 6000"
-yes 'contains a 1' | head -n 1000 > contains
-yes false | head -n 1000 > replies
-shimmed "$bitset" < contains
-judge 'a thousand lines that need no memory' 0 replies '' "requests > 0 && $no_more"
+try_no_memory() {
+    local no_more
+    echo 'contains a 1' > contains
+    echo false > replies
+    shimmed "$bitset" < contains
+    judge 'a line that needs no memory' 0 replies '' 'requests > 0'
+    no_more="requests <= $requests + 1 + 10 && bytes <= $bytes + 4 * 13000 + 4 * 6000"
+    yes 'contains a 1' | head -n 1000 > contains
+    yes false | head -n 1000 > replies
+    shimmed "$bitset" < contains
+    judge 'a thousand lines that need no memory' 0 replies '' "requests > 0 && $no_more"
+}
 
 # What the four commands of the lines below reply, of which the last may be cut short.
 replies_to() {
@@ -244,42 +251,64 @@ replies_to() {
 }
 
 # Each of its reads otherwise, which are of 8192 bytes at most. One that gives no byte is the end of the input.
-for ((number = 1; number <= 500; number++)); do
-    printf '%s\n' "insert a $number" 'count a' "remove b $number" "truncate c $number"
-done > lines
-replies_to < lines > replies
-shimmed "$bitset" < lines
-judge 'each read and write as ever' 0 replies '' 'reads > 3 && writes > 0'
-calls="$reads"
-for ((n = 1; n <= calls; n++)); do
-    for error in EIO EINTR ENOSPC; do
-        shimmed SHIM_READ="$n:$error" "$bitset" < lines
-        judge "$error at read $n" 4 nothing 'read failed' 'reads == n && writes == 0'
+try_reads() {
+    local number n error calls
+    for ((number = 1; number <= 500; number++)); do
+        printf '%s\n' "insert a $number" 'count a' "remove b $number" "truncate c $number"
+    done > lines
+    replies_to < lines > replies
+    shimmed "$bitset" < lines
+    judge 'each read and write as ever' 0 replies '' 'reads > 3 && writes > 0'
+    calls="$reads"
+    for ((n = 1; n <= calls; n++)); do
+        for error in EIO EINTR ENOSPC; do
+            shimmed SHIM_READ="$n:$error" "$bitset" < lines
+            judge "$error at read $n" 4 nothing 'read failed' 'reads == n && writes == 0'
+        done
+        shimmed SHIM_READ="$n:short" "$bitset" < lines
+        judge "a short read $n" 0 replies '' 'reads >= calls'
+        head -c $(((n - 1) * 8192)) lines | replies_to > front
+        shimmed SHIM_READ="$n:0" "$bitset" < lines
+        judge "no byte at read $n" 0 front '' 'reads == n'
     done
-    shimmed SHIM_READ="$n:short" "$bitset" < lines
-    judge "a short read $n" 0 replies '' 'reads >= calls'
-    head -c $(((n - 1) * 8192)) lines | replies_to > front
-    shimmed SHIM_READ="$n:0" "$bitset" < lines
-    judge "no byte at read $n" 0 front '' 'reads == n'
-done
-shimmed SHIM_READ=0:short "$bitset" < lines
-judge 'each read short' 0 replies '' "reads == $(wc -c < lines) + 1"
-shimmed SHIM_READ=0:short "$bitset" < <(yes '')
-judge 'each read short, with no end' 5 nothing 'input too large' 'reads == 1048577 && writes == 0'
+    shimmed SHIM_READ=0:short "$bitset" < lines
+    judge 'each read short' 0 replies '' "reads == $(wc -c < lines) + 1"
+    shimmed SHIM_READ=0:short "$bitset" < <(yes '')
+    judge 'each read short, with no end' 5 nothing 'input too large' 'reads == 1048577 && writes == 0'
+}
 
 # Each of its writes otherwise, which are kept to 3000 bytes here. What was written is a beginning.
-shimmed SHIM_PIECE=3000 "$bitset" < lines
-judge 'each write in pieces' 0 replies '' 'writes > 2'
-calls="$writes"
-for ((n = 1; n <= calls; n++)); do
-    head -c $(((n - 1) * 3000)) replies > front
-    for error in EIO EINTR ENOSPC 0; do
-        shimmed SHIM_PIECE=3000 SHIM_WRITE="$n:$error" "$bitset" < lines
-        judge "$error at write $n" 4 front 'write failed' 'writes == n'
+try_writes() {
+    local n error calls
+    shimmed SHIM_PIECE=3000 "$bitset" < lines
+    judge 'each write in pieces' 0 replies '' 'writes > 2'
+    calls="$writes"
+    for ((n = 1; n <= calls; n++)); do
+        head -c $(((n - 1) * 3000)) replies > front
+        for error in EIO EINTR ENOSPC 0; do
+            shimmed SHIM_PIECE=3000 SHIM_WRITE="$n:$error" "$bitset" < lines
+            judge "$error at write $n" 4 front 'write failed' 'writes == n'
+        done
+        shimmed SHIM_PIECE=3000 SHIM_WRITE="$n:short" "$bitset" < lines
+        judge "a short write $n" 0 replies '' 'writes >= calls'
     done
-    shimmed SHIM_PIECE=3000 SHIM_WRITE="$n:short" "$bitset" < lines
-    judge "a short write $n" 0 replies '' 'writes >= calls'
-done
-shimmed SHIM_WRITE=0:short "$bitset" < lines
-judge 'each write short' 0 replies '' "writes == $(wc -c < replies)"
-finish
+    shimmed SHIM_WRITE=0:short "$bitset" < lines
+    judge 'each write short' 0 replies '' "writes == $(wc -c < replies)"
+}
+
+try_all() {
+    sweep_all "$refusals" "$crates/refusals/stdout"
+    sweep_all "$roaring_refusals" "$crates/roaring_refusals/stdout"
+    try_requests
+    try_sizes
+    try_no_memory
+    try_reads
+    try_writes
+    finish
+}
+
+# Bash reads all of this before it begins, so an edit of this script meanwhile is for the next run.
+{
+    run_group try_all < /dev/null
+    exit
+}

@@ -95,6 +95,29 @@ for signal in HUP INT QUIT TERM; do
 done
 find "$library/crates" -mindepth 1 -maxdepth 1 ! -name bit_set_c -exec rm -r {} +
 
+# Tests that take long, over what only begins: the library for C, an edit that is compiled, the program's sources, and a
+# program that stands for those that are tried, and for what tries them.
+cp -r "$top"/tests/{{c,misuse}.sh,shim.c,c_surface.py} "$library/tests"
+mkdir "$library/tests/misuse" "$repository/tests" "$room/waiting"
+cp "$top/tests/first_run.sh" "$repository/tests"
+echo 'a text' > "$library/crates/bit_set_c/src/text.rt"
+printf '%s\n' 'crate: bit_set_c' 'file: src/text.rt' 'old: a text' 'new: another' 'says: none' > "$library/tests/misuse/a.edit"
+printf '%s\n' '#!/bin/sh' 'echo "program $$ waits" >> "$STAND_INS/calls"' 'exec sleep 30' > "$room/waiting/program"
+chmod +x "$room/waiting/program"
+ln -s program "$room/waiting/valgrind"
+ln -s program "$room/waiting/git"
+waits="$room/waiting/program"
+for signal in INT TERM; do
+    ended_by_signal tests/c.sh "$signal" 'bit_set_c$' "$library/tests/c.sh"
+    ended_by_signal tests/misuse.sh "$signal" try "$library/tests/misuse.sh"
+    ended_by_signal tests/first_run.sh "$signal" 'bitset$' "$repository/tests/first_run.sh"
+    ended_by_signal tests/program.sh "$signal" waits "$top/tests/program.sh" "$waits"
+    ended_by_signal tests/refusals.sh "$signal" waits "$top/tests/refusals.sh" "$waits" "$waits" "$waits"
+    ended_by_signal tests/scaling.sh "$signal" waits env PATH="$room/waiting:$PATH" "$top/tests/scaling.sh" "$waits"
+    ended_by_signal tests/add.sh "$signal" waits env PATH="$room/waiting:$PATH" "$top/tests/add.sh"
+done
+rm -r "$library/tests/misuse" "$library/crates/bit_set_c/src/text.rt"
+
 # Two runs for one folder: the second waits.
 take_seconds 1
 forget_calls
