@@ -13,12 +13,16 @@ cd "$(dirname "$(dirname "$(readlink -f "${BASH_SOURCE[0]}")")")" || exit 1
 . tools/ending.sh
 # rt keeps the copy there that it proves, and leaves it where it is ended.
 make_room || exit 1
-kept="$(dirname "$(dirname "$(rt doc | head -n 1)")")/rattle-kept"
-# rt makes the folder itself, where it can.
-if [ "${CI:-}" != true ] && { [ -O "$kept" ] || { [ ! -e "$kept" ] && [ -w "$(dirname "$kept")" ]; }; }; then
-    for crate in graph_walks refusals; do
-        run_group rt ci "$crate" < /dev/null > "$room/said" 2>&1
-        echo "ahead: $crate: $(tail -n 1 "$room/said")"
-    done
-fi
-echo '0 passed, 0 failed'
+# Bash reads all of this before it begins, so an edit of this script meanwhile is for the next run.
+{
+    kept="$(dirname "$(dirname "$(rt doc | head -n 1)")")/rattle-kept"
+    # rt makes the folder itself, where it can.
+    if [ "${CI:-}" != true ] && { [ -O "$kept" ] || { [ ! -e "$kept" ] && [ -w "$(dirname "$kept")" ]; }; }; then
+        for crate in graph_walks refusals; do
+            run_group rt ci "$crate" < /dev/null > "$room/said" 2>&1
+            echo "ahead: $crate: $(tail -n 1 "$room/said")"
+        done
+    fi
+    echo '0 passed, 0 failed'
+    exit
+}

@@ -111,13 +111,17 @@ finish() {
     done
 }
 
-try_files
-begin 13 try_root 13 trixie cargo,gcc-aarch64-linux-gnu,libc6-dev-arm64-cross
-begin arm try_arm
-begin 12 try_root 12 bookworm ''
-begin 11 try_root 11 bullseye ''
-begin here try_here
-begin musl try_musl
-finish
-echo "$passed passed, $failed failed"
-[ "$failed" -eq 0 ]
+# Bash reads all of this before it begins, so an edit of this script meanwhile is for the next run.
+{
+    try_files
+    begin 13 try_root 13 trixie cargo,gcc-aarch64-linux-gnu,libc6-dev-arm64-cross
+    begin arm try_arm
+    begin 12 try_root 12 bookworm ''
+    begin 11 try_root 11 bullseye ''
+    begin here try_here
+    begin musl try_musl
+    finish
+    echo "$passed passed, $failed failed"
+    [ "$failed" -eq 0 ]
+    exit
+}

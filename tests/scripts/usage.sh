@@ -21,6 +21,8 @@ scripts() {
 }
 while read -r script; do
     expect "$script has the options of bash that are exported" grep -qF ' exec env -u SHELLOPTS ' "$script"
+    # What `exec` runs has the rest of a script in it.
+    expect "an edit changes a run of $script" grep -qE '^(# Bash reads all of this before|exec (python3|awk) )' "$script"
 done < <(scripts)
 expect 'there is no script' [ "$(scripts | wc -l)" -gt 20 ]
 
