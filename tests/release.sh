@@ -29,7 +29,7 @@ mkdir -p "$roots" || exit 1
 roots="$(readlink -f "$roots")"
 # shellcheck source=../tools/ending.sh
 . "$here/../tools/ending.sh"
-make_room
+make_room || exit 1
 version="$(basename "$release"/bit-set-sys-*.crate .crate)"
 version="${version#bit-set-sys-}"
 # Some twelve calls each.

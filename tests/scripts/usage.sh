@@ -147,6 +147,7 @@ cd "$top" || exit 1
 
 # Without a folder for temporary files a script would work at the root of the file system.
 expect 'a test goes on without a temporary folder' not grep -rq 'mktemp -d)"$' "$top/tests" --include='*.sh'
+expect 'a test of a release goes on without a temporary folder' grep -qx 'make_room || exit 1' "$top/tests/release.sh"
 # A pipe ends as its last command does, whatever the program ended with that wrote into it.
 expect 'a test of a release loses how a program ends' not grep -rqE '[^|][|] cmp ' "$top/tests/release"
 
