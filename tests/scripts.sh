@@ -16,6 +16,9 @@ unset GIT_DIR GIT_WORK_TREE GIT_INDEX_FILE GIT_OBJECT_DIRECTORY GIT_COMMON_DIR
 here="$(dirname "$(readlink -f "${BASH_SOURCE[0]}")")"
 top="$(dirname "$here")"
 . "$top/tools/ending.sh"
+# A locale in which a comma stands before a fraction, where there is one.
+# shellcheck disable=SC2034  # what the parts read
+comma="$(locale -a 2> /dev/null | grep -m 1 '^\(de_DE\|fr_FR\|tr_TR\)\.utf8$')"
 passed=0
 failed=0
 case "$*" in

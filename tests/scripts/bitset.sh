@@ -115,6 +115,8 @@ sleep 3.1
 expect_marks 'with older sources' 6 7 1
 forget_calls
 expect_marks 'with older sources, once more' 6 7 1
+run env LC_ALL="${comma:-C}"
+expect "under $comma it ends with $ended" ends_with 0
 expect 'it asks rt where nothing has changed' not is_called version
 mark low 7
 expect_marks 'with a change of an older source' 7 7 1

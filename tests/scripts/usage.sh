@@ -220,7 +220,6 @@ expect 'an archive has other ends of lines where core.autocrlf is true' \
     cmp "$library/script" <(git -C "$library" -c core.autocrlf=true archive HEAD script | tar xO)
 
 # Where a comma stands before a fraction, rows of scaling are judged as elsewhere. Each takes 5.2 times as much here.
-comma="$(locale -a 2> /dev/null | grep -m 1 '^\(de_DE\|fr_FR\|tr_TR\)\.utf8$')"
 if [ -n "$comma" ]; then
     mkdir "$room/counts"
     cat > "$room/counts/valgrind" << 'COUNTS'
