@@ -163,6 +163,34 @@ env PATH="$room/runs:$PATH" "$top/c/clients" "$room/built" "$clients" > "$room/w
 expect "c/clients whose first tests fail ends with $ended" ends_with 1
 expect 'c/clients goes on where tests fail' not says 'all passed'
 
+# Tables of times, over peers that are empty here, where a stand-in for rustc makes a program that only begins.
+benched="$room/benched"
+kept="$room/bench_kept"
+mkdir -p "$benched/crates"/bench_{,user_}calls/src "$kept/root/usr/share/cargo/registry"/{bit-set,bit-vec,fixedbitset}-1/src \
+    "$kept"/{libroaring0/usr/lib/here,llvm-14-dev,x86-64-v2} "$STAND_INS/kit/c"
+cp -r "$top"/{bench,tools} "$benched"
+touch "$benched/crates.txt" "$benched/crates"/bench_{,user_}calls/src/lib.rt "$STAND_INS/kit/c/liblibc_c.a" \
+    "$kept/root/usr/share/cargo/registry"/{bit-set,bit-vec,fixedbitset}-1/src/lib.rs \
+    "$kept/libroaring0/usr/lib/here/libroaring.so.0" "$kept/x86-64-v2/libroaring.so"
+cat > "$room/waiting/rustc" << 'RUSTC'
+#!/bin/sh
+for word; do
+    [ "$before" != -o ] || ln -sf "${0%/*}/program" "$word"
+    before="$word"
+done
+RUSTC
+chmod +x "$room/waiting/rustc"
+# What the toolchain has made of this library already.
+for name in bench_calls bench_user_calls; do
+    mkdir -p "$benched/crates/$name/out/x86-64-v2"
+    touch "$benched/crates/$name/out/x86-64-v2/lib$name.a"
+    rt version > "$benched/crates/$name/out/x86-64-v2/lib$name.a.by"
+done
+ln -s "$(type -P true)" "$room/waiting/clang++"
+for table in work offsets; do
+    ended_by_signal "bench/run of $table" TERM waits env PATH="$room/waiting:$PATH" "$benched/bench/run" "$kept" "$table"
+done
+
 # A release of that repository, which gets no further than its proofs here, so that what comes then is not needed.
 others="$room/others"
 mkdir "$others"
