@@ -124,6 +124,17 @@ expect 'add does not bring the file up to date that crates.txt leads to' not gre
 expect 'add puts a file in the place of a link' [ -L crates.txt ]
 mv named.txt crates.txt
 
+# Ends `add` by SIGTERM once a slow command has made this file.
+end_add() {
+    local run
+    start_group env --default-signal=TERM PATH="$room/slow:$PATH" "$from/add" > "$room/wrote" 2> "$room/said" < /dev/null
+    run=$!
+    expect "add does not come so far: $1" wait_until [ -e "$STAND_INS/$1" ]
+    kill -s TERM "$run"
+    finish "$run"
+    expect "add by SIGTERM ends with $ended: $1" ends_with 143
+}
+
 # A signal where a copy takes the place of an older one, and no copy is there.
 mkdir "$room/slow"
 cat > "$room/slow/mv" << 'MOVES'
@@ -134,15 +145,23 @@ MOVES
 chmod +x "$room/slow/mv"
 mkdir -p crates/bit_set/out/incremental
 make_older
-start_group env --default-signal=TERM PATH="$room/slow:$PATH" "$from/add" > "$room/wrote" 2> "$room/said" < /dev/null
-run=$!
-expect 'add does not begin to exchange copies' wait_until [ -e "$STAND_INS/moved" ]
-kill -s TERM "$run"
-finish "$run"
-expect "add by SIGTERM ends with $ended" ends_with 143
+end_add moved
 expect 'add by SIGTERM leaves neither copy' [ -f crates/bit_set/COPIED ]
 expect 'add by SIGTERM takes away what rt kept' [ -d crates/bit_set/out/incremental ]
 expect 'add fails after a signal' "$from/add"
+
+# A signal where what is proved is copied in part.
+cat > "$room/slow/cp" << 'COPIES'
+#!/bin/sh
+command -p cp "$@"
+case "$*" in */out/rlib*) rm -r "$3/more" && touch "$STAND_INS/copied" && exec sleep 30 ;; esac
+COPIES
+chmod +x "$room/slow/cp"
+mkdir -p "$from/crates/bit_set/out/rlib/more"
+end_add copied
+expect 'add by SIGTERM leaves a part of what is proved' [ "$(ls -A crates/bit_set/out)" = incremental ]
+expect 'add fails after a part was copied' "$from/add"
+expect 'add takes a part of what is proved for all' [ -d crates/bit_set/out/rlib/more ]
 cd "$top" || exit 1
 
 # Without a folder for temporary files a script would work at the root of the file system.
