@@ -4,7 +4,7 @@ ghost use Rattle.std.specs.{Iterator.Drains};
 ghost use Rattle.std.specs.Iterator.{HoldsAlong, IsFinite, YieldsThen, Runs.WholeRun};
 ghost use Rattle.bit_blocks.specs.Bits.{blocks_for, capacity_of};
 ghost use Rattle.bit_words.specs.Growth.{Grows};
-ghost use Rattle.bit_set.specs.{Sets.{elements, has, put, those_below, without}, Members.{HasNone, IsCounted, IsSameSet, KeepsBelow, Updates}, Effects.TakesIn, Faults.IsInsertFault};
+ghost use Rattle.bit_set.specs.{Sets.{bound_of, elements, has, put, those_below, without}, Members.{HasNone, IsCounted, IsSameSet, KeepsBelow, Updates}, Effects.TakesIn, Faults.IsInsertFault};
 ghost use Rattle.bit_set.specs.Changes.{Change, Changes};
 ghost use Rattle.bit_set.specs.{Changes.{outcome_of_result, outcome_of_insert, Outcome.{Done, Returned}}, Capacity.IsPastBlocks};
 
@@ -89,15 +89,13 @@ impl<B: BitBlock> BitSet<B> {
         ensures kept { length self.new.values ≤ self.old.capacity → self.new.capacity ≡ self.old.capacity }
     {
         let start = self.bits.len();
-        let mut len = start;
         for item in iter {
             if let Err(fault) = self.put_ahead(start, item) {
-                self.bits.truncate(len);
+                self.cut_ahead(start);
                 return Err(fault);
             }
-            len = len.max(item + 1);
         }
-        self.bits.truncate(len);
+        self.cut_ahead(start);
         Ok(())
     }
 
@@ -109,6 +107,8 @@ impl<B: BitBlock> BitSet<B> {
         ensures elements { OnOk result (elements self.new.values ≡ put (elements self.old.values) item) }
         ensures within { OnOk result (item < length self.new.values) }
         ensures longer { OnOk result (length self.old.values ≤ length self.new.values) }
+        ensures exact { OnOk result (length self.new.values ≤ start + LEAST_GROWN
+            → length self.new.values ≡ max (length self.old.values) (item + 1)) }
         ensures fit { OnOk result (item < usize.MAX) }
         ensures fails { IfErr result (λ fault. IsInsertFault fault item self.old.capacity) }
         ensures past { OnErr result (length self.old.values ≤ item) }
@@ -129,6 +129,7 @@ impl<B: BitBlock> BitSet<B> {
     fn go_ahead(&mut self, most: usize)
         ensures elements { elements self.new.values ≡ elements self.old.values }
         ensures longer { length self.old.values ≤ length self.new.values }
+        ensures few { most < LEAST_GROWN → self.new ≡ self.old }
         ensures capacity { self.new.capacity ≡ self.old.capacity }
     {
         if most >= LEAST_GROWN {
@@ -148,6 +149,38 @@ impl<B: BitBlock> BitSet<B> {
         let ahead = most.min(MOST_AHEAD).min(free);
         // Within the capacity it succeeds.
         let _grown = self.bits.grow(ahead, false);
+    }
+
+    // Cuts the list behind the last item of `extend`, which it may have gone ahead of only where it grew by more than
+    // `LEAST_GROWN` values.
+    #[inline]
+    fn cut_ahead(&mut self, start: usize)
+        requires { start ≤ length self.old.values }
+        ensures elements { elements self.new.values ≡ elements self.old.values }
+        ensures few { length self.old.values ≤ start + LEAST_GROWN → self.new ≡ self.old }
+        ensures cut { start + LEAST_GROWN < length self.old.values
+            → length self.new.values ≡ max start (bound_of (elements self.old.values)) }
+        ensures capacity { self.new.capacity ≡ self.old.capacity }
+    {
+        if self.bits.len() - start > LEAST_GROWN {
+            self.cut_to_last(start);
+        }
+    }
+
+    // Cuts the list behind its last value that is true, and keeps the first `least` values.
+    #[cold]
+    #[inline(never)]
+    fn cut_to_last(&mut self, least: usize)
+        requires { least ≤ length self.old.values }
+        ensures elements { elements self.new.values ≡ elements self.old.values }
+        ensures length { length self.new.values ≡ max least (bound_of (elements self.old.values)) }
+        ensures capacity { self.new.capacity ≡ self.old.capacity }
+    {
+        let len = match self.last() {
+            Some(last) => least.max(last + 1),
+            None => least,
+        };
+        self.bits.truncate(len);
     }
 
     /// Takes `value` out, and returns whether it was in. Constant time.

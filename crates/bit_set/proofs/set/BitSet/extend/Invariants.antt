@@ -1,12 +1,13 @@
-use Rattle.std.proofs.Common.{◌≡◌, ◌<◌, ◌≤◌, All}
-use Rattle.bit_set.proofs.ItemLemmas.{IsAhead}
+use Rattle.std.proofs.Common.{◌≡◌, ◌<◌, ◌≤◌, All, length, max}
+use Rattle.bit_set.{specs.Sets.bound_of, proofs.ItemLemmas.IsAhead}
+use Rattle.bit_set.specs.declared.set.changing.TheConstants.{LEAST_GROWN}
 use Rattle.bit_set.proofs.set.BitSet.extend.Given as goal
 
 abbrev pub invariant-loop-item : goal.invariant-loop-item
 invariant-loop-item g l = record {
-  ahead : IsAhead l.yielded l.fn.self.values l.len l.self.values;
+  ahead : IsAhead LEAST_GROWN l.yielded l.fn.self.values l.self.values;
   capacity : l.fn.self.capacity ≤ l.self.capacity;
   within : All
       (λ item. item < l.fn.self.capacity) l.yielded → l.self.capacity ≡ l.fn.self.capacity;
-  kept : l.len ≤ l.fn.self.capacity → l.self.capacity ≡ l.fn.self.capacity;
+  kept : max (length l.fn.self.values) (bound_of l.yielded) ≤ l.fn.self.capacity → l.self.capacity ≡ l.fn.self.capacity;
 }
