@@ -89,21 +89,28 @@ impl<B: BitBlock> BitSet<B> {
         ensures kept { length self.new.values ≤ self.old.capacity → self.new.capacity ≡ self.old.capacity }
     {
         let start = self.bits.len();
+        let mut len = start;
         for item in iter {
-            if let Err(fault) = self.put_ahead(start, item) {
-                self.cut_ahead(start);
-                return Err(fault);
+            match self.put_ahead(start, len, item) {
+                Ok(longer) => len = longer,
+                Err(fault) => {
+                    self.cut_ahead(start);
+                    return Err(fault);
+                }
             }
         }
         self.cut_ahead(start);
         Ok(())
     }
 
-    // Puts an item of `extend` in. The list had `start` values before the first item, and may become longer than the
-    // items ask: it goes ahead by what it had grown for the items before, and so the first costs what it needs alone.
+    // Puts an item of `extend` in, and returns the length of the list, which was `len`: the loop has it at hand, and reads
+    // it from the list only where that grew. The list had `start` values before the first item, and may become longer than
+    // the items ask: it goes ahead by what it had grown for the items before, and so the first costs what it needs alone.
     #[inline]
-    fn put_ahead(&mut self, start: usize, item: usize) -> Result<(), SetError>
-        requires { start ≤ length self.old.values }
+    fn put_ahead(&mut self, start: usize, len: usize, item: usize) -> Result<usize, SetError>
+        requires from { start ≤ len }
+        requires len { len ≡ length self.old.values }
+        ensures len { IfOk result (λ longer. longer ≡ length self.new.values) }
         ensures elements { OnOk result (elements self.new.values ≡ put (elements self.old.values) item) }
         ensures within { OnOk result (item < length self.new.values) }
         ensures longer { OnOk result (length self.old.values ≤ length self.new.values) }
@@ -115,13 +122,16 @@ impl<B: BitBlock> BitSet<B> {
         ensures grows { Grows (item + 1) result self.old self.new }
         ensures past_blocks { IfErr result (λ fault. IsPastBlocks fault B.width (length self.old.values) item) }
     {
-        if item >= self.bits.len() {
-            let before = self.bits.len() - start;
+        // For the proof alone: the call of `len` brings in its clauses, by which the capacity holds the list.
+        prove!(len <= self.bits.len());
+        let mut longer = len;
+        if item >= len {
             self.lengthen_past(item)?;
-            self.go_ahead(before);
+            self.go_ahead(len - start);
+            longer = self.bits.len();
         }
         self.bits.set(item, true);
-        Ok(())
+        Ok(longer)
     }
 
     // Makes the list longer by so many values, by 64 KB at most, and within the capacity; nothing where they are few.

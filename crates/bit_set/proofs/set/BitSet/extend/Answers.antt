@@ -7,11 +7,12 @@ use Rattle.bit_set.proofs.set.BitSet.extend.Goals as goal
 
 pub loop-item-preserved : goal.loop-item-preserved
 loop-item-preserved g c =
-    let put = c.in_default.ensures in
+    let put = c.in-Ok.ensures in
     let items = c.loop-item.yielded in
     let item = c.in-Some.item in
     let start = c.len-start.ensures.value ∙ ap (λ bits. length bits.values) c.self.view_is in
     let bound = bound_of-push items item in record {
+      len = put.len;
       ahead = ahead_of_more LEAST_GROWN items item c.args.self.now.values c.loop-item.self.values c.put_ahead.new.self.values
           c.loop-item.invariant.ahead put.elements put.within put.longer (λ short. put.exact (omega (arith, short, start))) put.fit;
       capacity = omega (arith, c.loop-item.invariant.capacity, c.put_ahead.ensures.grows.capacity);

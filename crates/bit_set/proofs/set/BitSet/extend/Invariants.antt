@@ -5,6 +5,7 @@ use Rattle.bit_set.proofs.set.BitSet.extend.Given as goal
 
 abbrev pub invariant-loop-item : goal.invariant-loop-item
 invariant-loop-item g l = record {
+  len : l.len ≡ length l.self.values;
   ahead : IsAhead LEAST_GROWN l.yielded l.fn.self.values l.self.values;
   capacity : l.fn.self.capacity ≤ l.self.capacity;
   within : All

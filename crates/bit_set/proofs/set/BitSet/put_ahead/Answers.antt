@@ -13,7 +13,7 @@ record IsLong (start item : ℕ) (old mid : Bits) : Type 0 where
 
 long : (g : _) (c : goal.After-set g) → IsLong c.args.start c.args.item c.args.self.now c.if-item-len.self
 long g c =
-    let old : length c.self.inside.bits.values ≡ length c.args.self.now.values = ap (λ bits. length bits.values) c.self.view_is in
+    let len = c.requires.len in
     elim c.if-item-len.branch [
       | then-item-len+in_ok-lengthen_past w ↦
           let grown = w.in_ok-lengthen_past.ensures.values in
@@ -22,10 +22,10 @@ long g c =
             same = w.go_ahead.ensures.elements ∙ ap elements grown ∙ elements-padded c.args.self.now.values _;
             within = omega (arith, size, w.go_ahead.ensures.longer);
             exact = λ short.
-                let few = λ (is : w.len-then-item-len.result - c.args.start < LEAST_GROWN). ap (λ bits. length bits.values) (w.go_ahead.ensures.few is) in
-                grind (arith, size, w.go_ahead.ensures.longer, few, short, old, c.requires);
+                let few = λ (is : c.args.len - c.args.start < LEAST_GROWN). ap (λ bits. length bits.values) (w.go_ahead.ensures.few is) in
+                grind (arith, size, w.go_ahead.ensures.longer, few, short, len, c.requires.from);
           }
-      | else-item-len w ↦ rw w.self-is record { same = refl; within = omega (arith, old); exact = λ short. omega (arith, old) }
+      | else-item-len w ↦ rw w.self-is record { same = refl; within = omega (arith, len); exact = λ short. omega (arith, len) }
     ]
 
 pub returns-clause-elements : goal.returns-clause-elements
