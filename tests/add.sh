@@ -13,7 +13,7 @@ passed=0
 failed=0
 case "$*" in
     '' | --prove) ;;
-    *) echo 'usage: tests/add.sh [--prove]' >&2 && exit 2 ;;
+    *) echo 'usage: tests/add.sh [--prove]' >&2; exit 2 ;;
 esac
 . "$top/tools/ending.sh"
 make_room || exit 1

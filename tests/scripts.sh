@@ -23,7 +23,7 @@ passed=0
 failed=0
 case "$*" in
     '' | --real) ;;
-    *) echo 'usage: tests/scripts.sh [--real]' >&2 && exit 2 ;;
+    *) echo 'usage: tests/scripts.sh [--real]' >&2; exit 2 ;;
 esac
 room="$(mktemp -d)" || exit 1
 passing+=("$room")

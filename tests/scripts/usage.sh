@@ -15,6 +15,19 @@ for script in add bitset gate look c/build c/clients python/build release diff/r
     expect "$script with wrong words says no usage" says 'usage: '
 done
 
+# Where the usage cannot be written, these do not go on to work.
+mkdir "$room/no_words"
+for script in add gate c/clients python/build tests/add.sh tests/scripts.sh; do
+    for call in '--wrong --words 2>&-' '--help >&-'; do
+        [[ "$script $call" != tests/*help* ]] || continue
+        ended=0
+        (cd "$room/no_words" && touch .git && eval timeout 10 env PATH=/usr/bin:/bin '"$top/$script"' "$call") \
+            > "$room/wrote" 2> "$room/said" < /dev/null || ended=$?
+        expect "$script $call ends with $ended" grep -qx '[12]' <<< "$ended"
+    done
+done
+expect 'add copies libraries where its usage cannot be written' [ ! -e "$room/no_words/crates" ]
+
 # Each script that bash runs.
 scripts() {
     find "$top" "$top"/{bench,c,diff,diff/roaring,python,tests,tools} -maxdepth 1 -type f -exec sed -ns '1{/^#!.* bash$/F}' {} +
