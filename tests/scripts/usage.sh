@@ -195,6 +195,17 @@ for name in prefix= libdir= includedir=; do
     expect "bit_set.pc has a space of a path as it is in $name" grep -q "^$name/opt/a\\\\ b" "$room/source/build/none/bit_set.pc"
 done
 
+# A relative path is that of the folder of the sources, wherever bit_set.pc is read, and whatever CDPATH says.
+mkdir -p "$room/source/out"/{lib,include} "$room/elsewhere/out"/{lib,include}
+touch "$room/elsewhere/out/lib/libbit_set.a"
+make -s -C "$room/source" PREFIX=out PROCESSOR=none build/none/bit_set.pc > "$room/wrote" 2>&1 < /dev/null
+expect 'bit_set.pc has a relative path' grep -qx 'libdir=/.*/out/lib' "$room/source/build/none/bit_set.pc"
+CDPATH="$room/elsewhere" make -s -C "$room/source" PREFIX=out PROCESSOR=none uninstall > "$room/wrote" 2>&1 < /dev/null
+expect 'make uninstall works in another folder by CDPATH' [ -e "$room/elsewhere/out/lib/libbit_set.a" ]
+# Root may have written it, who installed the library before.
+ln -sf /dev/full "$room/source/build/none/bit_set.pc"
+expect 'make install cannot write bit_set.pc anew' make -s -C "$room/source" PROCESSOR=none build/none/bit_set.pc
+
 # A compiler that is called with a word of its own, of which two runs at a time write into one folder.
 mkdir -p "$room/headers" "$room/words"
 touch "$room/headers"/{Python.h,bit_set.h}
