@@ -7,6 +7,10 @@ for script in add bitset gate look c/build c/clients python/build release diff/r
     expect "$script --help ends with $ended" ends_with 0
     expect "$script --help writes no usage" grep -q '^usage: ' "$room/wrote"
     expect "$script --help writes to standard error" [ ! -s "$room/said" ]
+    # Who types `sh` may have another shell by that name.
+    if command -v dash > /dev/null; then
+        expect "dash $script --help fails" env -u HOME PATH=/usr/bin:/bin dash "$top/$script" --help
+    fi
     # These hand their words on to the program.
     [[ "$script" != @(look|bitset) ]] || continue
     ended=0
@@ -33,7 +37,7 @@ scripts() {
     find "$top" "$top"/{bench,c,diff,diff/roaring,python,tests,tools} -maxdepth 1 -type f -exec sed -ns '1{/^#!.* bash$/F}' {} +
 }
 while read -r script; do
-    expect "$script has the options of bash that are exported" grep -qF ' exec env -u SHELLOPTS ' "$script"
+    expect "$script has the options of bash that are exported" grep -q '^{ \[ -n "\${BASH_VERSION:-}" .* exec env -u SHELLOPTS ' "$script"
     # What `exec` runs has the rest of a script in it.
     expect "an edit changes a run of $script" grep -qE '^(# Bash reads all of this before|exec (python3|awk) )' "$script"
 done < <(scripts)
