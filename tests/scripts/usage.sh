@@ -266,6 +266,25 @@ in_library init -q && in_library add . && in_library commit -qm stand_in
 expect 'an archive has other ends of lines where core.autocrlf is true' \
     cmp "$library/script" <(git -C "$library" -c core.autocrlf=true archive HEAD script | tar xO)
 
+# A package of Debian's has the same bytes, however others compress theirs.
+if command -v dpkg-deb > /dev/null; then
+    mkdir -p "$room/package_of/DEBIAN" "$room/package_of/usr"
+    printf '%s\n' 'Package: a' 'Version: 1' 'Architecture: all' 'Maintainer: a <a@example.com>' 'Description: a' \
+        > "$room/package_of/DEBIAN/control"
+    cat "$top"/tests/scripts/*.sh > "$room/package_of/usr/texts"
+    for level in '' 0; do
+        (
+            # shellcheck disable=SC2034  # what the parts read
+            folder="$room/packed$level" version=1 architecture=all SOURCE_DATE_EPOCH=0
+            mkdir "$folder"
+            . "$top/tools/release/packing.sh" && . "$top/tools/release/debian.sh"
+            export SOURCE_DATE_EPOCH ${level:+DPKG_DEB_COMPRESSOR_LEVEL="$level"}
+            build_package "$room/package_of"
+        ) > "$room/said" 2>&1
+    done
+    expect 'a package has other bytes by DPKG_DEB_COMPRESSOR_LEVEL' cmp "$room"/packed{,0}/package_of_1-1_all.deb
+fi
+
 # Where a comma stands before a fraction, rows of scaling are judged as elsewhere. Each takes 5.2 times as much here.
 if [ -n "$comma" ]; then
     mkdir "$room/counts"
