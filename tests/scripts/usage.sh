@@ -234,6 +234,10 @@ for run in "${!run_of[@]}"; do
 done
 expect 'python/build leaves a file of its own' [ "$(find "$room/module" -type f | wc -l)" -eq 4 ]
 
+# The headers of Python 3.12 count no reference in these, which each version before it frees then.
+expect 'the Python module returns None with no reference where newer headers built it' \
+    not grep -rqwE 'Py_RETURN_(NONE|TRUE|FALSE|NOTIMPLEMENTED)' "$top/python/src"
+
 # A variable that is empty names no folder: then the package takes the library that it has in it.
 if command -v rustc > /dev/null; then
     mkdir -p "$room/package/lib/x86-64"
