@@ -2,8 +2,8 @@
 # Runs `add` in empty repositories, and looks at what it leaves there and at what it refuses. With --prove it also
 # makes README's first example there, with the texts that README has, and proves and runs it, which takes minutes.
 # The last line is 'N passed, M failed'.
-# Options of bash that are exported, and what it is to read first, are for other scripts.
-[[ ${SHELLOPTS@a}${BASHOPTS@a}${BASH_ENV+x} != *x* ]] || exec env -u SHELLOPTS -u BASHOPTS -u BASH_ENV bash "$0" "$@"
+# Bash runs this where `sh` is called too. Options of it that are exported, and what it is to read first, are for other scripts.
+{ [ -n "${BASH_VERSION:-}" ] && [[ ${SHELLOPTS@a}${BASHOPTS@a}${BASH_ENV+x} != *x* ]]; } || exec env -u SHELLOPTS -u BASHOPTS -u BASH_ENV bash "$0" "$@"
 set -uo pipefail
 unset CDPATH GLOBIGNORE POSIXLY_CORRECT
 # A hook of git names its own repository to what it runs, whatever folder that works in.
@@ -13,7 +13,7 @@ passed=0
 failed=0
 case "$*" in
     '' | --prove) ;;
-    *) echo 'usage: tests/add.sh [--prove]' >&2 && exit 2 ;;
+    *) echo 'usage: tests/add.sh [--prove]' >&2; exit 2 ;;
 esac
 . "$top/tools/ending.sh"
 make_room || exit 1

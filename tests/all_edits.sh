@@ -2,8 +2,8 @@
 # Tries each edit of tests/edits.txt, or of the crates or the CRATE/EDIT that are named, over the libraries that the checkout has built,
 # and writes tests/edits.csv. A run that was stopped goes on where it was; --anew tries all again. The last line is
 # 'N passed, M failed'.
-# Options of bash that are exported, and what it is to read first, are for other scripts.
-[[ ${SHELLOPTS@a}${BASHOPTS@a}${BASH_ENV+x} != *x* ]] || exec env -u SHELLOPTS -u BASHOPTS -u BASH_ENV bash "$0" "$@"
+# Bash runs this where `sh` is called too. Options of it that are exported, and what it is to read first, are for other scripts.
+{ [ -n "${BASH_VERSION:-}" ] && [[ ${SHELLOPTS@a}${BASHOPTS@a}${BASH_ENV+x} != *x* ]]; } || exec env -u SHELLOPTS -u BASHOPTS -u BASH_ENV bash "$0" "$@"
 set -euo pipefail
 unset CDPATH GLOBIGNORE POSIXLY_CORRECT
 here="$(dirname "$(readlink -f "${BASH_SOURCE[0]}")")"

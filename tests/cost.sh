@@ -2,8 +2,8 @@
 # Prints what the proofs cost of the crates that are named, or of all: processor seconds of proof, tests and, after
 # --edits, edits, and the ten slowest functions and edits. One crate after another, with one job each: of all crates
 # it takes hours.
-# Options of bash that are exported, and what it is to read first, are for other scripts.
-[[ ${SHELLOPTS@a}${BASHOPTS@a}${BASH_ENV+x} != *x* ]] || exec env -u SHELLOPTS -u BASHOPTS -u BASH_ENV bash "$0" "$@"
+# Bash runs this where `sh` is called too. Options of it that are exported, and what it is to read first, are for other scripts.
+{ [ -n "${BASH_VERSION:-}" ] && [[ ${SHELLOPTS@a}${BASHOPTS@a}${BASH_ENV+x} != *x* ]]; } || exec env -u SHELLOPTS -u BASHOPTS -u BASH_ENV bash "$0" "$@"
 set -euo pipefail
 unset CDPATH GLOBIGNORE POSIXLY_CORRECT
 here="$(dirname "$(readlink -f "${BASH_SOURCE[0]}")")"

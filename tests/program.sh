@@ -1,8 +1,8 @@
 #!/usr/bin/env bash
 # Runs the built program whose path is given as a shell does, and looks at its status, at what it writes and at what
 # it says on standard error: no contract says what `main` does with them. The last line is 'N passed, M failed'.
-# Options of bash that are exported, and what it is to read first, are for other scripts.
-[[ ${SHELLOPTS@a}${BASHOPTS@a}${BASH_ENV+x} != *x* ]] || exec env -u SHELLOPTS -u BASHOPTS -u BASH_ENV bash "$0" "$@"
+# Bash runs this where `sh` is called too. Options of it that are exported, and what it is to read first, are for other scripts.
+{ [ -n "${BASH_VERSION:-}" ] && [[ ${SHELLOPTS@a}${BASHOPTS@a}${BASH_ENV+x} != *x* ]]; } || exec env -u SHELLOPTS -u BASHOPTS -u BASH_ENV bash "$0" "$@"
 set -uo pipefail
 unset CDPATH GLOBIGNORE POSIXLY_CORRECT
 if [ $# -ne 1 ]; then

@@ -3,8 +3,8 @@
 # C library: each call of the first two with one request for memory after another failing, and held to the requests and
 # bytes that its line allows; and the third with that too, and with one read or write after another failing. What `bitset`
 # must write is said here, and not taken from it. The last line is 'N passed, M failed'.
-# Options of bash that are exported, and what it is to read first, are for other scripts.
-[[ ${SHELLOPTS@a}${BASHOPTS@a}${BASH_ENV+x} != *x* ]] || exec env -u SHELLOPTS -u BASHOPTS -u BASH_ENV bash "$0" "$@"
+# Bash runs this where `sh` is called too. Options of it that are exported, and what it is to read first, are for other scripts.
+{ [ -n "${BASH_VERSION:-}" ] && [[ ${SHELLOPTS@a}${BASHOPTS@a}${BASH_ENV+x} != *x* ]]; } || exec env -u SHELLOPTS -u BASHOPTS -u BASH_ENV bash "$0" "$@"
 set -uo pipefail
 unset CDPATH GLOBIGNORE POSIXLY_CORRECT
 if [ $# -ne 3 ]; then

@@ -4,8 +4,8 @@
 #   tests/scaling.sh PROGRAM          compares each row with its bounds
 #   tests/scaling.sh PROGRAM --show   prints a line for each row too, with what it took
 # Where there is no valgrind, it says so and counts nothing. The last line is 'N passed, M failed'.
-# Options of bash that are exported, and what it is to read first, are for other scripts.
-[[ ${SHELLOPTS@a}${BASHOPTS@a}${BASH_ENV+x} != *x* ]] || exec env -u SHELLOPTS -u BASHOPTS -u BASH_ENV bash "$0" "$@"
+# Bash runs this where `sh` is called too. Options of it that are exported, and what it is to read first, are for other scripts.
+{ [ -n "${BASH_VERSION:-}" ] && [[ ${SHELLOPTS@a}${BASHOPTS@a}${BASH_ENV+x} != *x* ]]; } || exec env -u SHELLOPTS -u BASHOPTS -u BASH_ENV bash "$0" "$@"
 set -uo pipefail
 unset CDPATH GLOBIGNORE POSIXLY_CORRECT
 # Elsewhere awk may write a fraction with a comma, and then take it for text.

@@ -5,8 +5,8 @@
 #   tests/scripts.sh --real    instead `./bitset` with the real toolchain and a comment that changes, over the libraries
 #                              as `rt ci` has just proved them here
 # The last line is 'N passed, M failed'.
-# Options of bash that are exported, and what it is to read first, are for other scripts.
-[[ ${SHELLOPTS@a}${BASHOPTS@a}${BASH_ENV+x} != *x* ]] || exec env -u SHELLOPTS -u BASHOPTS -u BASH_ENV bash "$0" "$@"
+# Bash runs this where `sh` is called too. Options of it that are exported, and what it is to read first, are for other scripts.
+{ [ -n "${BASH_VERSION:-}" ] && [[ ${SHELLOPTS@a}${BASHOPTS@a}${BASH_ENV+x} != *x* ]]; } || exec env -u SHELLOPTS -u BASHOPTS -u BASH_ENV bash "$0" "$@"
 set -uo pipefail
 unset CDPATH GLOBIGNORE POSIXLY_CORRECT
 # What the system's commands say is looked for in English.
@@ -23,7 +23,7 @@ passed=0
 failed=0
 case "$*" in
     '' | --real) ;;
-    *) echo 'usage: tests/scripts.sh [--real]' >&2 && exit 2 ;;
+    *) echo 'usage: tests/scripts.sh [--real]' >&2; exit 2 ;;
 esac
 room="$(mktemp -d)" || exit 1
 passing+=("$room")

@@ -74,7 +74,7 @@ PyObject *set_compare(PyObject *self, PyObject *other, int operation)
     if (takes < 0)
         return NULL;
     if (!takes)
-        Py_RETURN_NOTIMPLEMENTED;
+        return reference_to(Py_NotImplemented);
     return truth_if(compare_with_set(self, other, operation));
 }
 

@@ -16,8 +16,7 @@ PyObject *state_of(PyObject *self)
     if (attributes)
         return attributes;
     PyErr_Clear();
-    Py_INCREF(Py_None);
-    return Py_None;
+    return reference_to(Py_None);
 }
 
 /* Puts attributes of `__slots__` in. */

@@ -249,7 +249,7 @@ PyObject *set_add(PyObject *self, PyObject *member)
 {
     if (!put(self, member))
         return NULL;
-    Py_RETURN_NONE;
+    return reference_to(Py_None);
 }
 
 int set_contains(PyObject *self, PyObject *member)
@@ -273,7 +273,7 @@ PyObject *set_discard(PyObject *self, PyObject *member)
 {
     if (take_out(self, member) == FAILED)
         return NULL;
-    Py_RETURN_NONE;
+    return reference_to(Py_None);
 }
 
 PyObject *set_remove(PyObject *self, PyObject *member)

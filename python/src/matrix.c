@@ -124,13 +124,13 @@ PyObject *matrix_dominators(PyObject *self, PyObject *entry_object)
 PyObject *matrix_transitive_closure(PyObject *self, PyObject *Py_UNUSED(none))
 {
     bit_matrix_transitive_closure(matrix_of(self));
-    Py_RETURN_NONE;
+    return reference_to(Py_None);
 }
 
 PyObject *matrix_reflexive_transitive_closure(PyObject *self, PyObject *Py_UNUSED(none))
 {
     bit_matrix_reflexive_transitive_closure(matrix_of(self));
-    Py_RETURN_NONE;
+    return reference_to(Py_None);
 }
 
 PyObject *matrix_rows(PyObject *self, void *Py_UNUSED(closure))
@@ -235,7 +235,7 @@ PyObject *matrix_add_range(PyObject *self, PyObject *arguments)
     }
     if (has_numbers)
         bit_matrix_insert_range(matrix_of(self), row, start, stop);
-    Py_RETURN_NONE;
+    return reference_to(Py_None);
 }
 
 static PyObject *change_row(PyObject *self, PyObject *row_object, void (*call)(bit_matrix *, size_t))
@@ -244,7 +244,7 @@ static PyObject *change_row(PyObject *self, PyObject *row_object, void (*call)(b
     if (!read_row(self, row_object, &row))
         return NULL;
     call(matrix_of(self), row);
-    Py_RETURN_NONE;
+    return reference_to(Py_None);
 }
 
 PyObject *matrix_fill_row(PyObject *self, PyObject *row_object)
@@ -260,7 +260,7 @@ PyObject *matrix_clear_row(PyObject *self, PyObject *row_object)
 PyObject *matrix_compare(PyObject *self, PyObject *other, int operation)
 {
     if (!is_matrix(other) || (operation != Py_EQ && operation != Py_NE))
-        Py_RETURN_NOTIMPLEMENTED;
+        return reference_to(Py_NotImplemented);
     bool are_equal = bit_matrix_equals(matrix_of(self), matrix_of(other));
     return PyBool_FromLong(are_equal == (operation == Py_EQ));
 }
@@ -320,5 +320,5 @@ PyObject *matrix_setstate(PyObject *self, PyObject *state)
     }
     if (has_attributes && !put_attributes(self, PyTuple_GetItem(state, 1)))
         return NULL;
-    Py_RETURN_NONE;
+    return reference_to(Py_None);
 }

@@ -109,7 +109,7 @@ static PyObject *merge_each(PyObject *self, PyObject *iterables, merge *call)
     for (Py_ssize_t at = 0; at < PyTuple_Size(iterables); at++)
         if (!merge_iterable(self, PyTuple_GetItem(iterables, at), call))
             return NULL;
-    Py_RETURN_NONE;
+    return reference_to(Py_None);
 }
 
 /* A copy that is merged, or NULL. */
@@ -141,7 +141,7 @@ PyObject *set_intersection_update(PyObject *self, PyObject *others)
         return NULL;
     exchange(self, made);
     Py_DECREF(made);
-    Py_RETURN_NONE;
+    return reference_to(Py_None);
 }
 
 PyObject *set_union(PyObject *self, PyObject *others)
@@ -188,7 +188,7 @@ static PyObject *operate(PyObject *left, PyObject *right, merge *call)
     if (PyErr_Occurred())
         return NULL;
     if (!are_sets)
-        Py_RETURN_NOTIMPLEMENTED;
+        return reference_to(Py_NotImplemented);
     /* What both have is the same either way, and the other set may have what no bit set can. */
     if (call == bit_set_intersect_with && !is_bit_set(left)) {
         PyObject *other = left;
@@ -211,7 +211,7 @@ static PyObject *operate_in_place(PyObject *self, PyObject *other, merge *call)
     if (takes < 0)
         return NULL;
     if (!takes)
-        Py_RETURN_NOTIMPLEMENTED;
+        return reference_to(Py_NotImplemented);
     if (!merge_iterable(self, other, call))
         return NULL;
     Py_INCREF(self);

@@ -85,6 +85,6 @@ int read_bounds(PyObject *first, PyObject *last, size_t *start, size_t *stop, bo
 PyObject *member_or_none(size_t member)
 {
     if (member == NO_MEMBER)
-        Py_RETURN_NONE;
+        return reference_to(Py_None);
     return PyLong_FromSize_t(member);
 }

@@ -61,12 +61,18 @@ static inline bit_set *set_of(PyObject *object)
     return ((BitSet *)object)->set;
 }
 
+/* A new reference. The headers of Python 3.12 and later may count none where they return None or NotImplemented, which a
+ * Python before 3.12 would free then. */
+static inline PyObject *reference_to(PyObject *object)
+{
+    Py_INCREF(object);
+    return object;
+}
+
 /* None, or NULL with a MemoryError. */
 static inline PyObject *none_if(bool found_memory)
 {
-    if (!found_memory)
-        return PyErr_NoMemory();
-    Py_RETURN_NONE;
+    return found_memory ? reference_to(Py_None) : PyErr_NoMemory();
 }
 
 /* An int. Python makes one of a `long` faster than one of a `size_t`. */

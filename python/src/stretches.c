@@ -8,7 +8,7 @@ PyObject *set_next_run(PyObject *self, PyObject *from)
     if (!read_bound(from, &bound, &outside))
         return NULL;
     if (!bit_set_next_run(set_of(self), bound, &start, &stop))
-        Py_RETURN_NONE;
+        return reference_to(Py_None);
     PyObject *first = PyLong_FromSize_t(start), *past = PyLong_FromSize_t(stop);
     PyObject *run = first && past ? PyTuple_Pack(2, first, past) : NULL;
     Py_XDECREF(first);
@@ -38,7 +38,7 @@ PyObject *set_first_gap(PyObject *self, PyObject *arguments)
         || !read_count(numbers, &count))
         return NULL;
     if (!bit_set_first_gap(set_of(self), bound, count, &gap))
-        Py_RETURN_NONE;
+        return reference_to(Py_None);
     return PyLong_FromSize_t(gap);
 }
 

@@ -15,6 +15,7 @@ try_files() {
     has auditwheel || left_out 'auditwheel, which is not here'
     for wheel in "$release"/*.whl; do
         try "${wheel##*/} takes what its tag says" takes_little "$wheel"
+        try "${wheel##*/} is for older pips too" names_both "$wheel"
         ! has auditwheel || try "auditwheel of ${wheel##*/}" agrees "$wheel"
     done
     given="$room/try"
@@ -56,10 +57,16 @@ takes_little() {
         && [ "$(printf '%s\n' "$newest" "$tag" | sort -V | tail -n 1)" = "$tag" ]
 }
 
+# A wheel's name has the word for its tag that pip before 20.3 knows too, and the file about it has both.
+names_both() {
+    local tags="${1##*-}"
+    [[ "$tags" = *.manylinux2014_* ]] && [ "$(sed -n 's/^Tag: cp38-abi3-//p' "$room"/wheel/*/WHEEL | paste -sd . -)" = "${tags%.whl}" ]
+}
+
 # The tag in a wheel's name is one that auditwheel gives it.
 agrees() {
     local tag="${1##*-}"
-    auditwheel show "$1" | tr '\n' ' ' | grep -F "\"${tag%.whl}\""
+    auditwheel show "$1" | tr '\n' ' ' | grep -F "\"${tag%%.*}\""
 }
 
 hold_proof() {

@@ -157,7 +157,7 @@ try_arm_module() {
         done
     fi
     mkdir -p "$room/arm-wheel"
-    python3 -m zipfile -e "$release/bit_set-$version-cp38-abi3-manylinux_2_17_aarch64.whl" "$room/arm-wheel"
+    python3 -m zipfile -e "$release/bit_set-$version"-cp38-abi3-*_aarch64.whl "$room/arm-wheel"
     try 'aarch64: the tests of Python over the wheel' on_arm -E PYTHONHOME="$sysroot/usr" -E PYTHONPATH="$room/arm-wheel" \
         "$sysroot/usr/bin/python3" "$source/python/tests.py"
     dpkg-deb -x "$release/python3-bit-set_$version-1_arm64.deb" "$room/arm-packages"

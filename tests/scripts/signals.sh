@@ -229,6 +229,27 @@ expect 'release does not say what is not committed' says 'not committed'
 expect 'release makes a folder where it fails' [ ! -e "$room/released" ]
 in_library checkout -q c/build
 
+# What git cannot read may have changed. Another user's checkout is not read at all.
+mv "$library/.git/index" "$room/index"
+echo broken > "$library/.git/index"
+forget_calls
+release
+expect "release where git reads nothing ended with $ended" ends_with 1
+expect 'release does not say that git reads nothing' says 'git does not read'
+expect 'release proves what git does not read' not is_called 'bit_set_c$'
+mv "$room/index" "$library/.git/index"
+
+# A commit that is signed, where git is to say of each that it logs how it is signed.
+printf '%s\n' '#!/bin/sh' 'echo signed >&2' > "$room/signs"
+chmod +x "$room/signs"
+signed="$(git -C "$library" cat-file commit HEAD | sed 's/^committer .*/&\ngpgsig -----BEGIN PGP SIGNATURE-----\n -----END PGP SIGNATURE-----/' \
+    | git -C "$library" hash-object -t commit -w --stdin)"
+unsigned="$(git -C "$library" rev-parse HEAD)"
+in_library reset -q --soft "$signed" && in_library config gpg.program "$room/signs" && in_library config log.showSignature true
+(cd "$library" && . tools/release/folder.sh && read_commit && echo "$SOURCE_DATE_EPOCH") > "$room/wrote" 2> "$room/said" < /dev/null
+expect "release reads as the time of a signed commit: $(cat "$room/wrote")" wrote "$(git -C "$library" log -1 --format=%ct "$unsigned")"
+in_library config --unset log.showSignature && in_library reset -q --soft "$unsigned"
+
 # All that the gate runs beside `rt ci` here is what runs ahead of it, since it too has folders of its own.
 for test in docs add misuse first_run edits c program refusals scripts; do
     printf '%s\n' '#!/bin/sh' 'echo 1 passed, 0 failed' > "$library/tests/$test.sh"

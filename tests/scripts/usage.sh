@@ -7,6 +7,10 @@ for script in add bitset gate look c/build c/clients python/build release diff/r
     expect "$script --help ends with $ended" ends_with 0
     expect "$script --help writes no usage" grep -q '^usage: ' "$room/wrote"
     expect "$script --help writes to standard error" [ ! -s "$room/said" ]
+    # Who types `sh` may have another shell by that name.
+    if command -v dash > /dev/null; then
+        expect "dash $script --help fails" env -u HOME PATH=/usr/bin:/bin dash "$top/$script" --help
+    fi
     # These hand their words on to the program.
     [[ "$script" != @(look|bitset) ]] || continue
     ended=0
@@ -15,12 +19,25 @@ for script in add bitset gate look c/build c/clients python/build release diff/r
     expect "$script with wrong words says no usage" says 'usage: '
 done
 
+# Where the usage cannot be written, these do not go on to work.
+mkdir "$room/no_words"
+for script in add gate c/clients python/build tests/add.sh tests/scripts.sh; do
+    for call in '--wrong --words 2>&-' '--help >&-'; do
+        [[ "$script $call" != tests/*help* ]] || continue
+        ended=0
+        (cd "$room/no_words" && touch .git && eval timeout 10 env PATH=/usr/bin:/bin '"$top/$script"' "$call") \
+            > "$room/wrote" 2> "$room/said" < /dev/null || ended=$?
+        expect "$script $call ends with $ended" grep -qx '[12]' <<< "$ended"
+    done
+done
+expect 'add copies libraries where its usage cannot be written' [ ! -e "$room/no_words/crates" ]
+
 # Each script that bash runs.
 scripts() {
     find "$top" "$top"/{bench,c,diff,diff/roaring,python,tests,tools} -maxdepth 1 -type f -exec sed -ns '1{/^#!.* bash$/F}' {} +
 }
 while read -r script; do
-    expect "$script has the options of bash that are exported" grep -qF ' exec env -u SHELLOPTS ' "$script"
+    expect "$script has the options of bash that are exported" grep -q '^{ \[ -n "\${BASH_VERSION:-}" .* exec env -u SHELLOPTS ' "$script"
     # What `exec` runs has the rest of a script in it.
     expect "an edit changes a run of $script" grep -qE '^(# Bash reads all of this before|exec (python3|awk) )' "$script"
 done < <(scripts)
@@ -182,6 +199,17 @@ for name in prefix= libdir= includedir=; do
     expect "bit_set.pc has a space of a path as it is in $name" grep -q "^$name/opt/a\\\\ b" "$room/source/build/none/bit_set.pc"
 done
 
+# A relative path is that of the folder of the sources, wherever bit_set.pc is read, and whatever CDPATH says.
+mkdir -p "$room/source/out"/{lib,include} "$room/elsewhere/out"/{lib,include}
+touch "$room/elsewhere/out/lib/libbit_set.a"
+make -s -C "$room/source" PREFIX=out PROCESSOR=none build/none/bit_set.pc > "$room/wrote" 2>&1 < /dev/null
+expect 'bit_set.pc has a relative path' grep -qx 'libdir=/.*/out/lib' "$room/source/build/none/bit_set.pc"
+CDPATH="$room/elsewhere" make -s -C "$room/source" PREFIX=out PROCESSOR=none uninstall > "$room/wrote" 2>&1 < /dev/null
+expect 'make uninstall works in another folder by CDPATH' [ -e "$room/elsewhere/out/lib/libbit_set.a" ]
+# Root may have written it, who installed the library before.
+ln -sf /dev/full "$room/source/build/none/bit_set.pc"
+expect 'make install cannot write bit_set.pc anew' make -s -C "$room/source" PROCESSOR=none build/none/bit_set.pc
+
 # A compiler that is called with a word of its own, of which two runs at a time write into one folder.
 mkdir -p "$room/headers" "$room/words"
 touch "$room/headers"/{Python.h,bit_set.h}
@@ -205,6 +233,10 @@ for run in "${!run_of[@]}"; do
     expect "python/build, the ${run_of[$run]} of two, ends with $ended: $(cat "$room/${run_of[$run]}")" ends_with 0
 done
 expect 'python/build leaves a file of its own' [ "$(find "$room/module" -type f | wc -l)" -eq 4 ]
+
+# The headers of Python 3.12 count no reference in these, which each version before it frees then.
+expect 'the Python module returns None with no reference where newer headers built it' \
+    not grep -rqwE 'Py_RETURN_(NONE|TRUE|FALSE|NOTIMPLEMENTED)' "$top/python/src"
 
 # A variable that is empty names no folder: then the package takes the library that it has in it.
 if command -v rustc > /dev/null; then
@@ -237,6 +269,25 @@ printf '%s\n' '#!/bin/sh' : > "$library/script"
 in_library init -q && in_library add . && in_library commit -qm stand_in
 expect 'an archive has other ends of lines where core.autocrlf is true' \
     cmp "$library/script" <(git -C "$library" -c core.autocrlf=true archive HEAD script | tar xO)
+
+# A package of Debian's has the same bytes, however others compress theirs.
+if command -v dpkg-deb > /dev/null; then
+    mkdir -p "$room/package_of/DEBIAN" "$room/package_of/usr"
+    printf '%s\n' 'Package: a' 'Version: 1' 'Architecture: all' 'Maintainer: a <a@example.com>' 'Description: a' \
+        > "$room/package_of/DEBIAN/control"
+    cat "$top"/tests/scripts/*.sh > "$room/package_of/usr/texts"
+    for level in '' 0; do
+        (
+            # shellcheck disable=SC2034  # what the parts read
+            folder="$room/packed$level" version=1 architecture=all SOURCE_DATE_EPOCH=0
+            mkdir "$folder"
+            . "$top/tools/release/packing.sh" && . "$top/tools/release/debian.sh"
+            export SOURCE_DATE_EPOCH ${level:+DPKG_DEB_COMPRESSOR_LEVEL="$level"}
+            build_package "$room/package_of"
+        ) > "$room/said" 2>&1
+    done
+    expect 'a package has other bytes by DPKG_DEB_COMPRESSOR_LEVEL' cmp "$room"/packed{,0}/package_of_1-1_all.deb
+fi
 
 # Where a comma stands before a fraction, rows of scaling are judged as elsewhere. Each takes 5.2 times as much here.
 if [ -n "$comma" ]; then

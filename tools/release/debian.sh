@@ -101,5 +101,5 @@ build_package() {
     local tree="$1"
     (cd "$tree" && find usr -type f -print0 | sort -z | xargs -0 md5sum) > "$tree/DEBIAN/md5sums"
     settle "$tree"
-    dpkg-deb --root-owner-group -Zxz -b "$tree" "$folder/${tree##*/}_$version-1_$architecture.deb" > /dev/null
+    dpkg-deb --root-owner-group -Zxz -z6 -b "$tree" "$folder/${tree##*/}_$version-1_$architecture.deb" > /dev/null
 }

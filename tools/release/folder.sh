@@ -16,9 +16,17 @@ look_at_folder() {
 
 # Whether all is as it was committed, but for that folder.
 no_change() {
-    local but=()
+    local but=() changes
     [[ "$released" != "$top"/* ]] || but=(":(exclude,literal)${released#"$top"/}")
-    [ -z "$(git status --porcelain --untracked-files=normal -- . "${but[@]}")" ]
+    changes="$(git status --porcelain --untracked-files=normal -- . "${but[@]}")" || stop "git does not read the repository in $top"
+    [ -z "$changes" ]
+}
+
+# Which commit is checked out, and of when it is. Who reads logs may have git write before each what it says of signatures.
+read_commit() {
+    commit="$(git rev-parse HEAD)"
+    SOURCE_DATE_EPOCH="$(git log -1 --no-show-signature --format=%ct)"
+    export SOURCE_DATE_EPOCH
 }
 
 # Writes what was made into the folder, at once: no signal ends it in between.

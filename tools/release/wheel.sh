@@ -12,10 +12,11 @@ python_module() {
     CPATH="$headers" CC="$(tool_of "$1" gcc)" "$source/python/build" "$source/include" "${@:2}" < /dev/null
 }
 
-# It has the library for each processor of its kind in it, and needs nothing but glibc 2.17 or later.
+# It has the library for each processor of its kind in it, and needs nothing but glibc 2.17 or later. Its name says so twice:
+# pip before 20.3, as Python 3.8 and 3.9 may bring it, knows only the second word for that.
 #   make_wheel MACHINE
 make_wheel() {
-    local machine="$1" tree="$room/wheel-$1" base tag="cp38-abi3-manylinux_2_17_$1" newest
+    local machine="$1" tree="$room/wheel-$1" base newest platforms=("manylinux_2_17_$1" "manylinux2014_$1")
     read -r base _ <<< "$(processors_of "$machine")"
     local information="$tree/bit_set-$version.dist-info"
     python_module "$machine" "$tree" "$source/build/$base/libbit_set.a"
@@ -35,6 +36,7 @@ Requires-Python: >=3.8
 Classifier: Programming Language :: Python :: 3
 Classifier: Operating System :: POSIX :: Linux
 END
-    printf '%s\n' 'Wheel-Version: 1.0' 'Generator: bit_set' 'Root-Is-Purelib: false' "Tag: $tag" > "$information/WHEEL"
-    python3 "$top/tools/release/wheel.py" "$tree" "$folder/bit_set-$version-$tag.whl"
+    printf '%s\n' 'Wheel-Version: 1.0' 'Generator: bit_set' 'Root-Is-Purelib: false' "${platforms[@]/#/Tag: cp38-abi3-}" \
+        > "$information/WHEEL"
+    python3 "$top/tools/release/wheel.py" "$tree" "$folder/bit_set-$version-cp38-abi3-${platforms[0]}.${platforms[1]}.whl"
 }
