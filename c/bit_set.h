@@ -202,7 +202,7 @@ bool bit_set_first_gap(const bit_set *set, size_t from, size_t count, size_t *ga
     for (size_t start = 0, end = 0; bit_set_next_run(set, end, &start, &end);)
 
 /* ---- Ranges: the numbers that are `start` or above and below `end`, and none where `end` is `start` or below. Each block
- * of the range is read or written once, and no other. */
+ * of the range is read or written once at most, and no other but those that a growth adds. */
 
 /* Put each number of the range in, or take it out where it is in and put it in where not. The length becomes at least
  * `end`, unless the range is empty. Neither fails where `end` is at most the capacity. */

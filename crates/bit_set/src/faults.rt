@@ -8,7 +8,8 @@ use thiserror::Error;
 /// Why a set did not take something in.
 #[derive(Clone, Copy, Debug, PartialEq, Eq, Error)]
 pub enum SetError {
-    /// The number is `usize::MAX`: a length is above each element, and no length is above this one.
+    /// The number is `usize::MAX`, or would be that or more: a length is above each element, and none is above
+    /// `usize::MAX`.
     #[error("the element does not fit")]
     Element,
     /// The bytes have more bits than a `usize` counts.

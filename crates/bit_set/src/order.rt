@@ -13,7 +13,7 @@ use crate::{BitBlock, BitSet};
 use std::cmp::Ordering;
 
 /// Sets are equal where they have the same elements, whatever their lengths and capacities. Compares the blocks
-/// up to the first that differs; of long sets what says which of them are not zero first, and then these alone.
+/// up to the first that differs; of long sets the summaries first, and then the blocks alone that are not zero.
 impl<B: BitBlock> PartialEq for BitSet<B> {
     ghost eq = { λ s t. same_sets (elements s.values) (elements t.values) };
 

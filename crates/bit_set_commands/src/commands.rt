@@ -62,7 +62,7 @@ pub enum Command {
 /// What `run` returns for a command.
 #[derive(Debug, Drop, PartialEq, Eq)]
 pub enum Reply {
-    /// Yes or no: whether the set changed, or whether the number is in it.
+    /// Yes or no: whether the set changed, or whether what was asked holds.
     Truth(bool),
     /// It is done.
     Done,

@@ -40,7 +40,7 @@ impl<T: Drop> From<AllocFailed<T>> for RunFault {
 /// Executes the commands on the table, one after another, and appends a reply for each.
 ///
 /// At [`RunFault::Memory`] the commands before the one named have been executed and have their replies. It and
-/// those after it have changed nothing, but that an [`Command::Extend`] has put in the items before the one that
+/// those after it have changed nothing, but that a [`Command::Extend`] has put in the items before the one that
 /// could not go in. A reply's capacity is reserved before its command runs: where there is capacity for the
 /// replies, only an insert, an extend, a copy, an operation in place, an append, a split off at a number above 0,
 /// capacity past all numbers of a set, and `Items`, a walk, a rest and a shrink that have a number to show or to

@@ -103,8 +103,8 @@ impl<B: BitBlock> Slots<B> {
     }
 
     /// Takes the lowest free slot, and returns it; `None` where all are taken. It keeps a number below which all slots
-    /// are taken, but perhaps one that was given back. That one takes constant time, and any other a search of the
-    /// set's summary from the number on, which then goes past it.
+    /// are taken, but perhaps one that was given back. That one takes constant time. Any other takes a search
+    /// of the set's summary from the number on, which then becomes the one past the slot.
     ///
     /// ```
     /// let mut slots = Slots::<u32>::with_slots(alloc, 3)?;
@@ -158,9 +158,9 @@ impl<B: BitBlock> Slots<B> {
         Some(taken)
     }
 
-    /// Takes `count` free slots in a row, the lowest that there are, and returns the first of them; `None` where no so many
-    /// are free in a row, and then nothing changes. Where `count` is 0 it takes none, and returns 0. Searches in turn for the
-    /// next free slot and the next taken one, up to the end of those that it takes.
+    /// Takes `count` free slots in a row, the lowest that there are, and returns the first of them; `None` where no so
+    /// many are free in a row, and then nothing changes. Where `count` is 0 it takes none, and returns 0. Searches in
+    /// turn for the next free slot and the next taken one, up to the taken one after those that it takes.
     ///
     /// ```
     /// // Of five slots all but 1 are free.

@@ -38,8 +38,8 @@ impl<B: BitBlock> BitMatrix<B> {
         Ok(matrix)
     }
 
-    /// Puts the elements of the set, each of which is below [`columns`](Self::columns), into the row, and returns whether
-    /// some of them was not in. One pass over the blocks of both.
+    /// Puts the elements of the set, each of which is below [`columns`](Self::columns), into the row, and returns
+    /// whether one of them was not in. One pass over the blocks of both.
     ///
     /// ```
     /// assert!(matrix.union_row_with(&set, 1));

@@ -52,9 +52,9 @@ impl<B: BitBlock> BitSet<B> {
     }
 
     /// Puts each number of the range in. The length becomes at least `range.end`; nothing changes where the range is
-    /// empty. Writes each block of the range once, the whole ones as a fill. Fails only where `range.end` passes the
-    /// capacity and no memory is found; elements, length and capacity then stay. Each number of a range is below
-    /// `usize::MAX`, so that `Element` never comes.
+    /// empty. Writes each block of the range once, and those before it that the growth adds. Fails only where
+    /// `range.end` passes the capacity and no memory is found; elements, length and capacity then stay. Each number of
+    /// a range is below `usize::MAX`, so that `Element` never comes.
     ///
     /// ```
     /// // The set is {1, 4}.
@@ -83,8 +83,8 @@ impl<B: BitBlock> BitSet<B> {
         Ok(())
     }
 
-    /// Takes each number of the range out. The length stays. Writes each block of the range once, the whole ones as a
-    /// fill.
+    /// Takes each number of the range out. The length stays. Writes each block of the range once at most: in long sets
+    /// it passes over those that are zero.
     pub fn remove_range(&mut self, range: Range<usize>)
         ensures elements { elements self.new.values ≡ those_below (elements self.old.values) range.start
             ++ those_from (elements self.old.values) (max range.start range.end) }

@@ -70,7 +70,7 @@ pub extern "C" fn bit_matrix_difference_rows(
     matrix.get().difference_rows(read, write)
 }
 
-/// Puts the members of the set, each of which is below the number of columns, into the row, and returns whether some of
+/// Puts the members of the set, each of which is below the number of columns, into the row, and returns whether one of
 /// them was not in.
 #[unsafe(no_mangle)]
 pub extern "C" fn bit_matrix_union_row_with(
