@@ -1,6 +1,6 @@
 #!/usr/bin/env bash
 # Tries each edit of `misuse/` on a copy of the crates' sources: the compiler must reject it, for the one reason that
-# the edit names. Edits that the prover rejects are with the crates, in their must-fail/; these do not come so far.
+# the edit names. Edits that the prover rejects are in `edits/`, and two with a crate; these do not come so far.
 # An edit has one line each of 'crate:', 'file:', 'old:' and 'new:', of which the old text is once in the file, and
 # of 'says:', with which each error that is said begins, behind its place. The last line is 'N passed, M failed'.
 # Bash runs this where `sh` is called too. Options of it that are exported, and what it is to read first, are for other scripts.
