@@ -1,4 +1,4 @@
-//! Uses of `bit_set`, `bit_matrix` and `roaring`, as a caller writes them.
+//! Uses of `bit_set` and `bit_matrix`, as a caller writes them.
 #![tactic(auto, using(bit_set::proofs::CallerLemmas::calls))]
 
 ghost use Rattle.std.specs.Prelude.{◌≡◌, ℕ, ◌<◌, ◌≤◌, ◌%◌, ◌==◌, ◌&&◌, ◌||◌, ◌↔◌, ◌∷◌, if◌then◌else◌, not, nat_lt, false, All, IfNone, IfOk, IfSome, IsOk, OnOk, IsTrue, Some, length};
@@ -10,7 +10,6 @@ use std::alloc::{AllocError, AllocFailed, Global};
 use std::collections::BTreeMap;
 
 pub mod allocating;
-pub mod bitmaps;
 pub mod bits;
 pub mod chains;
 pub mod closing;

@@ -2,8 +2,6 @@
 #![tactic(auto)]
 
 #[cfg(test)]
-mod bitmap_tests;
-#[cfg(test)]
 mod bits_tests;
 #[cfg(test)]
 mod chains_tests;
