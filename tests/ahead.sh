@@ -1,9 +1,9 @@
 #!/usr/bin/env bash
 # Has `rt ci` prove the longest chain of crates ahead of the gate's own run. It gives a proof half of the cores while no
 # other can begin, and else one; and it takes what another run on the machine has proved, or is proving. So the chain up
-# to graph_walks is proved on two cores, and the gate's run has the others for what needs less; then refusals, which takes
-# longest, and for which the gate's run has no memory until late. Where rt can keep nothing, or takes no names of crates
-# since CI is set, nothing is proved here. It counts nothing: the gate's own run says what is not proved. The last line is
+# to roaring is proved on two cores, and the gate's run has the others for what needs less; then refusals, which takes
+# long, and for which the gate's run has no memory until late. Where rt can keep nothing, or takes no names of crates since
+# CI is set, nothing is proved here. It counts nothing: the gate's own run says what is not proved. The last line is
 # 'N passed, M failed'.
 # Bash runs this where `sh` is called too. Options of it that are exported, and what it is to read first, are for other scripts.
 { [ -n "${BASH_VERSION:-}" ] && [[ ${SHELLOPTS@a}${BASHOPTS@a}${BASH_ENV+x} != *x* ]]; } || exec env -u SHELLOPTS -u BASHOPTS -u BASH_ENV bash "$0" "$@"
@@ -18,7 +18,7 @@ make_room || exit 1
     kept="$(dirname "$(dirname "$(rt doc | head -n 1)")")/rattle-kept"
     # rt makes the folder itself, where it can.
     if [ "${CI:-}" != true ] && { [ -O "$kept" ] || { [ ! -e "$kept" ] && [ -w "$(dirname "$kept")" ]; }; }; then
-        for crate in graph_walks refusals; do
+        for crate in roaring refusals; do
             run_group rt ci "$crate" < /dev/null > "$room/said" 2>&1
             echo "ahead: $crate: $(tail -n 1 "$room/said")"
         done
