@@ -276,7 +276,9 @@ if command -v dpkg-deb > /dev/null; then
     printf '%s\n' 'Package: a' 'Version: 1' 'Architecture: all' 'Maintainer: a <a@example.com>' 'Description: a' \
         > "$room/package_of/DEBIAN/control"
     cat "$top"/tests/scripts/*.sh > "$room/package_of/usr/texts"
-    for level in '' 0; do
+    for level in '' 0 9; do
+        # The last of them in a folder that hands its group on.
+        [ "$level" != 9 ] || chmod g+s "$room/package_of"{,/DEBIAN,/usr}
         (
             # shellcheck disable=SC2034  # what the parts read
             folder="$room/packed$level" version=1 architecture=all SOURCE_DATE_EPOCH=0
@@ -287,6 +289,7 @@ if command -v dpkg-deb > /dev/null; then
         ) > "$room/said" 2>&1
     done
     expect 'a package has other bytes by DPKG_DEB_COMPRESSOR_LEVEL' cmp "$room"/packed{,0}/package_of_1-1_all.deb
+    expect "a package has other bytes in a folder of a group: $(cat "$room/said")" cmp "$room"/packed{,9}/package_of_1-1_all.deb
 fi
 
 # Where a comma stands before a fraction, rows of scaling are judged as elsewhere. Each takes 5.2 times as much here.

@@ -38,9 +38,10 @@ newest_glibc() {
     objdump -T "$@" | sed -n 's/.*GLIBC_\([0-9.]*\).*/\1/p' | sort -V | tail -n 1
 }
 
-# Gives all below a folder one time and the same rights, so that nothing of when and where it was made stays.
+# Gives all below a folder one time and the same rights, so that nothing of when and where it was made stays. Folders of a
+# group hand a bit on to what is made in them, with which dpkg-deb takes no package.
 settle() {
-    chmod -R u+rwX,go+rX,go-w "$1"
+    chmod -R u+rwX,go+rX,go-w,a-s "$1"
     find "$1" -exec touch -h -d "@$SOURCE_DATE_EPOCH" {} +
 }
 
