@@ -199,6 +199,20 @@ for name in prefix= libdir= includedir=; do
     expect "bit_set.pc has a space of a path as it is in $name" grep -q "^$name/opt/a\\\\ b" "$room/source/build/none/bit_set.pc"
 done
 
+# And it may have quotes, as a home of somebody's has. What is installed is built already here.
+mkdir -p "$room/source/include" "$room/source/build/none"
+touch "$room/source/include"/a.{h,hpp} "$room/source/build/none"/libbit_set.{a,so.} "$room/source/build/none"/{bit_set,bit_set32,mem}.o
+quoted="$room/o'neil \"q\""
+for words in install uninstall; do
+    ended=0
+    make -s -C "$room/source" -o build/none/libbit_set.a -o build/none/libbit_set.so. DESTDIR="$quoted" PREFIX="/it's" \
+        PROCESSOR=none "$words" > "$room/wrote" 2>&1 < /dev/null || ended=$?
+    expect "make $words with quotes in a path ends with $ended: $(cat "$room/wrote")" ends_with 0
+    [ "$words" = uninstall ] || expect 'make install leaves a file out where a path has quotes' \
+        [ -f "$quoted/it's/lib/libbit_set.a" -a -f "$quoted/it's/include/a.h" ]
+done
+expect 'make uninstall leaves something where a path has quotes' [ -z "$(find "$quoted" ! -type d)" ]
+
 # A relative path is that of the folder of the sources, wherever bit_set.pc is read, and whatever CDPATH says.
 mkdir -p "$room/source/out"/{lib,include} "$room/elsewhere/out"/{lib,include}
 touch "$room/elsewhere/out/lib/libbit_set.a"
