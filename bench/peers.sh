@@ -117,22 +117,26 @@ build_peers() {
     peer fixedbitset
 }
 
-# Whether the file is newer than each source in the folders, and this toolchain made it.
+# Whether the file is whole, of no source in the folders that was changed since it was begun, and made by this toolchain.
 is_newer() {
     local file="$1"
     shift
     [ -e "$file" ] && [ "$(cat "$file.by" 2> /dev/null)" = "$(rt version)" ] && [ -z "$(find "$@" -name out -prune \
-        -o \( -name '*.rs' -o -name '*.rt' -o -name '*.antt' \) -newer "$file" -print -quit)" ]
+        -o \( -name '*.rs' -o -name '*.rt' -o -name '*.antt' \) -newer "$file.by" -print -quit)" ]
 }
 
-# Takes note of which toolchain made a file.
-note_toolchain() { rt version > "$1.by"; }
+# Takes note that a file is begun, by which toolchain and when, and that it is made.
+note_begun() { rm -f "$1.by" && rt version > "$1.begun"; }
+note_made() { mv "$1.begun" "$1.by"; }
 
 # Makes the static library NAME, out/PROCESSOR/libNAME.a of its crate. To rt the crate is a library as any other, which
 # the gate proves in less time; so the compiler is called here, over the libraries below as rt proves them. What it
 # proves is kept for the next processor.
 build_static() {
     local name="$1" archive="out/$cpu/lib$1.a" kit library words
+    ! is_newer "$crates/$name/$archive" "$crates" || return 0
+    mkdir -p "$crates/$name/out/$cpu" "$crates/$name/out/kept"
+    note_begun "$crates/$name/$archive"
     kit="$(dirname "$(rt doc | head -n 1)")"
     words=(--crate-name "$name" --crate-type staticlib --cpu "$cpu" --jobs "$(nproc)" --links "$name=")
     words+=(--incremental out/kept -L "dependency=$kit/rlibs")
@@ -149,11 +153,8 @@ build_static() {
     done
     words+=(--toolchain "$kit/toolchain" --antt-project "$kit/rattle/logic/antt-project.json")
     words+=(--logic-built "$kit/logic_built" --backend llvm -o "$archive")
-    mkdir -p "$crates/$name/out/$cpu" "$crates/$name/out/kept"
-    if ! is_newer "$crates/$name/$archive" "$crates"; then
-        quietly in_folder "$crates/$name" "$kit/bin/rattle" build "${words[@]}" src/lib.rt
-        note_toolchain "$crates/$name/$archive"
-    fi
+    quietly in_folder "$crates/$name" "$kit/bin/rattle" build "${words[@]}" src/lib.rt
+    note_made "$crates/$name/$archive"
 }
 
 # Builds the Rust program SOURCE over the static libraries NAMES.
@@ -161,12 +162,14 @@ build_static() {
 build_over() {
     local name libraries=()
     say "proving and building this library, which takes some minutes the first time"
+    mkdir -p "$(dirname "$3")"
+    note_begun "$3"
     for name in $1; do
         build_static "$name"
         libraries+=(-C "link-arg=$crates/$name/out/$cpu/lib$name.a")
     done
     rust --edition 2024 "$2" "${libraries[@]}" -o "$3" "${@:4}"
-    note_toolchain "$3"
+    note_made "$3"
 }
 
 # The same, over the peers too.

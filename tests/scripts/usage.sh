@@ -87,7 +87,7 @@ ended=0
 expect "bench/run without packages ends with $ended" ends_with 2
 expect 'bench/run works in another folder by CDPATH' [ -d "$room/kept/x86-64-v2" ]
 
-# What another toolchain made is not taken for new.
+# What another toolchain made is not taken for new, nor what is made in part or of an older source.
 if command -v rustc > /dev/null; then
     (
         # shellcheck disable=SC2034  # what peers.sh reads
@@ -95,14 +95,26 @@ if command -v rustc > /dev/null; then
         # shellcheck source=/dev/null
         . "$top/bench/peers.sh"
         mkdir "$room/sources"
-        touch "$room/sources/lib.rt" "$room/library_made"
-        note_toolchain "$room/library_made"
-        is_newer "$room/library_made" "$room/sources" || exit
+        made="$room/library_made"
+        make_it() { note_begun "$made" && sleep 0.1 && "$@" && touch "$made"; }
+        touch "$room/sources/lib.rt" && sleep 0.1
+        make_it true && note_made "$made"
+        is_newer "$made" "$room/sources" || exit
+        # A run that is ended as it makes it, and an edit meanwhile.
+        make_it true
+        ! is_newer "$made" "$room/sources" || exit 3
+        make_it touch "$room/sources/lib.rt" && note_made "$made"
+        ! is_newer "$made" "$room/sources" || exit 4
+        make_it true && note_made "$made"
+        is_newer "$made" "$room/sources" || exit
         echo 'kit of other stand-ins' > "$STAND_INS/kit/KIT-ID"
-        ! is_newer "$room/library_made" "$room/sources"
+        ! is_newer "$made" "$room/sources" || exit 5
     ) > "$room/wrote" 2>&1 < /dev/null
     ended=$?
-    expect "what another toolchain made is taken for new: $(cat "$room/wrote")" ends_with 0
+    expect "what is half made is taken for new: $(cat "$room/wrote")" not ends_with 3
+    expect 'what was made before an edit is taken for new' not ends_with 4
+    expect 'what another toolchain made is taken for new' not ends_with 5
+    expect "what is new is not taken for that: $ended" grep -qx '[0345]' <<< "$ended"
 fi
 
 # Makes of a copy of a library one that `add` takes for its own of an older library.
