@@ -191,6 +191,31 @@ end_add copied
 expect 'add by SIGTERM leaves a part of what is proved' [ "$(ls -A crates/bit_set/out)" = incremental ]
 expect 'add fails after a part was copied' "$from/add"
 expect 'add takes a part of what is proved for all' [ -d crates/bit_set/out/rlib/more ]
+
+# What is proved of an older copy, which cannot be removed, as where root has proved it.
+cat > "$room/slow/rm" << 'STAYS'
+#!/bin/sh
+case "$*" in */out/rlib | */out/.rlib) [ ! -e "$2" ] || exit 1 ;; esac
+command -p rm "$@"
+STAYS
+chmod +x "$room/slow/rm"
+make_older
+ended=0
+PATH="$room/slow:$PATH" "$from/add" > "$room/wrote" 2> "$room/said" || ended=$?
+expect "add that cannot bring a copy up to date ends with $ended" ends_with 1
+expect 'add says that a copy is up to date that is not' not grep -q 'bit_set: brought' "$room/wrote"
+expect 'add leaves neither copy where it can remove nothing' grep -qx older crates/bit_set/README.md
+expect 'add takes for proved what is left of it' [ ! -e crates/bit_set/out/rlib ]
+rm "$room/slow/rm"
+expect 'add fails once what is proved can be removed' "$from/add"
+expect 'add leaves an older copy once that can be removed' not grep -qx older crates/bit_set/README.md
+
+# A repository that is only to be read.
+chmod -R a-w "$from/crates"
+mkdir "$room/read_only"
+(cd "$room/read_only" && touch .git && "$from/add") > "$room/wrote" 2> "$room/said"
+chmod -R u+w "$from/crates"
+expect 'add makes a copy that is only to be read' [ -z "$(find "$room/read_only/crates" ! -perm -u+w)" ]
 cd "$top" || exit 1
 
 # Without a folder for temporary files a script would work at the root of the file system.
