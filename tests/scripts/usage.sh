@@ -210,6 +210,14 @@ rm "$room/slow/rm"
 expect 'add fails once what is proved can be removed' "$from/add"
 expect 'add leaves an older copy once that can be removed' not grep -qx older crates/bit_set/README.md
 
+# A folder that is another crate.
+for folder in crates/bit_words crates/../crates/bit_set/src; do
+    ended=0
+    (cd "$from" && tools/needed bit_set "$folder") > "$room/wrote" 2> "$room/said" || ended=$?
+    expect "tools/needed into $folder ends with $ended" ends_with 2
+    expect "tools/needed takes what is in $folder away" [ -f "$from/crates/bit_words/src/bit_vec.rt" ]
+done
+
 # A repository that is only to be read.
 chmod -R a-w "$from/crates"
 mkdir "$room/read_only"
@@ -265,6 +273,16 @@ expect 'make uninstall works in another folder by CDPATH' [ -e "$room/elsewhere/
 # Root may have written it, who installed the library before.
 ln -sf /dev/full "$room/source/build/none/bit_set.pc"
 expect 'make install cannot write bit_set.pc anew' make -s -C "$room/source" PROCESSOR=none build/none/bit_set.pc
+
+# A command that fails once it has written a part.
+mkdir -p "$room/fails" "$room/source/examples"
+echo 'int bit_set_none;' > "$room/source/examples/a.c"
+printf '%s\n' '#!/bin/sh' 'echo a part' 'exit 1' > "$room/fails/sed"
+chmod +x "$room/fails/sed"
+for path in "$room/fails:$PATH" "$PATH"; do
+    PATH="$path" make -s -C "$room/source" PROCESSOR=none build/none/a32.c > "$room/wrote" 2>&1 < /dev/null
+done
+expect 'make takes what was written in part for whole' grep -qx 'int bit_set32_none;' "$room/source/build/none/a32.c"
 
 # A compiler that is called with a word of its own, of which two runs at a time write into one folder.
 mkdir -p "$room/headers" "$room/words"
