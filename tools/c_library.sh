@@ -174,18 +174,19 @@ assemble_both() {
 
 # The headers, of which that over blocks of 32 bits is made of the other.
 write_headers() {
-    cp "$top"/c/*.h "$top"/c/*.hpp "$1"
+    cp "$top"/c/bit_set.{h,hpp} "$1"
     sed 's/bit_\(set\|matrix\)/bit_\132/g; s/bit_set32_c\b/bit_set_c/; s/BIT_\(SET\|MATRIX\)/BIT_\132/g
         s/uint64_t bit_set32_block/uint32_t bit_set32_block/
         s/blocks have 64 bits/blocks have 32 bits/; s,n % 64,n % 32,; s,n / 64,n / 32,' "$top/c/bit_set.h" > "$1/bit_set32.h"
 }
 
-# Writes all of the source release into a folder but for its assembly.
+# Writes all of the source release into a folder but for its assembly. Each file has its name here, since what an editor
+# or a compiler left beside them, of which git may be told to say nothing, is no part of it.
 write_source() {
     mkdir -p "$1"/{include,src,examples,tests}
-    cp "$top"/c/source/{Makefile,CMakeLists.txt,README.md} "$top"/LICENSE-* "$top/CHANGELOG.md" "$1"
+    cp "$top"/c/source/{Makefile,CMakeLists.txt,README.md} "$top"/LICENSE-{MIT,APACHE} "$top/CHANGELOG.md" "$1"
     cp "$top/c/source/mem.c" "$1/src"
-    cp "$top"/c/example.* "$1/examples"
+    cp "$top"/c/example.{c,cc,out} "$1/examples"
     cp "$top"/tests/c_*.[ch] "$1/tests"
     write_headers "$1/include"
 }

@@ -228,6 +228,22 @@ expect "release of what is not committed ended with $ended" ends_with 1
 expect 'release does not say what is not committed' says 'not committed'
 expect 'release makes a folder where it fails' [ ! -e "$room/released" ]
 in_library checkout -q c/build
+for unseen in skip-worktree assume-unchanged; do
+    in_library update-index "--$unseen" c/build
+    echo '# changed' >> "$library/c/build"
+    release
+    expect "release of a change that git is told not to see, by $unseen, ended with $ended" ends_with 1
+    expect "release does not say what is not committed, by $unseen" says 'not committed'
+    in_library update-index "--no-$unseen" c/build && in_library checkout -q c/build
+done
+
+# What a compiler or an editor left beside the sources.
+left=("$library"/{c/example.o,c/other.h,LICENSE-MIT.orig})
+touch "${left[@]}"
+(. "$library/tools/c_library.sh" && write_source "$room/written") > "$room/wrote" 2> "$room/said" < /dev/null
+expect "a release takes what a compiler left: $(cd "$room/written" && find . -type f | tr '\n' ' ')" \
+    [ "$(cd "$room/written" && printf '%s ' L* e*/* i*/*)" = 'LICENSE-APACHE LICENSE-MIT examples/example.c examples/example.cc examples/example.out include/bit_set.h include/bit_set.hpp include/bit_set32.h ' ]
+rm "${left[@]}"
 
 # What git cannot read may have changed. Another user's checkout is not read at all.
 mv "$library/.git/index" "$room/index"

@@ -14,12 +14,13 @@ look_at_folder() {
     [ "$at" != "$released" ] || [ -z "$(ls -A -- "$at")" ] || stop "$released is not empty"
 }
 
-# Whether all is as it was committed, but for that folder.
+# Whether all is as it was committed, but for that folder. No file is one at which git is told not to look.
 no_change() {
-    local but=() changes
+    local but=() changes files
     [[ "$released" != "$top"/* ]] || but=(":(exclude,literal)${released#"$top"/}")
-    changes="$(git status --porcelain --untracked-files=normal -- . "${but[@]}")" || stop "git does not read the repository in $top"
-    [ -z "$changes" ]
+    { changes="$(git status --porcelain --untracked-files=normal -- . "${but[@]}")" && files="$(git ls-files -v)"; } \
+        || stop "git does not read the repository in $top"
+    [ -z "$changes" ] && ! grep -qv '^H ' <<< "$files"
 }
 
 # Which commit is checked out, and of when it is. Who reads logs may have git write before each what it says of signatures.
