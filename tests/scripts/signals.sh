@@ -216,6 +216,14 @@ for signal in HUP INT QUIT TERM; do
 done
 release /usr/bin:/bin
 expect "release without rt ended with $ended" ends_with 127
+mkdir "$room/older"
+printf '%s\n' '#!/bin/sh' "exec $(type -P python3) -c 'import sys, sysconfig; sys.version_info = (3, 7, 1); exec(sys.argv.pop())' \"\$2\"" \
+    > "$room/older/python3"
+chmod +x "$room/older/python3"
+forget_calls
+release "$room/older:$others:$PATH"
+expect "release by an older Python ended with $ended" ends_with 1
+expect 'release proves what an older Python cannot build' not is_called 'bit_set_c$'
 mkdir "$room/released"
 touch "$room/released/theirs"
 release

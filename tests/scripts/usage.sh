@@ -308,6 +308,15 @@ for run in "${!run_of[@]}"; do
 done
 expect 'python/build leaves a file of its own' [ "$(find "$room/module" -type f | wc -l)" -eq 4 ]
 
+# A Python that is older than the module takes.
+printf '%s\n' '#!/bin/sh' "exec python3 -c 'import sys, sysconfig; sys.version_info = (3, 7, 1); exec(sys.argv.pop())' \"\$2\"" \
+    > "$room/words/older"
+chmod +x "$room/words/older"
+ended=0
+PYTHON="$room/words/older" "$top/python/build" "$room/headers" "$room/module" > "$room/wrote" 2> "$room/said" < /dev/null || ended=$?
+expect "python/build by an older Python ends with $ended" ends_with 1
+expect 'python/build does not say that Python is too old' says 'this is Python 3.7, and'
+
 # The headers of Python 3.12 count no reference in these, which each version before it frees then.
 expect 'the Python module returns None with no reference where newer headers built it' \
     not grep -rqwE 'Py_RETURN_(NONE|TRUE|FALSE|NOTIMPLEMENTED)' "$top/python/src"
