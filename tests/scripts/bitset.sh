@@ -120,6 +120,15 @@ expect "under $comma it ends with $ended" ends_with 0
 expect 'it asks rt where nothing has changed' not is_called version
 mark low 7
 expect_marks 'with a change of an older source' 7 7 1
+
+# Another way to build the program, by a script that is newer than it.
+sleep 3.1
+expect_marks 'with older sources, before another script' 7 7 1
+sed 's/^compile() {/&\n    : another way/' "$room/script" > "$repository/bitset"
+forget_calls
+expect_marks 'with another way to build' 7 7 1
+expect 'it builds nothing in another way' is_called 'low$'
+cat "$room/script" > "$repository/bitset"
 mkdir -p "$repository/crates/mid/src/out"
 echo '// mark: inside' > "$repository/crates/mid/src/out/inside.rt"
 run
