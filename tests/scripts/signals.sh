@@ -245,6 +245,25 @@ for unseen in skip-worktree assume-unchanged; do
     in_library update-index "--no-$unseen" c/build && in_library checkout -q c/build
 done
 
+# A disk that keeps no owner of a file, as root has it say.
+mkdir "$room/no_owners" "$room/made"
+cat > "$room/no_owners/cp" << 'COPIES'
+#!/bin/sh
+command -p cp "$@" || exit
+case "$1" in -*p*) echo 'cp: failed to preserve ownership' >&2 && exit 1 ;; esac
+COPIES
+chmod +x "$room/no_owners/cp"
+echo a > "$room/made/a file"
+ended=0
+(
+    # shellcheck disable=SC2034  # what the part reads
+    released="$room/handed/over" folder="$room/made" PATH="$room/no_owners:$PATH"
+    stop() { exit 1; }
+    . "$top/tools/release/folder.sh" && hand_over
+) > "$room/wrote" 2> "$room/said" < /dev/null || ended=$?
+expect "a release on a disk that keeps no owners ends with $ended: $(cat "$room/said")" ends_with 0
+expect 'a release is not handed over' cmp "$room/made/a file" "$room/handed/over/a file"
+
 # What a compiler or an editor left beside the sources.
 left=("$library"/{c/example.o,c/other.h,LICENSE-MIT.orig})
 touch "${left[@]}"

@@ -37,7 +37,8 @@ hand_over() {
     look_at_folder "$released"
     [ ! -d "$released" ] || was_there=yes
     mkdir -p -- "$released"
-    cp -p -- "$folder"/* "$released" || {
+    # Not with their owner, which many disks of others do not keep.
+    cp -- "$folder"/* "$released" || {
         (cd "$folder" && printf '%s\0' *) | (cd "$released" && xargs -0 rm -f --)
         [ -n "$was_there" ] || rmdir -- "$released"
         stop "$released cannot be written"
