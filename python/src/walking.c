@@ -206,7 +206,8 @@ static PyObject *put_bytes_by(PyObject *self, PyObject *bytes, bool (*call)(bit_
         Py_XDECREF(view);
         return NULL;
     }
-    bool found = call(&made, start, (size_t)length);
+    /* What has no bytes may have no place for them, which the library is owed. */
+    bool found = call(&made, start ? start : "", (size_t)length);
     Py_DECREF(view);
     if (!found)
         return PyErr_NoMemory();
