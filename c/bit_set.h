@@ -470,8 +470,8 @@ void bit_matrix_transitive_closure(bit_matrix *matrix) BIT_SET_CALL;
 void bit_matrix_reflexive_transitive_closure(bit_matrix *matrix) BIT_SET_CALL;
 
 /* The dominators of each row: row v of the new matrix, which has as many rows and columns, has d where every path from
- * `entry` to v goes through d. So the row of v has v and `entry`, and every d where no path leads to v. Goes over all edges
- * until nothing changes, with one pass over two rows for each edge. */
+ * `entry` to v goes through d. So the row of v has v and `entry`, and every d where no path leads to v, as from an `entry`
+ * that is no row. Goes over all edges until nothing changes, with one pass over two rows for each edge. */
 bool bit_matrix_dominators(bit_matrix **out, const bit_matrix *graph, size_t entry) BIT_SET_MAY_FAIL;
 
 /* ---- The calls that owe two sets, or a row or a column that is there, where BIT_SET_CHECKED is defined: each looks
@@ -580,11 +580,6 @@ static inline bool bit_matrix_checked_row_to_set(bit_set **out, const bit_matrix
     return bit_matrix_row_to_set(out, matrix, row);
 }
 
-static inline bool bit_matrix_checked_dominators(bit_matrix **out, const bit_matrix *graph, size_t entry) {
-    bit_matrix_stop_past_row(graph, entry, "dominators");
-    return bit_matrix_dominators(out, graph, entry);
-}
-
 static inline size_t bit_matrix_checked_count(const bit_matrix *matrix, size_t row) {
     bit_matrix_stop_past_row(matrix, row, "count");
     return bit_matrix_count(matrix, row);
@@ -637,7 +632,6 @@ static inline void bit_matrix_checked_insert_range(bit_matrix *matrix, size_t ro
 #define bit_matrix_insert bit_matrix_checked_insert
 #define bit_matrix_remove bit_matrix_checked_remove
 #define bit_matrix_row_to_set bit_matrix_checked_row_to_set
-#define bit_matrix_dominators bit_matrix_checked_dominators
 #define bit_matrix_next bit_matrix_checked_next
 #define bit_matrix_copy_members bit_matrix_checked_copy_members
 #define bit_matrix_copy_blocks bit_matrix_checked_copy_blocks

@@ -237,10 +237,11 @@ for script in gate release tests/scripts.sh tests/add.sh; do
     expect "$script works in the repository whose hook runs it" grep -q '^unset GIT_DIR ' "$top/$script"
 done
 
-# Each call that is given a row, or an entry which is one, looks first where C asks for it.
+# Each call that is given a row looks first where C asks for it. An entry may be any number.
 while read -r call; do
     expect "with BIT_SET_CHECKED $call does not look at its row" grep -qx "#define $call bit_matrix_checked_.*" "$top/c/bit_set.h"
-done < <(sed -n 's/^[a-z].*\b\(bit_matrix_[a-z_]*\)(.*\bsize_t \(row\|read\|entry\)\b.*/\1/p' "$top/c/bit_set.h" | grep -v -e _stop_ -e _checked_)
+done < <(sed -n 's/^[a-z].*\b\(bit_matrix_[a-z_]*\)(.*\bsize_t \(row\|read\)\b.*/\1/p' "$top/c/bit_set.h" | grep -v -e _stop_ -e _checked_)
+expect 'with BIT_SET_CHECKED some entry ends the process' not grep -q checked_dominators "$top/c/bit_set.h"
 
 # Where the library is installed may have a space, which pkg-config would take for the end of a word.
 cp -r "$top/c/source" "$room/source"
