@@ -131,7 +131,7 @@ ended_by_signal() {
         . "$here/scripts/real.sh"
     else
         set_up_toolchain
-        for part in bitset waiting signals usage; do
+        for part in bitset waiting signals usage packages; do
             # shellcheck source=/dev/null
             . "$here/scripts/$part.sh"
         done

@@ -1,0 +1,21 @@
+# What packages and headers say to those who build over them, with a source release whose library has a mark alone. To be
+# sourced by tests/scripts.sh.
+# shellcheck shell=bash disable=SC2154
+packed="$room/packed_source"
+(. "$top/tools/c_library.sh" && write_source "$packed") > "$room/said" 2>&1
+mkdir "$packed/src/none"
+for bits in '' 32; do
+    printf '\t.globl\tbit_set%s_mark\nbit_set%s_mark:\n\tret\n' "$bits" "$bits" > "$packed/src/none/bit_set$bits.s"
+done
+
+# CMake and make tell pkg-config the same, also of a path that is named only as the library is installed.
+if command -v cmake > /dev/null; then
+    installed="$room/o'neil \"q\""
+    {
+        cmake -S "$packed" -B "$room/by_cmake" -DBIT_SET_PROCESSOR=none -DBUILD_TESTING=OFF -DCMAKE_INSTALL_LIBDIR=lib \
+            && cmake --build "$room/by_cmake" && cmake --install "$room/by_cmake" --prefix "$installed"
+    } > "$room/wrote" 2>&1 < /dev/null
+    expect "CMake does not build the library: $(tail -n 5 "$room/wrote")" [ -f "$installed/lib/libbit_set.a" ]
+    make -s -C "$packed" PREFIX="$installed" PROCESSOR=none build/none/bit_set.pc > "$room/wrote" 2>&1 < /dev/null
+    expect 'CMake tells pkg-config something else than make' cmp "$packed/build/none/bit_set.pc" "$installed/lib/pkgconfig/bit_set.pc"
+fi
