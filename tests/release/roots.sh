@@ -67,7 +67,9 @@ try_packages() {
             gcc -O2 bit_set-\$VERSION/tests/$calls.c \$(pkg-config --cflags --libs bit_set) -o $calls
             ./$calls \$ROUNDS"
     done
-    try "$on: the tests of Python over the package" inside 'python3 bit_set-$VERSION/python/tests.py'
+    try "$on: the tests of Python over the package" inside 'python3 bit_set-$VERSION/python/tests.py
+        [ "$(python3 -c "from importlib import metadata; print(metadata.version(\"bit-set\"))")" = "$VERSION" ]
+        python3 -m pip list | grep "^bit[-_]set "'
     try "$on: the packages are removed" inside '
         dpkg --purge python3-bit-set libbit-set-dev libbit-set0 && ! ls /usr/lib/*/libbit_set*'
 }

@@ -19,3 +19,18 @@ if command -v cmake > /dev/null; then
     make -s -C "$packed" PREFIX="$installed" PROCESSOR=none build/none/bit_set.pc > "$room/wrote" 2>&1 < /dev/null
     expect 'CMake tells pkg-config something else than make' cmp "$packed/build/none/bit_set.pc" "$installed/lib/pkgconfig/bit_set.pc"
 fi
+
+# What Debian's package has beside the module, as pip and Python read it.
+module="$room/dist-packages"
+(
+    # shellcheck disable=SC2034  # what the part reads
+    version=1.2.3 machine=none runtime='' libraries='' abi=''
+    . "$top/tools/release/wheel.sh" && . "$top/tools/release/debian.sh"
+    python_module() { mkdir -p "$2"; }
+    make_module "$module"
+) > "$room/said" 2>&1
+PYTHONPATH="$module" python3 -c '
+from importlib import metadata
+found = metadata.distribution("bit-set")
+print(found.version, found.metadata["Requires-Python"], found.read_text("INSTALLER").strip(), found.files)' > "$room/wrote" 2>> "$room/said"
+expect "Python finds no package of Debian's: $(cat "$room/said")" wrote '1.2.3 >=3.8 debian None'

@@ -16,7 +16,7 @@ make_debian() {
     install_into "$machine" "$development" PREFIX=/usr LIBDIR="/$libraries" PC_LIBDIR="\$\${prefix}/lib/$triplet" \
         PC_INCLUDEDIR="\$\${prefix}/include"
     split_library
-    python_module "$machine" "$module/usr/lib/python3/dist-packages" "-L$runtime/$libraries" "-l:libbit_set.so.$abi"
+    make_module "$module/usr/lib/python3/dist-packages"
     strip_all
     local glibc newest
     glibc="$(newest_glibc "$runtime/$libraries/libbit_set.so.$abi")"
@@ -56,6 +56,15 @@ split_library() {
     done < "$room/shared"
     mkdir -p "$development/usr/share/doc/libbit-set-dev"
     cp -r "$source/examples" "$source/PROOF.txt" "$development/usr/share/doc/libbit-set-dev"
+}
+
+# Builds the module, which pip lists then. It has no list of its files there, so that pip leaves it to dpkg.
+#   make_module FOLDER
+make_module() {
+    local information="$1/bit_set-$version.dist-info"
+    python_module "$machine" "$1" "-L$runtime/$libraries" "-l:libbit_set.so.$abi"
+    write_metadata "$information"
+    echo debian > "$information/INSTALLER"
 }
 
 strip_all() {

@@ -12,6 +12,22 @@ python_module() {
     CPATH="$headers" CC="$(tool_of "$1" gcc)" "$source/python/build" "$source/include" "${@:2}" < /dev/null
 }
 
+# Writes what pip and importlib.metadata say of the package.
+#   write_metadata FOLDER      one whose name ends in .dist-info
+write_metadata() {
+    mkdir -p "$1"
+    cat > "$1/METADATA" << END
+Metadata-Version: 2.1
+Name: bit_set
+Version: $version
+Summary: Sets of whole numbers as bits, over a library of which every call is proved
+License: MIT OR Apache-2.0
+Requires-Python: >=3.8
+Classifier: Programming Language :: Python :: 3
+Classifier: Operating System :: POSIX :: Linux
+END
+}
+
 # It has the library for each processor of its kind in it, and needs nothing but glibc 2.17 or later. Its name says so twice:
 # pip before 20.3, as Python 3.8 and 3.9 may bring it, knows only the second word for that.
 #   make_wheel MACHINE
@@ -26,16 +42,7 @@ make_wheel() {
     mkdir -p "$information/licenses"
     cp "$source/PROOF.txt" "$information"
     cp "$source"/LICENSE-* "$information/licenses"
-    cat > "$information/METADATA" << END
-Metadata-Version: 2.1
-Name: bit_set
-Version: $version
-Summary: Sets of whole numbers as bits, over a library of which every call is proved
-License: MIT OR Apache-2.0
-Requires-Python: >=3.8
-Classifier: Programming Language :: Python :: 3
-Classifier: Operating System :: POSIX :: Linux
-END
+    write_metadata "$information"
     printf '%s\n' 'Wheel-Version: 1.0' 'Generator: bit_set' 'Root-Is-Purelib: false' "${platforms[@]/#/Tag: cp38-abi3-}" \
         > "$information/WHEEL"
     python3 "$top/tools/release/wheel.py" "$tree" "$folder/bit_set-$version-cp38-abi3-${platforms[0]}.${platforms[1]}.whl"
