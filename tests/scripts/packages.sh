@@ -34,3 +34,23 @@ from importlib import metadata
 found = metadata.distribution("bit-set")
 print(found.version, found.metadata["Requires-Python"], found.read_text("INSTALLER").strip(), found.files)' > "$room/wrote" 2>> "$room/said"
 expect "Python finds no package of Debian's: $(cat "$room/said")" wrote '1.2.3 >=3.8 debian None'
+
+# Python's headers for another machine, which include those of its own kind, are found wherever temporary files are. What
+# stands for Python says where these are, from /usr/include on.
+colon="$room/a : b"
+mkdir -p "$colon"/{machine,python/src,include} "$room/their_python"
+cp "$top/python/build" "$colon/python"
+touch "$colon/python/src"/{__init__.py,__init__.pyi,py.typed} "$colon/include/bit_set.h" "$colon/machine/its.h"
+echo '#include <none-linux-gnu/its.h>' > "$colon/include/Python.h"
+echo '#include <Python.h>' > "$colon/python/src/module.c"
+printf '%s\n' '#!/bin/sh' "case \"\$2\" in *MULTIARCH*) echo '../..$colon/machine' ;; *) echo '$colon/include' ;; esac" > "$room/their_python/python3"
+chmod +x "$room/their_python/python3"
+ended=0
+(
+    # shellcheck disable=SC2034  # what the part reads
+    PATH="$room/their_python:$PATH" room="$colon" source="$colon"
+    . "$top/tools/release/packing.sh" && . "$top/tools/release/wheel.sh"
+    unset CPATH PYTHON
+    python_module none "$colon/module" -nostdlib
+) > "$room/wrote" 2> "$room/said" < /dev/null || ended=$?
+expect "a module is not built where TMPDIR has a colon: $(cat "$room/said")" ends_with 0

@@ -9,7 +9,8 @@ python_module() {
     own="$(python3 -c 'import sysconfig; print(sysconfig.get_config_var("MULTIARCH") or "")')"
     mkdir -p "$2" "$headers"
     ln -sfn "/usr/include/$own" "$headers/$1-linux-gnu"
-    CPATH="$headers" CC="$(tool_of "$1" gcc)" "$source/python/build" "$source/include" "${@:2}" < /dev/null
+    # CPATH would part a path that has a colon.
+    CC="$(tool_of "$1" gcc)" "$source/python/build" "$source/include" "${@:2}" -I "$headers" < /dev/null
 }
 
 # Writes what pip and importlib.metadata say of the package.
