@@ -54,3 +54,15 @@ ended=0
     python_module none "$colon/module" -nostdlib
 ) > "$room/wrote" 2> "$room/said" < /dev/null || ended=$?
 expect "a module is not built where TMPDIR has a colon: $(cat "$room/said")" ends_with 0
+
+# Rights and files that git is told to leave out of archives are in a release all the same.
+library="$room/committed"
+mkdir -p "$library/python" "$room/archived"
+printf '%s\n' '#!/bin/sh' | tee "$library/python/build" > "$library/python/faults.py"
+chmod +x "$library/python/build"
+echo '*.py export-ignore' > "$room/attributes"
+in_library init -q && in_library add . && in_library commit -qm stand_in
+in_library config tar.umask 0177 && in_library config core.attributesFile "$room/attributes"
+(. "$top/tools/release/source.sh" && top="$library" commit=HEAD write_committed "$room/archived" python) > "$room/said" 2>&1
+expect "git's tar.umask has a release lose rights: $(cat "$room/said")" [ -x "$room/archived/python/build" ]
+expect 'a file is left out of a release by attributes of its user' [ -f "$room/archived/python/faults.py" ]

@@ -13,10 +13,16 @@ make_source() {
         done
     done
     write_proof "$room/crates" "$made/PROOF.txt"
-    (cd "$top" && git archive "$commit" python rust) | tar x -C "$made"
+    write_committed "$made" python rust
     pack "$made" "$folder/bit_set-$version.tar.gz"
     cp -p "$made/PROOF.txt" "$folder"
     tar xzf "$folder/bit_set-$version.tar.gz" -C "$room"
     source="$room/bit_set-$version"
     abi="$(sed -n 's/^#define BIT_SET_ABI \(.*\)$/\1/p' "$source/include/bit_set.h")"
+}
+
+# Writes folders into another as they were committed, whatever git is told of archives.
+#   write_committed FOLDER NAME..
+write_committed() {
+    (cd "$top" && git -c tar.umask=0022 -c core.attributesFile=/dev/null archive "$commit" "${@:2}") | tar x -C "$1"
 }
