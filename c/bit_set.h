@@ -254,7 +254,11 @@ typedef struct bit_set_lent {
     size_t count;
 } bit_set_lent;
 
+#ifdef __cplusplus
+#define BIT_SET_NOTHING_LENT {reinterpret_cast<const bit_set_block *>(sizeof(bit_set_block)), 0}
+#else
 #define BIT_SET_NOTHING_LENT {(const bit_set_block *)sizeof(bit_set_block), 0}
+#endif
 
 /* Lends all blocks, which have the bits that `bit_set_copy_blocks` copies. They may be read, also while other calls read
  * the set, until a call gets the set as a `bit_set *`. */

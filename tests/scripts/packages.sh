@@ -66,3 +66,31 @@ in_library config tar.umask 0177 && in_library config core.attributesFile "$room
 (. "$top/tools/release/source.sh" && top="$library" commit=HEAD write_committed "$room/archived" python) > "$room/said" 2>&1
 expect "git's tar.umask has a release lose rights: $(cat "$room/said")" [ -x "$room/archived/python/build" ]
 expect 'a file is left out of a release by attributes of its user' [ -f "$room/archived/python/faults.py" ]
+
+# Programs that ask for more warnings have none of a header, whatever they include it in.
+cat > "$room/body" << 'BODY'
+    bit_set_lent lent = BIT_SET_NOTHING_LENT;
+    bit_set32_lent lent32 = BIT_SET32_NOTHING_LENT;
+    bit_set_lend_blocks(set, &lent);
+    BIT_SET_FOR_EACH_RUN(start, end, set) lent32.count += end - start;
+    return lent32.count < lent.count;
+}
+BODY
+{
+    printf '%s\n' 'extern "C" {' '#include <bit_set32.h>' '}' '#include <bit_set.hpp>' 'int main() {' '    BitSet own{1, 2};' \
+        '    bit_set *set = own.get();'
+    cat "$room/body"
+} > "$room/program.cc"
+{
+    printf '%s\n' '#include <bit_set.h>' '#include <bit_set32.h>' 'int main(void) {' '    bit_set *set = NULL;' \
+        '    if (!bit_set_new(&set))' '        return 3;'
+    cat "$room/body"
+} > "$room/program.c"
+warnings=(-Werror -Wall -Wextra -Wpedantic -Wshadow -Wconversion -Wsign-conversion -Wcast-qual -Wundef -Wredundant-decls)
+for checked in '' -DBIT_SET_CHECKED; do
+    expect "a C compiler warns of the headers: $checked" \
+        cc -std=c99 "${warnings[@]}" -Wstrict-prototypes -Wc++-compat $checked -I"$packed/include" -fsyntax-only "$room/program.c"
+    ! command -v g++ > /dev/null || expect "a C++ compiler warns of the headers: $checked" \
+        g++ -std=c++17 -fno-rtti "${warnings[@]}" -Wold-style-cast -Wuseless-cast -Wzero-as-null-pointer-constant -Weffc++ \
+        $checked -I"$packed/include" -fsyntax-only "$room/program.cc"
+done
