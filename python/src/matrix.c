@@ -91,6 +91,8 @@ PyObject *matrix_from_row(PyObject *type, PyObject *arguments)
 void matrix_dealloc(PyObject *self)
 {
     PyTypeObject *type = Py_TYPE(self);
+    if (((BitMatrix *)self)->weak_references)
+        PyObject_ClearWeakRefs(self);
     bit_matrix_free(matrix_of(self));
     ((freefunc)PyType_GetSlot(type, Py_tp_free))(self);
     Py_DECREF(type);
@@ -321,4 +323,11 @@ PyObject *matrix_setstate(PyObject *self, PyObject *state)
     if (has_attributes && !put_attributes(self, PyTuple_GetItem(state, 1)))
         return NULL;
     return reference_to(Py_None);
+}
+
+PyObject *matrix_sizeof(PyObject *self, PyObject *Py_UNUSED(none))
+{
+    size_t bits = 8 * sizeof(bit_set_block), columns = bit_matrix_columns(matrix_of(self));
+    size_t blocks = bit_matrix_rows(matrix_of(self)) * (columns / bits + (columns % bits > 0));
+    return PyLong_FromSize_t(sizeof(BitMatrix) + blocks * sizeof(bit_set_block));
 }

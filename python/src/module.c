@@ -64,10 +64,12 @@ static PyMethodDef methods[] = {
 };
 
 /* Weak references are there from Python 3.9 on, which reads this. */
-static PyMemberDef members[] = {
-    {"__weaklistoffset__", T_PYSSIZET, offsetof(BitSet, weak_references), READONLY, NULL},
-    {NULL, 0, 0, 0, NULL},
-};
+#define MEMBERS(type)                                                                                                  \
+    {                                                                                                                  \
+        {"__weaklistoffset__", T_PYSSIZET, offsetof(type, weak_references), READONLY, NULL}, {NULL, 0, 0, 0, NULL},    \
+    }
+
+static PyMemberDef members[] = MEMBERS(BitSet), matrix_members[] = MEMBERS(BitMatrix);
 
 /* Python 3.8 and 3.9 remember what they look up in a type only where it has the flag that later headers no longer put into the
  * default, and without it free a method of `type` too often as classes with another metaclass are made over one. */
@@ -127,6 +129,7 @@ static PyMethodDef matrix_methods[] = {
     {"__deepcopy__", matrix_deep_copy, METH_O, NULL},
     {"__reduce__", matrix_reduce, METH_NOARGS, NULL},
     {"__setstate__", matrix_setstate, METH_O, NULL},
+    {"__sizeof__", matrix_sizeof, METH_NOARGS, NULL},
     {NULL, NULL, 0, NULL},
 };
 
@@ -144,6 +147,7 @@ static PyType_Slot matrix_slots[] = {
     {Py_tp_hash, PyObject_HashNotImplemented},
     {Py_tp_richcompare, matrix_compare},
     {Py_tp_methods, matrix_methods},
+    {Py_tp_members, matrix_members},
     {Py_tp_getset, matrix_attributes},
     {Py_sq_contains, matrix_contains},
     {0, NULL},

@@ -22,6 +22,7 @@ typedef struct {
 typedef struct {
     PyObject_HEAD
     bit_matrix *matrix;
+    PyObject *weak_references;
 } BitMatrix;
 
 /* A walk over the members in groups. The set may be changed meanwhile. */
@@ -236,6 +237,7 @@ PyObject *matrix_repr(PyObject *self);
 PyObject *matrix_row(PyObject *self, PyObject *row_object);
 PyObject *matrix_rows(PyObject *self, void *Py_UNUSED(closure));
 PyObject *matrix_setstate(PyObject *self, PyObject *rows);
+PyObject *matrix_sizeof(PyObject *self, PyObject *Py_UNUSED(none));
 PyObject *matrix_transitive_closure(PyObject *self, PyObject *Py_UNUSED(none));
 PyObject *matrix_transpose(PyObject *self, PyObject *Py_UNUSED(none));
 PyObject *matrix_union_row_with(PyObject *self, PyObject *arguments);
