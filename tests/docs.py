@@ -14,6 +14,8 @@
 - docs/SPEED.md has the tables that bench/tables makes of the figures in docs/speed.
 - Each public function of `bit_words` and `bit_set` but the laws is called by `diff_calls`, or diff/README.md names it.
 - Each link of a document leads to a file, and to a heading where it names one.
+- Each file of definitions or of lemmas that a README.md or a CALLING.md of a crate names is in the crate that it is said to
+  be of, or else in that crate or in one that the same sentence names.
 - Each name in docs/PROVING.md, of a function, a law, a lemma or a clause, is a word of some source or proof.
 
 It prints a line for each quote that does not agree, and at the end 'N passed, M failed'.
@@ -281,6 +283,38 @@ def check_names(check, root, document):
             check.expect(is_known, f"{document.relative_to(root)}:{number}", f"nothing is named {name}")
 
 
+def named_files(line):
+    """The files of definitions or of lemmas that a sentence names, each as its folder, where that is said, its name and where
+    in the sentence the name ends."""
+    for file in re.finditer(r"`(?:(specs|proofs)/)?([A-Z]\w*)\.antt`", line):
+        yield file[1], file[2], file.end()
+    for lemmas in re.finditer(r"`([A-Z]\w*Lemmas)(?:::\w+)?`", line):
+        yield "proofs", lemmas[1], lemmas.end()
+    # A list of names, of which the last is followed by what it is of.
+    for names in re.finditer(r"(?:`[A-Z]\w*`(?:, | and | or )?)+(?= of `specs/`)", line):
+        for name in re.finditer(r"`(\w+)`", names[0]):
+            yield "specs", name[1], names.start() + name.end()
+
+
+def check_files(check, root, document):
+    """The files of definitions or of lemmas that a document of a crate names."""
+    in_table = False
+    for number, line in enumerate(document.read_text(encoding="utf-8").splitlines(), 1):
+        in_table = line.startswith("|") and (in_table or line.startswith("| File of `specs/` |"))
+        for sentence in re.split(r"(?<=\.) ", line):
+            found = list(named_files(sentence))
+            if in_table:
+                names = re.finditer(r"`([A-Z]\w*)`", re.match(r"\|[^|]*", line)[0])
+                found = [("specs", name[1], name.end()) for name in names]
+            here = [document.parent.name, *re.findall(r"`(\w+)`|\]\(\.\./(\w+)/", sentence)]
+            here = [here[0], *(one or other for one, other in here[1:])]
+            for folder, name, end in found:
+                of = re.match(r" of `(\w+)`", sentence[end:])
+                crates = [of[1]] if of else here
+                is_there = any(any(root.glob(f"crates/{crate}/{folder or '*'}/**/{name}.antt")) for crate in crates)
+                check.expect(is_there, f"{document.relative_to(root)}:{number}", f"no {name}.antt is in {crates[0]}")
+
+
 def main():
     root = Path(sys.argv[1])
     check = Check()
@@ -298,6 +332,8 @@ def main():
         check_all_calls(check, root, document)
     for document in [*sorted(root.glob("*.md")), *sorted(root.glob("*/*.md")), *sorted(root.glob("crates/*/*.md"))]:
         check_links(check, root, document)
+        if document.parent.parent == root / "crates" and document.name in ("README.md", "CALLING.md"):
+            check_files(check, root, document)
     for source in sources:
         check_comments(check, root, source, tests)
         if source.relative_to(root).parts[1] in WITH_EXAMPLES and source.stem != "laws":
