@@ -94,3 +94,20 @@ for checked in '' -DBIT_SET_CHECKED; do
         g++ -std=c++17 -fno-rtti "${warnings[@]}" -Wold-style-cast -Wuseless-cast -Wzero-as-null-pointer-constant -Weffc++ \
         $checked -I"$packed/include" -fsyntax-only "$room/program.cc"
 done
+
+# Without a word the code is for the machine that the compiler makes it for, of whatever kind this one is.
+for machine in x86_64-pc-linux-gnu:x86-64 aarch64-linux-gnu:aarch64 arm64-linux:aarch64 riscv64-linux-gnu:riscv64; do
+    printf '%s\n' '#!/bin/sh' "echo ${machine%:*}" > "$room/compiler"
+    chmod +x "$room/compiler"
+    make -n -C "$packed" CC="$room/compiler" > "$room/wrote" 2>&1
+    expect "make builds for another machine than ${machine%:*}" grep -qF "build/${machine#*:}/bit_set.o" "$room/wrote"
+done
+if command -v cmake > /dev/null && command -v clang > /dev/null; then
+    for machine in aarch64 riscv64; do
+        cmake -S "$packed" -B "$room/for_$machine" -DBUILD_TESTING=OFF -DCMAKE_C_COMPILER=clang \
+            -DCMAKE_C_COMPILER_TARGET="$machine-linux-gnu" -DCMAKE_TRY_COMPILE_TARGET_TYPE=STATIC_LIBRARY \
+            > "$room/wrote" 2> "$room/said" < /dev/null
+        expect "CMake builds for another machine than $machine: $(cat "$room/said")" \
+            grep -q -e 'src/aarch64/bit_set\.s' -e 'for x86-64 and for aarch64, and this compiler' "$room/said"
+    done
+fi
