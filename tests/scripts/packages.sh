@@ -18,6 +18,19 @@ if command -v cmake > /dev/null; then
     expect "CMake does not build the library: $(tail -n 5 "$room/wrote")" [ -f "$installed/lib/libbit_set.a" ]
     make -s -C "$packed" PREFIX="$installed" PROCESSOR=none build/none/bit_set.pc > "$room/wrote" 2>&1 < /dev/null
     expect 'CMake tells pkg-config something else than make' cmp "$packed/build/none/bit_set.pc" "$installed/lib/pkgconfig/bit_set.pc"
+    mkdir "$room/finds"
+    for found in 'bit_set 0.12' 'bit_set OPTIONAL_COMPONENTS none' 'bit_set COMPONENTS none'; do
+        printf '%s\n' 'cmake_minimum_required(VERSION 3.14)' 'project(finds NONE)' "find_package($found REQUIRED)" \
+            'get_target_property(file bit_set::bit_set LOCATION)' > "$room/finds/CMakeLists.txt"
+        ended=0
+        cmake -S "$room/finds" -B "$room/finds/$found" -DCMAKE_PREFIX_PATH="$installed" > "$room/wrote" 2> "$room/said" < /dev/null \
+            || ended=$?
+        if [[ "$found" = *' COMPONENTS'* ]]; then
+            expect 'find_package takes a component that is not there' says 'and so none that is called none'
+        else
+            expect "find_package($found) ends with $ended: $(cat "$room/said")" ends_with 0
+        fi
+    done
 fi
 
 # What Debian's package has beside the module, as pip and Python read it.
