@@ -5,7 +5,8 @@ packed="$room/packed_source"
 (. "$top/tools/c_library.sh" && write_source "$packed") > "$room/said" 2>&1
 mkdir "$packed/src/none"
 for bits in '' 32; do
-    printf '\t.globl\tbit_set%s_mark\nbit_set%s_mark:\n\tret\n' "$bits" "$bits" > "$packed/src/none/bit_set$bits.s"
+    printf '%s\n' ".globl bit_set${bits}_mark" "bit_set${bits}_mark: ret" '.section .note.GNU-stack,"",@progbits' \
+        > "$packed/src/none/bit_set$bits.s"
 done
 
 # CMake and make tell pkg-config the same, also of a path that is named only as the library is installed.
@@ -116,6 +117,11 @@ for machine in x86_64-pc-linux-gnu:x86-64 aarch64-linux-gnu:aarch64 arm64-linux:
     expect "make builds for another machine than ${machine%:*}" grep -qF "build/${machine#*:}/bit_set.o" "$room/wrote"
 done
 if command -v cmake > /dev/null && command -v clang > /dev/null; then
+    {
+        cmake -S "$packed" -B "$room/by_clang" -DBIT_SET_PROCESSOR=none -DBUILD_TESTING=OFF -DBUILD_SHARED_LIBS=ON \
+            -DCMAKE_C_COMPILER=clang -DCMAKE_BUILD_TYPE=Release && cmake --build "$room/by_clang"
+    } > "$room/wrote" 2> "$room/said" < /dev/null
+    expect "clang warns of what CMake gives it: $(head -n 3 "$room/said")" [ -f "$room/by_clang/libbit_set.so" -a ! -s "$room/said" ]
     for machine in aarch64 riscv64; do
         cmake -S "$packed" -B "$room/for_$machine" -DBUILD_TESTING=OFF -DCMAKE_C_COMPILER=clang \
             -DCMAKE_C_COMPILER_TARGET="$machine-linux-gnu" -DCMAKE_TRY_COMPILE_TARGET_TYPE=STATIC_LIBRARY \
