@@ -1,6 +1,7 @@
 // Sets of whole numbers and matrices of bits for C++17, over bit_set.h: classes that own their set or matrix and give it
 // back. A call that finds no memory throws std::bad_alloc, and one that would put SIZE_MAX in throws std::out_of_range;
-// nothing changed then. What has no method here is called as in C, over `get()`.
+// nothing changed then. Where the compiler has no exceptions, both end the process. What has no method here is called as in
+// C, over `get()`.
 #ifndef BIT_SET_HPP
 #define BIT_SET_HPP
 
@@ -8,11 +9,18 @@
 
 #include <cstddef>
 #include <cstdint>
+#include <cstdlib>
 #include <initializer_list>
 #include <iterator>
 #include <new>
 #include <stdexcept>
 #include <utility>
+
+#ifdef __cpp_exceptions
+#define BIT_SET_THROW(exception) throw exception
+#else
+#define BIT_SET_THROW(exception) std::abort()
+#endif
 
 class BitMatrix;
 
@@ -25,13 +33,13 @@ class BitSet {
 
     static void require(bool done) {
         if (!done)
-            throw std::bad_alloc();
+            BIT_SET_THROW(std::bad_alloc());
     }
 
     // Whether the answer of a call that may put a number in is yes.
     static bool answer(std::int32_t answer) {
         if (answer == BIT_SET_NO_ELEMENT)
-            throw std::out_of_range("SIZE_MAX is in no set");
+            BIT_SET_THROW(std::out_of_range("SIZE_MAX is in no set"));
         require(answer >= 0);
         return answer == BIT_SET_YES;
     }
@@ -197,5 +205,7 @@ public:
     friend bool operator==(const BitMatrix &a, const BitMatrix &b) { return bit_matrix_equals(a.matrix_, b.matrix_); }
     friend bool operator!=(const BitMatrix &a, const BitMatrix &b) { return !(a == b); }
 };
+
+#undef BIT_SET_THROW
 
 #endif

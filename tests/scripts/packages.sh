@@ -106,7 +106,7 @@ for checked in '' -DBIT_SET_CHECKED; do
         cc -std=c99 "${warnings[@]}" -Wstrict-prototypes -Wc++-compat $checked -I"$packed/include" -fsyntax-only "$room/program.c"
     ! command -v g++ > /dev/null || expect "a C++ compiler warns of the headers: $checked" \
         g++ -std=c++17 -fno-rtti "${warnings[@]}" -Wold-style-cast -Wuseless-cast -Wzero-as-null-pointer-constant -Weffc++ \
-        $checked -I"$packed/include" -fsyntax-only "$room/program.cc"
+        -fno-exceptions $checked -I"$packed/include" -fsyntax-only "$room/program.cc"
 done
 
 # Without a word the code is for the machine that the compiler makes it for, of whatever kind this one is.
