@@ -72,6 +72,32 @@ PyObject *matrix_new(PyTypeObject *type, PyObject *arguments, PyObject *named)
     return made ? made_if(bit_matrix_new(&((BitMatrix *)made)->matrix, rows, columns), made) : NULL;
 }
 
+/* Whether a class of the user's made a matrix of these rows and columns, which it may not have, and has not put more into the
+ * set meanwhile. */
+static bool is_as_asked(PyObject *made, bit_set *row, size_t rows, size_t columns)
+{
+    if (!is_matrix(made))
+        PyErr_SetString(PyExc_TypeError, "the class makes no bit matrix");
+    else if (bit_matrix_rows(matrix_of(made)) != rows || bit_matrix_columns(matrix_of(made)) != columns
+             || (!bit_set_is_empty(row) && bit_set_last(row) >= columns))
+        PyErr_SetString(PyExc_ValueError, "the class makes a matrix of other rows or columns");
+    else
+        return true;
+    return false;
+}
+
+/* The same by a class of the user's, which makes a matrix as it does elsewhere. */
+static PyObject *from_row_by(PyObject *type, bit_set *row, size_t rows)
+{
+    size_t columns = bit_set_length(row);
+    PyObject *made = PyObject_CallFunction(type, "NN", PyLong_FromSize_t(rows), PyLong_FromSize_t(columns));
+    if (made && !is_as_asked(made, row, rows, columns))
+        Py_CLEAR(made);
+    for (size_t at = 0; made && at < rows; at++)
+        bit_matrix_union_row_with(matrix_of(made), row, at);
+    return made;
+}
+
 PyObject *matrix_from_row(PyObject *type, PyObject *arguments)
 {
     PyObject *members, *rows_object;
@@ -81,8 +107,9 @@ PyObject *matrix_from_row(PyObject *type, PyObject *arguments)
     PyObject *row = as_bit_set(members);
     if (!row)
         return NULL;
-    PyObject *made = blank((PyTypeObject *)type);
-    if (made)
+    bool is_own = type == (PyObject *)matrix_type;
+    PyObject *made = is_own ? blank(matrix_type) : from_row_by(type, set_of(row), rows);
+    if (made && is_own)
         made = made_if(bit_matrix_from_set(&((BitMatrix *)made)->matrix, set_of(row), rows), made);
     Py_DECREF(row);
     return made;
@@ -286,7 +313,10 @@ static PyObject *list_of_rows(PyObject *self)
 PyObject *matrix_repr(PyObject *self)
 {
     size_t rows = bit_matrix_rows(matrix_of(self)), columns = bit_matrix_columns(matrix_of(self));
-    return PyUnicode_FromFormat("<BitMatrix of %zu rows and %zu columns>", rows, columns);
+    PyObject *name = type_name(self);
+    PyObject *text = name ? PyUnicode_FromFormat("<%S of %zu rows and %zu columns>", name, rows, columns) : NULL;
+    Py_XDECREF(name);
+    return text;
 }
 
 PyObject *matrix_reduce(PyObject *self, PyObject *Py_UNUSED(none))

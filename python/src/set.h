@@ -179,6 +179,7 @@ PyObject *set_sizeof(PyObject *self, PyObject *Py_UNUSED(none));
 PyObject *set_to_array(PyObject *self, PyObject *Py_UNUSED(none));
 PyObject *set_to_bytes(PyObject *self, PyObject *Py_UNUSED(none));
 PyObject *set_to_bytes_lsb(PyObject *self, PyObject *Py_UNUSED(none));
+PyObject *type_name(PyObject *self);
 PyObject *walk_new(PyTypeObject *type, PyObject *Py_UNUSED(positional), PyObject *Py_UNUSED(named));
 PyObject *walk_next(PyObject *object);
 Py_ssize_t set_length(PyObject *self);

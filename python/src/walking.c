@@ -29,7 +29,7 @@ static PyObject *list_of(PyObject *self)
     return list;
 }
 
-static PyObject *type_name(PyObject *self)
+PyObject *type_name(PyObject *self)
 {
     return PyObject_GetAttrString((PyObject *)Py_TYPE(self), "__name__");
 }
