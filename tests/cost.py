@@ -4,7 +4,7 @@
 
 Each crate, and its tests, is proved from nothing with one job, in a copy of its folder; the libraries below it are those
 that the checkout has built. With --edits the edits that the gate tries are tried too, over a proof of the crate that is
-kept. A row a crate, then the ten slowest functions and edits of all.
+kept. A row a crate, then the ten slowest functions and edits of all. It ends with status 1 where a crate is not proved.
 """
 
 import resource
@@ -46,7 +46,7 @@ def try_gate(root, crates, name, folder):
 
 
 def cost_of(root, crates, name, with_edits):
-    """The seconds of a crate's proof, of that with its tests, and of its edits; and the rows of its functions and edits."""
+    """The seconds of a crate's proof and of that with its tests, the rows of its functions and edits, and whether it is proved."""
     with tempfile.TemporaryDirectory(prefix="cost-") as room:
         folder = Path(room)
         copy_parts(root / "crates" / name, folder)
@@ -56,9 +56,10 @@ def cost_of(root, crates, name, with_edits):
         proof = prove(folder, check_words(root, crates, name, *flags))
         functions = tests[2] + [row for row in proof[2] if row[1] not in {it[1] for it in tests[2]}]
         edits, spent = try_gate(root, crates, name, folder) if with_edits else ([], 0.0)
-    said = "" if tests[0] and proof[0] else "  NOT PROVED"
+    is_proved = tests[0] and proof[0]
+    said = "" if is_proved else "  NOT PROVED"
     print(f"{name:26}{proof[1]:9.0f}{tests[1]:9.0f}{spent:9.0f}{len(edits):6}{said}", flush=True)
-    return proof[1], tests[1], functions, edits
+    return proof[1], tests[1], functions, edits, is_proved
 
 
 def main():
@@ -76,7 +77,7 @@ def main():
         for seconds, name in sorted((row for it in found for row in it[rows]), reverse=True)[:10]:
             print(f"{seconds:7.1f} s  {name}")
     print(f"\nproofs {sum(it[0] for it in found):.0f} s, with tests {sum(it[1] for it in found):.0f} s more")
-    return 0
+    return 0 if all(it[4] for it in found) else 1
 
 
 if __name__ == "__main__":

@@ -1,6 +1,7 @@
 #!/usr/bin/env bash
 # Tries the scripts `bitset`, `look`, `add`, `gate` and `c/build` in small repositories, with stand-ins for the toolchain's
-# commands that prove nothing: what is built when, what stays of runs that are ended, and what is said.
+# commands that prove nothing: what is built when, what stays of runs that are ended, and what is said. Then what those find
+# who build over the packages and the headers of a release.
 #   tests/scripts.sh           all of that
 #   tests/scripts.sh --real    instead `./bitset` with the real toolchain and a comment that changes, over the libraries
 #                              as `rt ci` has just proved them here

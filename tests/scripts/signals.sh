@@ -93,6 +93,12 @@ done
 for signal in HUP INT QUIT TERM; do
     ended_by_signal tests/edits.sh "$signal" 'bit_set_c$' "$library/tests/edits.sh" bit_set_c
 done
+# What stands for the prover proves no crate.
+cp "$top"/tests/cost.{sh,py} "$library/tests"
+ended=0
+"$library/tests/cost.sh" bit_set_c > "$room/wrote" 2> "$room/said" < /dev/null || ended=$?
+expect "tests/cost.sh of what is not proved ends with $ended: $(cat "$room/said")" ends_with 1
+expect 'tests/cost.sh does not say what is not proved' grep -q '^bit_set_c .* NOT PROVED$' "$room/wrote"
 find "$library/crates" -mindepth 1 -maxdepth 1 ! -name bit_set_c -exec rm -r {} +
 
 # Tests that take long, over what only begins: the library for C, an edit that is compiled, the program's sources, and a
