@@ -1,6 +1,6 @@
 -- Which of the blocks of a list a block of its summary says are not 0, as it is made.
-use Rattle.std.proofs.Common.{◌≡◌, ◌≢◌, ℕ, ◌+◌, ◌-◌, ◌<◌, ◌≤◌, Bool, false, ◌&&◌, ◌||◌, ◌==◌, nat_lt, nat_le, List, map, min, length, get_or, sym, ap, ap₂, ◌∙◌, arith, ⊎_elim}
-use Rattle.std.proofs.{Math.Bool.or-false, lemmas.{Bool.{cases_eq, cases_lt, Decides.nat_tests}, List.{get_or_past, length-map}}}
+use Rattle.std.proofs.Common.{◌≡◌, ◌≢◌, ℕ, ◌+◌, ◌-◌, ◌<◌, ◌≤◌, Bool, false, ◌&&◌, ◌||◌, ◌==◌, nat_lt, nat_le, not, List, map, min, length, take, drop, get_or, get_or-drop, get_or-take, sym, ap, ap₂, ◌∙◌, arith, ⊎_elim}
+use Rattle.std.proofs.{Math.Bool.or-false, lemmas.{Bool.{cases_eq, cases_lt, Decides.nat_tests}, List.{drop-map, get_or_past, length-map, take-map}}}
 use Rattle.bit_blocks.{specs.{Digits.{IsEither, IsShiftedLeft, is_one}, Storage.is_used}, proofs.{Masks.is_one-either, TestLemmas.{above_and, before_and, below_and, from_and}}}
 use Rattle.bit_words.specs.Summary.{SaysUsed}
 
@@ -80,3 +80,12 @@ module _ {X : Type 0} (w i c start : ℕ) (f : X → ℕ) (P : X → Type 0) (xs
       let digit : is_one (f s) j ≡ is_one (f p) (j - i) = rw back at (ap (λ x. x == 1) (moved.moved (j - i) (omega arith))) in
       put_digit j false (is_one (f b) j) false within (above_and i j _ (omega arith)) (from_and (i + c) j _ over)
       (digit ∙ says.digit (j - i) (omega arith) ∙ above_and c (j - i) _ (omega arith)) ∙ or-false _
+
+-- ---- a part of the blocks
+
+pub used_in_part : {X : Type 0} (start count j : ℕ) (f : X → ℕ) (xs rest part : List X) → rest ≡ drop start xs → part ≡ take count rest → j < count
+    → is_used (map f part) j ≡ is_used (map f xs) (start + j)
+used_in_part start count j f xs rest part past is within =
+    let numbers : map f part ≡ take count (drop start (map f xs)) =
+    ap (map f) (is ∙ ap (take count) past) ∙ sym (take-map f count (drop start xs)) ∙ ap (take count) (sym (drop-map f start xs)) in
+    ap (λ m. not (m == 0)) (ap (λ ms. get_or ms j 0) numbers ∙ get_or-take count (drop start (map f xs)) j 0 within ∙ get_or-drop start (map f xs) j 0)

@@ -59,7 +59,7 @@ impl<B: BitBlock> BitVec<B> {
         fill_both(&mut self.blocks, &mut self.summary, self.len, bit);
     }
 
-    /// Keeps the first `n` values; nothing where there are no more. Writes one block at most.
+    /// Keeps the first `n` values, and so all where there are no more. Writes one block at most, and one of the summary.
     pub fn truncate(&mut self, n: usize)
         ensures values { self.new.values ≡ take n self.old.values }
         ensures capacity { self.new.capacity ≡ self.old.capacity }

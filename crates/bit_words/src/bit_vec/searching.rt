@@ -13,7 +13,8 @@ use bit_blocks::packed::searching::{first_one, first_zero};
 impl<B: BitBlock> BitVec<B> {
     /// The first index at which the list is true, or `None`. Of many blocks it reads the summary from where
     /// [`take_first_one`](Self::take_first_one) left off, or from where a value became true since, and one block of the
-    /// list; of few, which store no summary, each block up to that of the index.
+    /// list: from the start of the summary after a merge, a shift, `fill`, `negate_range` or a range that became true. Of
+    /// few, which store no summary, it reads each block up to that of the index.
     ///
     /// ```
     /// // Of 100 values, those at 3 and 70 are true.

@@ -1,0 +1,92 @@
+// A summary that is made in the pass that counts the ones of its blocks: whether a block is 0 costs that pass nothing.
+ghost use Rattle.std.specs.Prelude.{◌≡◌, ℕ, ◌+◌, ◌^◌, ◌<◌, ◌≤◌, All, IfOk, drop, false, length, map, take, true, vec_capacity, vec_len};
+ghost use Rattle.bit_blocks.specs.{Bits.blocks_for, Digits.is_one, Storage.{is_used, ones_in}};
+ghost use Rattle.bit_words.specs.Summary.{IsStoredSummary, IsSummary, stored_for};
+
+use crate::summary::queries::first_blocks;
+use crate::summary::{is_short, used_from};
+use bit_blocks::block::BitBlock;
+use bit_blocks::block::operators::all_ones;
+use bit_blocks::packed::access::{block_count, put_block};
+use bit_blocks::packed::copies::push_copies;
+use bit_blocks::packed::ones::ones_of;
+use std::alloc::{AllocError, Global};
+
+// A summary of its own for the blocks, empty where they are few, and how many ones they have. Fails only where memory runs out.
+pub(crate) fn summary_and_ones<B: BitBlock>(
+    alloc: Global,
+    blocks: &[B],
+) -> Result<(Vec<B>, usize), AllocError>
+    requires blocks { All B.is_block blocks.now }
+    requires fits { length blocks.now < 2 ^ 64 }
+    requires ones_fit { ones_in B.number blocks.now < 2 ^ 64 }
+    ensures summary { IfOk result (λ made. IsStoredSummary B.width B.number B.is_block blocks.now made.0.items) }
+    ensures capacity { IfOk result (λ made. vec_capacity made.0 ≡ stored_for B.width (length blocks.now)) }
+    ensures ones { IfOk result (λ made. made.1 ≡ ones_in B.number blocks.now) }
+{
+    if is_short::<B>(blocks.len()) {
+        return Ok((Vec::new(alloc), ones_of(blocks)));
+    }
+    let count = block_count::<B>(blocks.len());
+    let mut summary = Vec::with_capacity(alloc, count)?;
+    push_copies(&mut summary, count, B::zero());
+    let ones = summarize_and_count(&mut summary, blocks);
+    Ok((summary, ones))
+}
+
+// Makes the summary anew, over one that has as many blocks as it takes, and counts the ones of the blocks.
+fn summarize_and_count<B: BitBlock>(summary: &mut Vec<B>, blocks: &[B]) -> usize
+    requires count { vec_len summary.old ≡ blocks_for B.width (length blocks.now) }
+    requires each { All B.is_block summary.old.items }
+    requires blocks { All B.is_block blocks.now }
+    requires fits { length blocks.now < 2 ^ 64 }
+    requires ones_fit { ones_in B.number blocks.now < 2 ^ 64 }
+    ensures summary { IsSummary B.width B.number B.is_block blocks.now summary.new.items }
+    ensures capacity { vec_capacity summary.new ≡ vec_capacity summary.old }
+    ensures ones { result ≡ ones_in B.number blocks.now }
+{
+    let mut ones = 0;
+    for q in 0..summary.len() {
+        let (used, more) = used_and_ones(blocks, q * B::bits());
+        put_block(summary, q, used);
+        ones += more;
+    }
+    ones
+}
+
+// The block of a summary that is about the blocks from `start` on, as many as a block has bits, and how many ones these have.
+#[inline]
+fn used_and_ones<B: BitBlock>(blocks: &[B], start: usize) -> (B, usize)
+    requires in_bounds { start ≤ length blocks.now }
+    requires each { All B.is_block blocks.now }
+    requires fits { ones_in B.number (take B.width (drop start blocks.now)) < 2 ^ 64 }
+    ensures of_block { B.is_block result.0 }
+    ensures digits { (j : ℕ) → j < B.width
+        → is_one (B.number result.0) j ≡ is_used (map B.number blocks.now) (start + j) }
+    ensures ones { result.1 ≡ ones_in B.number (take B.width (drop start blocks.now)) }
+{
+    let (chunk, _) = first_blocks(blocks.split_at(start).1);
+    let (ones, has_zero) = ones_and_zero(chunk);
+    if has_zero || chunk.len() < B::bits() {
+        return (used_from(blocks, start), ones);
+    }
+    (all_ones(), ones)
+}
+
+// How many ones the blocks have, and whether any of them has none.
+#[inline(never)]
+fn ones_and_zero<B: BitBlock>(blocks: &[B]) -> (usize, bool)
+    requires each { All B.is_block blocks.now }
+    requires fits { ones_in B.number blocks.now < 2 ^ 64 }
+    ensures ones { result.0 ≡ ones_in B.number blocks.now }
+    ensures used { result.1 ≡ false → (k : ℕ) → k < length blocks.now → is_used (map B.number blocks.now) k ≡ true }
+{
+    let mut ones = 0;
+    let mut has_zero = false;
+    for block in blocks {
+        let more = block.count_ones();
+        has_zero |= more == 0;
+        ones += more;
+    }
+    (ones, has_zero)
+}
