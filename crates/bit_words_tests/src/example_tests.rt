@@ -188,6 +188,38 @@ fn blocks_are_put_over_others(rt: HostRuntime) {
     }
 }
 
+fn two_blocks_taken(rt: &impl Abort, alloc: Global) -> Result<(), AllocError> {
+    let mut blocks = Vec::new(alloc);
+    blocks.extend_from_slice(&[0b101u8, 0b1000_0000])?;
+    // Over blocks of 8 bits: the values at 0, 2 and 15 are true.
+    let (bits, count) = BitVec::from_counted_blocks(alloc, blocks)?;
+    expect_eq(rt, &bits.storage(), &[0b101, 0b1000_0000].as_slice());
+    expect_eq(rt, &count, &3);
+    expect_eq(rt, &bits.len(), &16);
+    Ok(())
+}
+
+// A list that is long enough for a summary. Two of its blocks are 0: one in a whole chunk, and the last.
+fn many_blocks_taken(rt: &impl Abort, alloc: Global, count: usize) -> Result<(), AllocError> {
+    let mut blocks = vec![in alloc; 0b11u8; count]?;
+    if blocks.len() != 100 {
+        return Ok(());
+    }
+    blocks[50] = 0;
+    blocks[99] = 0;
+    let (bits, count) = BitVec::from_counted_blocks(alloc, blocks)?;
+    expect_eq(rt, &count, &196);
+    expect_eq(rt, &bits.first_one_from(394), &Some(408));
+    expect_eq(rt, &bits.last_one_before(800), &Some(785));
+    Ok(())
+}
+
+#[test]
+fn blocks_are_taken_and_counted(rt: HostRuntime) {
+    ok(&rt, two_blocks_taken(&rt, rt.alloc()));
+    ok(&rt, many_blocks_taken(&rt, rt.alloc(), 100));
+}
+
 fn some_values_kept(rt: &impl Abort, bits: &mut BitVec<u8>) {
     if bits.len() > 0 {
         // Of ten values over blocks of 8 bits, those at 1, 2 and 8 are true.
