@@ -1,14 +1,15 @@
 // A summary that is made in the pass that counts the ones of its blocks: whether a block is 0 costs that pass nothing.
-ghost use Rattle.std.specs.Prelude.{◌≡◌, ℕ, ◌+◌, ◌^◌, ◌<◌, ◌≤◌, All, IfOk, drop, false, length, map, take, true, vec_capacity, vec_len};
+ghost use Rattle.std.specs.Prelude.{◌≡◌, ℕ, ◌+◌, ◌*◌, ◌^◌, ◌<◌, ◌≤◌, All, IfOk, drop, false, length, map, take, true, vec_capacity, vec_len};
 ghost use Rattle.bit_blocks.specs.{Bits.blocks_for, Digits.is_one, Storage.{is_used, ones_in}};
 ghost use Rattle.bit_words.specs.Summary.{IsStoredSummary, IsSummary, stored_for};
 
 use crate::summary::queries::first_blocks;
-use crate::summary::{is_short, used_from};
+use crate::summary::{is_nonzero, is_short, used_from};
 use bit_blocks::block::BitBlock;
 use bit_blocks::block::operators::all_ones;
 use bit_blocks::packed::access::{block_count, put_block};
 use bit_blocks::packed::copies::push_copies;
+use bit_blocks::packed::groups::GROUP;
 use bit_blocks::packed::ones::ones_of;
 use std::alloc::{AllocError, Global};
 
@@ -73,20 +74,52 @@ fn used_and_ones<B: BitBlock>(blocks: &[B], start: usize) -> (B, usize)
     (all_ones(), ones)
 }
 
-// How many ones the blocks have, and whether any of them has none.
-#[inline(never)]
+// How many ones the blocks have, and whether any of them is 0: a group at a time, as the compiler makes vector code of the test.
+#[inline]
 fn ones_and_zero<B: BitBlock>(blocks: &[B]) -> (usize, bool)
     requires each { All B.is_block blocks.now }
     requires fits { ones_in B.number blocks.now < 2 ^ 64 }
     ensures ones { result.0 ≡ ones_in B.number blocks.now }
     ensures used { result.1 ≡ false → (k : ℕ) → k < length blocks.now → is_used (map B.number blocks.now) k ≡ true }
 {
-    let mut ones = 0;
-    let mut has_zero = false;
-    for block in blocks {
-        let more = block.count_ones();
-        has_zero |= more == 0;
-        ones += more;
+    let groups = blocks.len() / GROUP;
+    let mut found = (0, false);
+    for group in 0..groups {
+        found = add_part(found, group_from(blocks, group * GROUP));
     }
-    (ones, has_zero)
+    add_part(found, blocks.split_at(groups * GROUP).1)
+}
+
+#[inline]
+fn group_from<B: BitBlock>(blocks: &[B], start: usize) -> &[B]
+    requires { start + GROUP ≤ length blocks.now }
+    ensures part { result.now ≡ take GROUP (drop start blocks.now) }
+    ensures len { length result.now ≡ GROUP }
+{
+    blocks.split_at(start).1.split_at(GROUP).0
+}
+
+// What was found of some blocks, and then of these.
+#[inline]
+fn add_part<B: BitBlock>(found: (usize, bool), blocks: &[B]) -> (usize, bool)
+    requires each { All B.is_block blocks.now }
+    requires fits { found.0 + ones_in B.number blocks.now < 2 ^ 64 }
+    ensures ones { result.0 ≡ found.0 + ones_in B.number blocks.now }
+    ensures before { result.1 ≡ false → found.1 ≡ false }
+    ensures used { result.1 ≡ false → (k : ℕ) → k < length blocks.now → is_used (map B.number blocks.now) k ≡ true }
+{
+    (found.0 + ones_of(blocks), found.1 | any_zero(blocks))
+}
+
+// Whether any of the blocks is 0. It reads all of them, with no branch.
+#[inline]
+fn any_zero<B: BitBlock>(blocks: &[B]) -> bool
+    requires { All B.is_block blocks.now }
+    ensures { result ≡ false → (k : ℕ) → k < length blocks.now → is_used (map B.number blocks.now) k ≡ true }
+{
+    let mut any = false;
+    for block in blocks {
+        any |= !is_nonzero(*block);
+    }
+    any
 }
