@@ -67,8 +67,12 @@ fn used_and_ones<B: BitBlock>(blocks: &[B], start: usize) -> (B, usize)
     ensures ones { result.1 ≡ ones_in B.number (take B.width (drop start blocks.now)) }
 {
     let (chunk, _) = first_blocks(blocks.split_at(start).1);
+    // Of a whole chunk the compiler knows how many groups there are, and makes no loop of them.
+    if chunk.len() < B::bits() {
+        return (used_from(blocks, start), ones_of(chunk));
+    }
     let (ones, has_zero) = ones_and_zero(chunk);
-    if has_zero || chunk.len() < B::bits() {
+    if has_zero {
         return (used_from(blocks, start), ones);
     }
     (all_ones(), ones)
