@@ -10,6 +10,10 @@ use Rattle.bit_blocks.proofs.{StorageLemmas.{value_at-index, value_at-is, value_
 use Rattle.bit_blocks.proofs.VectorLemmas.{numbers_below, packed_nil}
 use Rattle.bit_blocks.proofs.UseLemmas.{used_past, used_from_true, unused_from_false, same_use}
 
+-- where the blocks begin that block q of the summary of n blocks is about
+pub chunk_begins : (w bits n q : ℕ) → 0 < w → bits ≡ w → q < blocks_for w n → q * bits < n
+chunk_begins w bits n q pos e within = rw e (whole_before w n q pos within)
+
 -- it is enough to look where there are blocks
 pub is_summary : {X : Type 0} (w : ℕ) (f : X → ℕ) (P : X → Type 0) (xs summary : List X) → IsPacked w f P summary (length xs)
     → ((k : ℕ) → k < length xs → value_at w (map f summary) k ≡ is_used (map f xs) k) → IsSummary w f P xs summary

@@ -321,9 +321,7 @@ pub(crate) fn summary_of<B: BitBlock>(alloc: Global, blocks: &[B]) -> Result<Vec
     if is_short::<B>(blocks.len()) {
         return Ok(Vec::new(alloc));
     }
-    let count = block_count::<B>(blocks.len());
-    let mut summary = Vec::with_capacity(alloc, count)?;
-    push_copies(&mut summary, count, B::zero());
+    let mut summary = repeated_bit(alloc, blocks.len(), false)?;
     summarize(&mut summary, blocks);
     Ok(summary)
 }

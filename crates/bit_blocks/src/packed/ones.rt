@@ -1,9 +1,9 @@
 // How many ones a slice of blocks has, block by block. By a summary it is in `summary`.
-ghost use Rattle.std.specs.Prelude.{◌≡◌, ◌+◌, ◌*◌, ◌^◌, ◌<◌, ◌≤◌, All, drop, length, take};
+ghost use Rattle.std.specs.Prelude.{◌≡◌, ◌+◌, ◌*◌, ◌^◌, ◌<◌, ◌≤◌, All, length, take};
 ghost use Rattle.bit_blocks.specs.Storage.{ones_in};
 
 use crate::block::BitBlock;
-use crate::packed::groups::GROUP;
+use crate::packed::groups::{GROUP, group_from};
 
 /// Adds up the ones of each block, most of them a group at a time.
 #[inline]
@@ -31,14 +31,6 @@ fn ones_of_groups<B: BitBlock>(blocks: &[B], groups: usize) -> usize
         ones = add_ones(ones, group_from(blocks, group * GROUP));
     }
     ones
-}
-
-#[inline]
-fn group_from<B: BitBlock>(blocks: &[B], start: usize) -> &[B]
-    requires { start + GROUP ≤ length blocks.now }
-    ensures { result.now ≡ take GROUP (drop start blocks.now) }
-{
-    blocks.split_at(start).1.split_at(GROUP).0
 }
 
 // A number, and the ones of each block. The sum goes on from the number, so that it stays in one register.

@@ -1,6 +1,6 @@
 // Whole blocks of a list, taken or written at once.
-ghost use Rattle.std.specs.{Prelude.{◌≡◌, ◌+◌, ◌*◌, ◌^◌, ◌<◌, ◌≤◌, All, IfOk, length, map, vec_len}, List.count_by};
-ghost use Rattle.bit_blocks.specs.Bits.{blocks_of};
+ghost use Rattle.std.specs.{Prelude.{◌≡◌, ◌+◌, ◌*◌, ◌^◌, ◌<◌, ◌≤◌, All, IfOk, IsOk, length, map, vec_capacity, vec_len}, List.count_by};
+ghost use Rattle.bit_blocks.specs.Bits.{blocks_of, capacity_of};
 ghost use Rattle.bit_words.specs.Kept.{PutsBlocks};
 
 use crate::bit_vec::BitVec;
@@ -13,7 +13,8 @@ use std::alloc::{AllocError, Global};
 
 impl<B: BitBlock> BitVec<B> {
     /// The list whose blocks these are, with a value for each of their bits, and how many of the values are true. Takes the
-    /// vector as it is: one pass over it counts, and makes the summary. Fails only where memory for that runs out.
+    /// vector as it is: one pass over it counts, and makes the summary. Fails only where memory for that runs out, and never
+    /// for no blocks.
     ///
     /// ```
     /// // Over blocks of 8 bits: the values at 0, 2 and 15 are true.
@@ -26,6 +27,9 @@ impl<B: BitBlock> BitVec<B> {
         requires fits { vec_len blocks * B.width < 2 ^ 64 }
         ensures blocks { IfOk result (λ made. blocks_of B.width made.0.values ≡ map B.number blocks.items) }
         ensures len { IfOk result (λ made. length made.0.values ≡ vec_len blocks * B.width) }
+        ensures holds_values { IfOk result (λ made. vec_len blocks * B.width ≤ made.0.capacity) }
+        ensures capacity { IfOk result (λ made. made.0.capacity ≤ capacity_of B.width (vec_capacity blocks)) }
+        ensures empty { vec_len blocks ≡ 0 → IsOk result }
         ensures count { IfOk result (λ made. made.1 ≡ count_by (λ value. value) made.0.values) }
     {
         let (summary, count) = summary_and_ones(alloc, &blocks)?;

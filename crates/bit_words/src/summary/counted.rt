@@ -1,19 +1,20 @@
 // A summary that is made in the pass that counts the ones of its blocks: whether a block is 0 costs that pass nothing.
-ghost use Rattle.std.specs.Prelude.{◌≡◌, ℕ, ◌+◌, ◌*◌, ◌^◌, ◌<◌, ◌≤◌, All, IfOk, drop, false, length, map, take, true, vec_capacity, vec_len};
+ghost use Rattle.std.specs.Prelude.{◌≡◌, ℕ, ◌+◌, ◌*◌, ◌^◌, ◌<◌, ◌≤◌, All, IfOk, IsOk, drop, false, length, map, take, true, vec_capacity, vec_len};
 ghost use Rattle.bit_blocks.specs.{Bits.blocks_for, Digits.is_one, Storage.{is_used, ones_in}};
-ghost use Rattle.bit_words.specs.Summary.{IsStoredSummary, IsSummary, stored_for};
+ghost use Rattle.bit_words.specs.Summary.{IsStoredSummary, IsSummary, short_count, stored_for};
 
 use crate::summary::queries::first_blocks;
 use crate::summary::{is_nonzero, is_short, used_from};
 use bit_blocks::block::BitBlock;
 use bit_blocks::block::operators::all_ones;
-use bit_blocks::packed::access::{block_count, put_block};
-use bit_blocks::packed::copies::push_copies;
-use bit_blocks::packed::groups::GROUP;
+use bit_blocks::packed::access::put_block;
+use bit_blocks::packed::groups::{GROUP, group_from};
 use bit_blocks::packed::ones::ones_of;
+use bit_blocks::packed::resizing::repeated_bit;
 use std::alloc::{AllocError, Global};
 
-// A summary of its own for the blocks, empty where they are few, and how many ones they have. Fails only where memory runs out.
+// A summary of its own for the blocks, empty where they are few, and how many ones they have. Fails only where memory runs out,
+// and never for few.
 pub(crate) fn summary_and_ones<B: BitBlock>(
     alloc: Global,
     blocks: &[B],
@@ -24,13 +25,12 @@ pub(crate) fn summary_and_ones<B: BitBlock>(
     ensures summary { IfOk result (λ made. IsStoredSummary B.width B.number B.is_block blocks.now made.0.items) }
     ensures capacity { IfOk result (λ made. vec_capacity made.0 ≡ stored_for B.width (length blocks.now)) }
     ensures ones { IfOk result (λ made. made.1 ≡ ones_in B.number blocks.now) }
+    ensures short { length blocks.now ≤ short_count B.width → IsOk result }
 {
     if is_short::<B>(blocks.len()) {
         return Ok((Vec::new(alloc), ones_of(blocks)));
     }
-    let count = block_count::<B>(blocks.len());
-    let mut summary = Vec::with_capacity(alloc, count)?;
-    push_copies(&mut summary, count, B::zero());
+    let mut summary = repeated_bit(alloc, blocks.len(), false)?;
     let ones = summarize_and_count(&mut summary, blocks);
     Ok((summary, ones))
 }
@@ -92,15 +92,6 @@ fn ones_and_zero<B: BitBlock>(blocks: &[B]) -> (usize, bool)
         found = add_part(found, group_from(blocks, group * GROUP));
     }
     add_part(found, blocks.split_at(groups * GROUP).1)
-}
-
-#[inline]
-fn group_from<B: BitBlock>(blocks: &[B], start: usize) -> &[B]
-    requires { start + GROUP ≤ length blocks.now }
-    ensures part { result.now ≡ take GROUP (drop start blocks.now) }
-    ensures len { length result.now ≡ GROUP }
-{
-    blocks.split_at(start).1.split_at(GROUP).0
 }
 
 // What was found of some blocks, and then of these.

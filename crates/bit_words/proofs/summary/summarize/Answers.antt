@@ -1,6 +1,5 @@
-use Rattle.std.proofs.{Common.{◌≡◌, ℕ, ◌*◌, ◌<◌, map, length, arith}, lemmas.List.length-map}
-use Rattle.bit_blocks.{specs.Bits.blocks_for, proofs.BitsLemmas.whole_before}
-use Rattle.bit_words.proofs.SummaryLemmas.{summary_of_blocks, summary_put}
+use Rattle.std.proofs.{Common.{◌<◌, map, length, arith}, lemmas.List.length-map}
+use Rattle.bit_words.proofs.SummaryLemmas.{chunk_begins, summary_of_blocks, summary_put}
 use Rattle.bit_words.proofs.summary.summarize.Goals as goal
 
 pub loop-q-preserved : goal.loop-q-preserved
@@ -13,17 +12,13 @@ loop-q-preserved g c =
       in_place = grind (arith, c.put_block.ensures.in_place, c.loop-q.invariant.in_place);
     }
 
--- where the blocks begin that block q of the summary is about
-begun : (w bits n q : ℕ) → 0 < w → bits ≡ w → q < blocks_for w n → q * bits < n
-begun w bits n q pos e within = rw e (whole_before w n q pos within)
-
 pub overflow_mul-q : goal.overflow_mul-q
 overflow_mul-q g c =
-    omega (arith, begun g.B.BitBlock.width c.bits.result (length c.args.blocks.now) c.loop-q.q g.met.B.BitBlock.width_law.positive c.bits.ensures (omega arith), c.requires.fits)
+    omega (arith, chunk_begins g.B.BitBlock.width c.bits.result (length c.args.blocks.now) c.loop-q.q g.met.B.BitBlock.width_law.positive c.bits.ensures (omega arith), c.requires.fits)
 
 pub used_from-requires-clause-in_bounds : goal.used_from-requires-clause-in_bounds
 used_from-requires-clause-in_bounds g c =
-    omega (arith, begun g.B.BitBlock.width c.bits.result (length c.args.blocks.now) c.loop-q.q g.met.B.BitBlock.width_law.positive c.bits.ensures (omega arith))
+    omega (arith, chunk_begins g.B.BitBlock.width c.bits.result (length c.args.blocks.now) c.loop-q.q g.met.B.BitBlock.width_law.positive c.bits.ensures (omega arith))
 
 pub returns-clause-summary : goal.returns-clause-summary
 returns-clause-summary g c =

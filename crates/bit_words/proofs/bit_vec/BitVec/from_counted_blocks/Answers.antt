@@ -1,25 +1,9 @@
-use Rattle.std.{proofs.{Common.{◌≡◌, ℕ, ◌-◌, ◌*◌, ◌/◌, ◌^◌, ◌<◌, List, All, length, map, sym, ap, ◌∙◌, inl, inr, refl, arith, div-lt_iff_lt-mul}, lemmas.{Bool.cases_lt, List.{length-map, Sums.count_by-le-length}}}, specs.List.count_by}
-use Rattle.bit_blocks.specs.{Bits.blocks_for, Storage.{IsPacked, ones_in, values_of}}
-use Rattle.bit_blocks.proofs.{BitsLemmas.blocks_for-past, CountLemmas.ones_in-values, StorageLemmas.{length-values_of, value_at-past}, UseLemmas.packed_blocks, VectorLemmas.blocks_for-none}
-use Rattle.bit_words.proofs.StartLemmas.{false_before_none}
+use Rattle.std.{proofs.{Common.{◌≡◌, ◌*◌, ◌^◌, ◌<◌, ℕ, List, length, map, vec_capacity, sym, ap, ◌∙◌, refl, arith}, lemmas.List.Sums.count_by-le-length}, specs.List.count_by}
+use Rattle.bit_blocks.specs.Storage.{IsPacked, ones_in, values_of}
+use Rattle.bit_blocks.proofs.{CountLemmas.ones_in-values, StorageLemmas.length-values_of, UseLemmas.packed_blocks, VectorLemmas.packed_whole}
+use Rattle.bit_words.{specs.Summary.stored_for, proofs.{CapacityLemmas.{capacity_le, shared_enough}, StartLemmas.false_before_none}}
 use Rattle.bit_words.proofs.bit_vec.BitVec.from_counted_blocks.{Given.Over, Goals.After-deref}
 use Rattle.bit_words.proofs.bit_vec.BitVec.from_counted_blocks.Goals as goal
-
--- whole blocks hold a value for each of their bits
-whole_packed : {X : Type 0} (w n : ℕ) (f : X → ℕ) (P : X → Type 0) (xs : List X) → 0 < w → n ≡ length xs * w → n < 2 ^ 64 → All P xs → IsPacked w f P xs n
-whole_packed w n f P xs pos is fits each = record {
-  each = each;
-  count =
-      let none : n - length xs * w ≡ 0 = omega (arith, is) in
-      omega (arith, blocks_for-past w (length xs) n pos (omega (arith, is, pos)), ap (blocks_for w) none, blocks_for-none w pos);
-  tail = record {
-    zero_tail = λ i past. value_at-past w (map f xs) i (rw length-map (elim (cases_lt (i / w) (length xs)) [
-      | inl lt ↦ (let below = (div-lt_iff_lt-mul pos).0 lt in absurd (omega (arith, below, is, past)))
-      | inr le ↦ le
-    ]));
-  };
-  fits = fits;
-}
 
 module _ {X : Type 0} (w n : ℕ) (f : X → ℕ) (P : X → Type 0) (xs : List X) (pos : 0 < w) (below : (x : X) → P x → f x < 2 ^ w) (packed : IsPacked w f P xs n) where
   -- and their ones are the true values
@@ -34,7 +18,7 @@ packed : (g : Over) (c : After-deref g) (n : ℕ) → n ≡ c.args.blocks.len * 
 packed g c n is =
     let w = g.B.BitBlock.width in
     let size : length c.args.blocks.items * w ≡ c.args.blocks.len * w = ap (λ count. count * w) (omega (arith, c.args.blocks.ok.0)) in
-    whole_packed w n g.B.BitBlock.number g.B.BitBlock.is_block c.args.blocks.items g.met.B.BitBlock.width_law.positive (omega (arith, is, size)) (omega (arith, is, c.requires.fits)) c.requires.each
+    packed_whole w n g.B.BitBlock.number g.B.BitBlock.is_block c.args.blocks.items g.met.B.BitBlock.width_law.positive (omega (arith, is, size)) (omega (arith, is, c.requires.fits)) c.requires.each
 
 -- as many values as the code computes
 size : (len bits count w : ℕ) → len ≡ count → bits ≡ w → len * bits ≡ count * w
@@ -60,6 +44,14 @@ returns-clause-blocks g c =
 
 pub returns-clause-len : goal.returns-clause-len
 returns-clause-len g c = length-values_of _ _ _ ∙ size c.len.result c.bits.result _ _ c.len.ensures c.bits.ensures
+
+pub returns-clause-holds_values : goal.returns-clause-holds_values
+returns-clause-holds_values g c =
+    let w = g.B.BitBlock.width in
+    let long : length c.deref.result.now ≡ c.args.blocks.len = ap length c.deref.ensures.value ∙ omega (arith, c.args.blocks.ok.0) in
+    let stored = c.in_ok-summary.ensures.capacity ∙ ap (stored_for w) long in
+    let enough = shared_enough w c.args.blocks.cap (vec_capacity c.in_ok-summary.summary) c.args.blocks.len g.met.B.BitBlock.width_law.positive (omega (arith, c.args.blocks.ok.0)) (omega (arith, stored)) in
+    omega (arith, capacity_le w _ _ enough, c.requires.fits)
 
 pub returns-clause-count : goal.returns-clause-count
 returns-clause-count g c =

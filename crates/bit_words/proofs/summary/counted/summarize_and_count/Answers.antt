@@ -1,11 +1,7 @@
 use Rattle.std.proofs.{Common.{◌≡◌, ℕ, ◌+◌, ◌*◌, ◌<◌, ◌≤◌, List, map, length, take, drop, count_ones, ap, ◌∙◌, refl, arith, mul-le-mul_right}, lemmas.List.{length-map, take_all, Sums.sum_by-take-le}}
-use Rattle.bit_blocks.{specs.{Bits.blocks_for, Storage.ones_in}, proofs.{BitsLemmas.{blocks_for-enough, whole_before}, CountLemmas.ones_in-more}}
-use Rattle.bit_words.proofs.SummaryLemmas.{summary_of_blocks, summary_put}
+use Rattle.bit_blocks.{specs.{Bits.blocks_for, Storage.ones_in}, proofs.{BitsLemmas.{blocks_for-enough}, CountLemmas.ones_in-more}}
+use Rattle.bit_words.proofs.SummaryLemmas.{chunk_begins, summary_of_blocks, summary_put}
 use Rattle.bit_words.proofs.summary.counted.summarize_and_count.Goals as goal
-
--- where the blocks begin that block q of the summary is about
-begun : (w bits n q : ℕ) → 0 < w → bits ≡ w → q < blocks_for w n → q * bits < n
-begun w bits n q pos e within = rw e (whole_before w n q pos within)
 
 -- the ones of the blocks up to the end of those, which are no more than those of all
 chunk_more : {X : Type 0} (number : X → ℕ) (w bits q : ℕ) (xs : List X) → bits ≡ w
@@ -32,11 +28,11 @@ loop-q-preserved g c =
 
 pub overflow_mul-q : goal.overflow_mul-q
 overflow_mul-q g c =
-    omega (arith, begun g.B.BitBlock.width c.bits.result (length c.args.blocks.now) c.loop-q.q g.met.B.BitBlock.width_law.positive c.bits.ensures (omega arith), c.requires.fits)
+    omega (arith, chunk_begins g.B.BitBlock.width c.bits.result (length c.args.blocks.now) c.loop-q.q g.met.B.BitBlock.width_law.positive c.bits.ensures (omega arith), c.requires.fits)
 
 pub used_and_ones-used-requires-clause-in_bounds : goal.used_and_ones-used-requires-clause-in_bounds
 used_and_ones-used-requires-clause-in_bounds g c =
-    omega (arith, begun g.B.BitBlock.width c.bits.result (length c.args.blocks.now) c.loop-q.q g.met.B.BitBlock.width_law.positive c.bits.ensures (omega arith))
+    omega (arith, chunk_begins g.B.BitBlock.width c.bits.result (length c.args.blocks.now) c.loop-q.q g.met.B.BitBlock.width_law.positive c.bits.ensures (omega arith))
 
 pub used_and_ones-used-requires-clause-fits : goal.used_and_ones-used-requires-clause-fits
 used_and_ones-used-requires-clause-fits g c =
