@@ -26,6 +26,7 @@ pub mod MissingLemmas
 pub mod PairLemmas
 pub mod TallyLemmas
 pub mod SparseLemmas
+pub mod LeftLemmas
 pub mod HintLemmas
 pub mod ChainLemmas
 pub mod EntryLemmas

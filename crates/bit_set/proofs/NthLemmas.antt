@@ -6,7 +6,7 @@ use Rattle.std.proofs.Math.Seq.{drop-append_seam, drop-drop}
 use Rattle.std.specs.{Iterator.YieldsLast, List.last_or}
 use Rattle.bit_words.specs.Nonzero.{Hand, Nonzeros, SkipsBlocks}
 use Rattle.bit_set.specs.{Sets.{AscendsFrom, IsAscending}, Indexes.{indexes, indexes_of, left_between, seen_of, IsSparseWalk, Passes}, Walk.{Walk, Advances, PullsBlocks, PullsBlocksAlong, Skips}}
-use Rattle.bit_set.proofs.{IndexLemmas.{indexes-none, length-indexes}, PartLaws.rank_of, PartLemmas.indexes_of-append, SetLemmas.AscendsFrom-lower, SparseLemmas.ones_of_entries}
+use Rattle.bit_set.proofs.{IndexLemmas.{indexes-none, length-indexes}, LeftLemmas.ones_of_entries, PartLaws.rank_of, PartLemmas.indexes_of-append, SetLemmas.AscendsFrom-lower}
 
 -- ---- lists
 

@@ -1,15 +1,15 @@
 -- A walk that goes by the blocks that are not 0, with one of them in hand at either end: a step to the next such block, an
 -- element taken out of it, and the end.
-use Rattle.std.proofs.Common.{◌≡◌, ℕ, ◌+◌, ◌-◌, ◌*◌, ◌/◌, ◌^◌, ◌<◌, ◌≤◌, ◌==◌, min, Bool, true, false, if◌then◌else◌, List, [], ◌∷◌, ◌++◌, map, length, All, Some, None, count_ones, refl, sym, ap, ◌∙◌}
+use Rattle.std.proofs.Common.{◌≡◌, ℕ, ◌+◌, ◌-◌, ◌*◌, ◌/◌, ◌^◌, ◌<◌, ◌≤◌, ◌==◌, min, Bool, true, false, if◌then◌else◌, List, [], ◌∷◌, ◌++◌, map, length, All, Some, None, refl, sym, ap, ◌∙◌}
 use Rattle.std.proofs.Common.{subst, arith, inl, inr, ap₂, length-append}
 use Rattle.std.proofs.lemmas.{Bool.{ne_eqb, eq-eqb, true≢false, Decides.nat_tests}, Nat.div-mul-add}
-use Rattle.std.proofs.lemmas.List.{append-nil, append_assoc, map-append, Elements.{All-nil, All-cons, All-head, All-tail}, Sums.sum_by-cons}
+use Rattle.std.proofs.lemmas.List.{append-nil, append_assoc, map-append, Elements.{All-nil, All-cons, All-head, All-tail}}
 use Rattle.std.proofs.Math.Nat.{mul-div_cancel}
 use Rattle.bit_blocks.specs.{Highest.IsHighest, Lowest.{IsLowest, IsCleared}}
-use Rattle.bit_words.specs.Nonzero.{Hand, Nonzeros, PullsLast, PullsNonzero, Refills, RunsOut, TakesFirst, TakesLast, ones_left}
+use Rattle.bit_words.specs.Nonzero.{Hand, Nonzeros, PullsLast, PullsNonzero, Refills, RunsOut, TakesFirst, TakesLast}
 use Rattle.bit_set.specs.{Sets.{AscendsFrom, IsAscending}, Indexes.{indexes, indexes_of, left_between, seen_of, IsSparseWalk}, Walk.{Walk, Advances, AdvancesBack, PullsBlocks, PullsBlocksBack}}
 use Rattle.bit_set.proofs.{MemberLemmas.{takes_greatest, takes_least}, SetLemmas.{AscendsFrom-init, AscendsFrom-lower, AscendsFrom-reach}}
-use Rattle.bit_set.proofs.IndexLemmas.{indexes-none, indexes-lowest, indexes-highest, length-indexes}
+use Rattle.bit_set.proofs.IndexLemmas.{indexes-none, indexes-lowest, indexes-highest}
 
 pub whole_index : (w q : ℕ) → 0 < w → q * w / w ≡ q
 whole_index w q pos = mul-div_cancel q pos
@@ -476,33 +476,4 @@ module _ {X : Type 0} (w : ℕ) (number : X → ℕ) (is_block : X → Type 0) (
             summary_left = to.summary_left;
           };
         },
-      )
-
--- ---- how many are left
-
-module _ {X : Type 0} (w : ℕ) (number : X → ℕ) (is_block : X → Type 0) (small : (x : X) → is_block x → number x < 2 ^ w) where
-  ones_of_block : (p : ℕ) (x : X) → is_block x → length (indexes w p (number x) []) ≡ count_ones (number x)
-  ones_of_block p x lawful = let count = length-indexes w p (number x) [] (small x lawful) in omega (arith, count)
-
-  pub ones_of_entries : (entries : List (ℕ × X)) → All (λ (entry : ℕ × X). is_block entry.1) entries → length (indexes_of w number entries) ≡ ones_left number entries
-  ones_of_entries [] each = refl
-  ones_of_entries (entry ∷ entries) each =
-      let rest = ones_of_entries entries (All-tail (λ (e : ℕ × X). is_block e.1) entry entries each) in
-      let first = ones_of_block (entry.0 * w) entry.1 (All-head (λ (e : ℕ × X). is_block e.1) entry entries each) in
-      omega (arith, rest, first, length-append (indexes w (entry.0 * w) (number entry.1) []) (indexes_of w number entries), sum_by-cons (λ (e : ℕ × X). count_ones (number e.1)) entry entries)
-
-  -- those of the block in hand, of the blocks to pull, and of the one at the back
-  pub ones_ahead : (front back : Hand X) (it : Nonzeros X) → IsSparseWalk w number is_block front it back
-      → count_ones (number front.block) + ones_left number it.left + count_ones (number back.block) ≡ length (left_between w number front it.left back)
-  ones_ahead front back it is =
-      let first = indexes w front.index (number front.block) [] in
-      let inner = indexes_of w number it.left in
-      let last = indexes w back.index (number back.block) [] in
-      omega (
-        arith,
-        length-append first (inner ++ last),
-        length-append inner last,
-        ones_of_block front.index front.block is.in_hand,
-        ones_of_entries it.left is.each,
-        ones_of_block back.index back.block is.at_back,
       )

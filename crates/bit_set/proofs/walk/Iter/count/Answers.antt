@@ -1,6 +1,6 @@
 use Rattle.std.proofs.Common.{◌≡◌, ◌+◌, ◌<◌, ◌^◌, count_ones, length, ap, ◌∙◌, arith}
 use Rattle.bit_words.specs.Nonzero.{ones_left}
-use Rattle.bit_set.proofs.{SparseLemmas.ones_ahead, walk.Iter.count.Goals.After-self}
+use Rattle.bit_set.proofs.{LeftLemmas.ones_ahead, walk.Iter.count.Goals.After-self}
 use Rattle.bit_set.proofs.walk.Iter.count.Goals as goal
 
 -- the ones of the blocks in hand and those between them are all, and can be counted

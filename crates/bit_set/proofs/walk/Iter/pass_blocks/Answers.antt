@@ -1,6 +1,6 @@
 use Rattle.std.proofs.Common.{◌+◌, ◌≤◌, length, ap, arith}
 use Rattle.bit_words.specs.Nonzero.{Hand}
-use Rattle.bit_set.{specs.Indexes.{IsSparseWalk, Passes, seen_of}, proofs.{NthLemmas.all_passed, SparseLemmas.ones_ahead, walk.Iter.pass_blocks.{Given.Over, Goals.After-skip_blocks}}}
+use Rattle.bit_set.{specs.Indexes.{IsSparseWalk, Passes, seen_of}, proofs.{LeftLemmas.ones_ahead, NthLemmas.all_passed, walk.Iter.pass_blocks.{Given.Over, Goals.After-skip_blocks}}}
 use Rattle.bit_set.proofs.walk.Iter.pass_blocks.Goals as goal
 
 -- what is left of the block in hand was passed, and the blocks past it
