@@ -1,6 +1,7 @@
 //! Runs scripts of random calls on this library, on the Rust crates `bit-set` and `bit-vec`, and on a plain slow
 //! model, and compares what every call returns. Scripts on matrices go by a model alone.
 mod bends;
+mod block_calls;
 mod calls;
 mod compare;
 mod departures;
@@ -8,6 +9,7 @@ mod draw;
 mod matrices;
 mod matrix_model;
 mod model;
+mod model_walks;
 mod ours;
 mod peers;
 mod random;

@@ -1,5 +1,6 @@
 //! The plain slow side: a `BTreeSet` and a length. It has each call, as this library documents it.
 use crate::calls::{Call, Line};
+use crate::model_walks::{ModelBlocks, ModelMissing, ModelWalk};
 use crate::sides::{BlockWalk, Refused, Set, Walk};
 use std::cell::Cell;
 use std::cmp::Ordering;
@@ -450,101 +451,5 @@ impl Set for Model {
 
     fn bits_debug(&self) -> String {
         format!("BitVec {{ storage: \"{}\", nbits: {} }}", self.digits(" "), self.len)
-    }
-}
-
-/// A walk over the items of a list. Its upper bound is that of the blocks from the one in hand on: at first the first
-/// block or that of the number it begins at, after an item the one with that item, and at the end the last; or what it may give at most.
-#[derive(Clone)]
-struct ModelWalk {
-    items: std::rc::Rc<[usize]>,
-    taken: usize,
-    block: usize,
-    last_block: usize,
-    most: Option<usize>,
-}
-
-impl Walk for ModelWalk {
-    fn bounds(&self) -> (usize, Option<usize>) {
-        let blocks_left = 1 + self.last_block - self.block;
-        (0, Some(self.most.unwrap_or(blocks_left * width())))
-    }
-
-    fn next(&mut self) -> Option<usize> {
-        self.most = self.most.map(|most| most.saturating_sub(1));
-        let item = self.items.get(self.taken).copied();
-        self.taken += usize::from(item.is_some());
-        self.block = item.map_or(self.last_block, |item| item / width());
-        item
-    }
-
-    fn copy(&self) -> Box<dyn Walk + '_> {
-        Box::new(self.clone())
-    }
-
-    fn count_left(&self) -> usize {
-        self.items.len() - self.taken
-    }
-}
-
-/// A walk over the numbers from `at` on and below `end` that are no elements. Its upper bound is how far the end is past the
-/// first number of the block in hand: that of the last item, or at the end the last block of the range.
-#[derive(Clone)]
-struct ModelMissing<'a> {
-    elements: &'a BTreeSet<usize>,
-    at: usize,
-    index: usize,
-    end: usize,
-}
-
-impl Walk for ModelMissing<'_> {
-    fn bounds(&self) -> (usize, Option<usize>) {
-        (0, Some(self.end - self.index))
-    }
-
-    fn next(&mut self) -> Option<usize> {
-        while self.at < self.end && self.elements.contains(&self.at) {
-            self.at += 1;
-        }
-        if self.at >= self.end {
-            self.index += (self.end - self.index).saturating_sub(1) / width() * width();
-            return None;
-        }
-        let item = self.at;
-        self.index = item / width() * width();
-        self.at += 1;
-        Some(item)
-    }
-
-    fn copy(&self) -> Box<dyn Walk + '_> {
-        Box::new(self.clone())
-    }
-
-    fn count_left(&self) -> usize {
-        let end = self.end.max(self.at);
-        end - self.at - self.elements.range(self.at..end).count()
-    }
-}
-
-#[derive(Clone)]
-struct ModelBlocks {
-    blocks: std::rc::Rc<[u128]>,
-    taken: usize,
-}
-
-impl BlockWalk for ModelBlocks {
-    fn bounds(&self) -> (usize, Option<usize>) {
-        let left = self.blocks.len() - self.taken;
-        (left, Some(left))
-    }
-
-    fn next(&mut self) -> Option<u128> {
-        let block = self.blocks.get(self.taken).copied();
-        self.taken += usize::from(block.is_some());
-        block
-    }
-
-    fn copy(&self) -> Box<dyn BlockWalk + '_> {
-        Box::new(self.clone())
     }
 }
