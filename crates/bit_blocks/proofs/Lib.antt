@@ -23,3 +23,4 @@ pub mod ShiftLemmas
 pub mod ZeroLemmas
 pub mod SearchLemmas
 pub mod CountLemmas
+pub mod RangeLemmas

@@ -1,11 +1,15 @@
 -- What one call, and then many, make of a set.
 use Rattle.std.proofs.{Common.{◌≡◌, ◌≢◌, ℕ, ◌<◌, not, Bool, true, false, List, [], ◌∷◌, map, All, Err, Ok, OnErr, OnOk, Result, refl, ap, arith}, lemmas.{Bool.Decides.nat_tests, List.Elements.{All-head, All-tail}}}
 use Rattle.bit_blocks.specs.Bits.{Bits}
+use Rattle.std.proofs.Common.{ℕ, ◌+◌, ◌-◌, ◌≤◌, ◌++◌, length, take, drop, slice_get, get_or, length-append, Option, Some, None, sym, ◌∙◌}
+use Rattle.std.proofs.{Math.Seq.take-append_seam, lemmas.{List.get_or-append_right, Option.slice_get-get_or}}
+use Rattle.std.specs.Iterator.{YieldsFirst}
 use Rattle.bit_words.specs.Bounds.{greatest}
-use Rattle.bit_set.specs.Changes.{Change, Change.{Insert, InsertRange, ShrinkToFit, Toggle}, Changes, Event, Happens, Outcome, Outcome.{NoMemory, Returned}, elements_after, outcome_of_result, outcome_of, outcomes}
+use Rattle.sets.specs.{Moved.raised, Sets.bound_of}
+use Rattle.bit_set.specs.Changes.{Change, Change.{Insert, InsertRange, PopFirst, PopLast, ShiftUp, ShrinkToFit, Toggle}, Changes, Event, Happens, Outcome, Outcome.{Done, Gave, NoMemory, Returned}, elements_after, outcome_of_result, outcome_of, outcomes}
 use Rattle.bit_set.specs.Changes.{set_after}
-use Rattle.bit_set.specs.{Sets.elements}
-use Rattle.bit_set.specs.{Ranges.span, Sets.{has, put, union, without}}
+use Rattle.sets.specs.Sets.{elements}
+use Rattle.sets.specs.{Ranges.span, Sets.{has, put, union, without}}
 
 -- ---- one call
 
@@ -55,3 +59,30 @@ happens_agree a b new_a new_b events others same calls each other run other_run 
     let first = happens_found a new_a events each run in
     let second = happens_found b new_b others other other_run in
     (cc, cc)
+
+-- ---- an end that went out, and members that moved
+
+changes_popped_first : (old new : List Bool) (x : ℕ) → elements old ≡ x ∷ elements new → Changes PopFirst old (Gave (Some x)) new
+unfolding Changes
+changes_popped_first old new x is = (sym (ap (drop 1) is), sym (ap (λ s. Gave (slice_get s 0)) is))
+
+pub changes_popped : (old new : List Bool) (r : Option ℕ) → YieldsFirst elements old r new → Changes PopFirst old (Gave r) new
+unfolding Changes
+changes_popped old new None none = (none.1 ∙ sym (ap (drop 1) none.0), sym (ap (λ s. Gave (slice_get s 0)) none.0))
+changes_popped old new (Some x) is = changes_popped_first old new x is
+
+pub changes_popped_last : (old new : List Bool) (x : ℕ) → elements old ≡ elements new ++ x ∷ [] → Changes PopLast old (Gave (Some x)) new
+unfolding Changes
+changes_popped_last old new x is =
+    let rest = elements new in
+    let whole = rest ++ x ∷ [] in
+    let long : length whole - 1 ≡ length rest = omega (arith, length-append rest (x ∷ [])) in
+    let front : take (length whole - 1) whole ≡ rest = ap (λ n. take n whole) long ∙ take-append_seam rest (x ∷ []) in
+    let at : slice_get whole (length whole - 1) ≡ Some x =
+    ap (slice_get whole) long ∙ slice_get-get_or whole (length rest) x (omega (arith, length-append rest (x ∷ [])))
+    ∙ ap Some (get_or-append_right rest (x ∷ []) (length rest) (length rest) x refl (omega arith) ∙ ap (λ n. get_or (x ∷ []) n x) (let e : length rest - length rest ≡ 0 = omega arith in e)) in
+    (sym (ap (λ s. take (length s - 1) s) is ∙ front), ap Gave (sym (ap (λ s. slice_get s (length s - 1)) is ∙ at)))
+
+pub changes_raised : (d : ℕ) (old new : List Bool) → bound_of (raised (elements old) d) ≤ greatest → elements new ≡ raised (elements old) d → Changes (ShiftUp d) old Done new
+unfolding Changes
+changes_raised d old new fits is = grind (arith, nat_tests)

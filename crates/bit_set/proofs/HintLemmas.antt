@@ -3,8 +3,10 @@ use Rattle.std.proofs.Common.{◌≡◌, ℕ, ◌+◌, ◌-◌, ◌*◌, ◌/◌
 use Rattle.std.proofs.lemmas.{Bool.Decides.nat_tests, List.Elements.{All-nil, All-cons, All-head, All-tail, All-append}}
 use Rattle.std.specs.Option.{SomeIff}
 use Rattle.bit_words.specs.Nonzero.{Hand, Nonzeros}
-use Rattle.bit_set.specs.{Sets.{AscendsFrom, IsAscending}, Indexes.{indexes, indexes_of, left_between, IsSparseWalk}, Walk.bound_on_rest}
-use Rattle.bit_set.proofs.{IndexLemmas.{AscendsFrom-indexes, indexes-below}, SetLemmas.AscendsFrom-reach, SparseLemmas.ends_apart}
+use Rattle.sets.specs.Sets.{AscendsFrom, IsAscending}
+use Rattle.bit_set.specs.{Indexes.{indexes, indexes_of, left_between, IsSparseWalk}, Walk.bound_on_rest}
+use Rattle.sets.proofs.SetLemmas.{AscendsFrom-reach}
+use Rattle.bit_set.proofs.{IndexLemmas.{AscendsFrom-indexes, indexes-below}, SparseLemmas.ends_apart}
 
 -- n lies from low on and below high
 pub record LiesWithin (low high n : ℕ) : Type 0 where

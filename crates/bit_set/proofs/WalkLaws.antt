@@ -4,11 +4,14 @@ use Rattle.std.proofs.Common.{nat_lt, if◌then◌else◌, map, div-add-mod', ap
 use Rattle.std.proofs.{Math.{Bool.{or-false, and-false}, Nat.{mod-lt, lt_of_mul-lt-mul_left}, Seq.{drop-append_seam, take-append_seam}}, lemmas.{Nat.le-div, Bool.{ne_eqb, cond_both, ltb-true}}}
 use Rattle.std.{proofs.lemmas.{Bool.Decides.nat_tests, List.append-nil}, specs.Iterator.{Yields, YieldsFirst, YieldsThen, Drains}}
 use Rattle.bit_blocks.specs.{Bits.blocks_for, declared.block.merge.Merge.Merge}
-use Rattle.bit_set.specs.{Agreement.WalksAgree, Sets.{IsAscending, has, elements, put_all, merge_of_sets, AscendsFrom}}
+use Rattle.sets.specs.Sets.{IsAscending, has, elements, put_all, merge_of_sets, AscendsFrom}
+use Rattle.bit_set.specs.Agreement.{WalksAgree}
 use Rattle.bit_set.specs.Walk.{Walk, TwoSetWalk, Advances, AdvancesBack, CallsEnd, GivesFromEnds, in_order, PullsBlocks, PullsBlocksBack, PullsEachBlock, IsAtFirstBlock, IsAtFirstBlocks}
 use Rattle.bit_set.specs.Walk.{AdvancesByEach, IsWalkedOut, IsWalkedOutByEach, IsAtStart}
-use Rattle.bit_set.{specs.Walk.{StartsOverTwo, WalksOverTwo, blocks_past}, proofs.{SetLemmas.{same_members, IsAscending-elements}, SetLaws.{has-put_all, IsAscending-put_all}}}
-use Rattle.bit_set.proofs.{AlgebraLemmas.IsAscending-merge_of_sets, SparseLemmas.whole_index}
+use Rattle.sets.proofs.{SetLemmas.{same_members, IsAscending-elements}, SetLaws.{has-put_all, IsAscending-put_all, put_all-items}}
+use Rattle.bit_set.specs.Walk.{StartsOverTwo, WalksOverTwo, blocks_past}
+use Rattle.sets.proofs.AlgebraLemmas.{IsAscending-merge_of_sets}
+use Rattle.bit_set.proofs.SparseLemmas.{whole_index}
 
 -- ---- calls of any kind
 
@@ -16,10 +19,6 @@ use Rattle.bit_set.proofs.{AlgebraLemmas.IsAscending-merge_of_sets, SparseLemmas
 kept : {S : Type 0} (steps : S → Option ℕ → S → Type 0) (P : S → Type 0) → ((s t : S) (x : ℕ) → steps s (Some x) t → P s → P t) → (s t : S) (items : List ℕ) → Yields steps s items t → P s → P t
 kept steps P each s t [] run holds = subst P run holds
 kept steps P each s t (x ∷ xs) run holds = kept steps P each run.0 t xs run.2 (each s run.0 x run.1 holds)
-
--- the items of a set, put in one by one, are that set
-pub put_all-items : (s : List ℕ) → IsAscending s → put_all [] s ≡ s
-put_all-items s up = same_members (put_all [] s) s (IsAscending-put_all [] s tt) up (λ n. has-put_all [] s n ∙ or-false (has s n))
 
 -- each call gives the first of what is left
 module _ {S : Type 0} (left : S → List ℕ) (steps : S → Option ℕ → S → Type 0) (first : (s t : S) (r : Option ℕ) → steps s r t → YieldsFirst left s r t) where

@@ -3,7 +3,8 @@
 ghost use Rattle.std.specs.Prelude.{◌≡◌, Bool, List, [], alloc_error, IfErr, IfOk, IsErrOf, IsOk, length};
 ghost use Rattle.bit_blocks.specs.Bits.{blocks_for, blocks_of, capacity_of};
 ghost use Rattle.serde_json.specs.View.{view};
-ghost use Rattle.bit_set.specs.{Json.{IsFault, IsFirstFault, Spells}, declared.json.JsonError.JsonError, Members.IsSameSet, Sets.elements};
+ghost use Rattle.sets.specs.{Members.IsSameSet, Sets.elements};
+ghost use Rattle.bit_set.specs.{Json.{IsFault, IsFirstFault, Spells}, declared.json.JsonError.JsonError};
 
 use crate::BitSet;
 use serde_json::Value;

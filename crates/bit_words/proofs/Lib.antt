@@ -2,7 +2,6 @@ mod Chains
 pub mod SourceLemmas
 pub mod SummarySpanLemmas
 mod RangeCountLemmas
-pub mod RangeLemmas
 pub mod MovedLemmas
 pub mod RangeQueryLemmas
 pub mod MergedOnesLemmas

@@ -1,7 +1,7 @@
 // Laws of what operations in place tell.
 ghost use Rattle.std.specs.Prelude.{◌≡◌, ◌↔◌, ℕ, List, [], true};
-ghost use Rattle.bit_set.specs.Order.{same_sets};
-ghost use Rattle.bit_set.specs.Sets.{IsAscending, difference, intersection, is_disjoint, is_subset, symmetric_difference, union};
+ghost use Rattle.sets.specs.Order.{same_sets};
+ghost use Rattle.sets.specs.Sets.{IsAscending, difference, intersection, is_disjoint, is_subset, symmetric_difference, union};
 
 /// When an operation in place leaves a set as it is, which `union_changes` and the calls like it tell: a union where the
 /// other set is in this one, an intersection where this one is in the other, a difference where they have nothing in

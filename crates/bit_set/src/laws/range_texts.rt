@@ -1,6 +1,7 @@
 // The law of the texts of ranges.
 ghost use Rattle.std.specs.{Prelude.{◌≡◌, ◌<◌, ℕ, List, IsTrue, Ok}};
-ghost use Rattle.bit_set.specs.{RangeReading.ranges_in, RangeTexts.ranges_text, Runs.runs_of, Sets.{IsAscending, has}};
+ghost use Rattle.sets.specs.{Runs.runs_of, Sets.{IsAscending, has}};
+ghost use Rattle.bit_set.specs.{RangeReading.ranges_in, RangeTexts.ranges_text};
 
 /// The text that `ranges` writes of a set reads as just the runs of that set, so that `from_ranges` makes the same set of
 /// it where it finds memory.

@@ -1,6 +1,7 @@
 // Calls that take the least or the greatest element out.
 ghost use Rattle.std.specs.{Prelude.{◌≡◌, ◌+◌, MatchOption, if◌then◌else◌, is_some, length}, Iterator.{YieldsFirst, YieldsLast}};
-ghost use Rattle.bit_set.specs.{Changes.{Change, Changes, Outcome.Gave}, Members.{HasNone, TakesGreatest, TakesLeast}, Sets.elements};
+ghost use Rattle.sets.specs.{Members.{HasNone, TakesGreatest, TakesLeast}, Sets.elements};
+ghost use Rattle.bit_set.specs.Changes.{Change, Changes, Outcome.Gave};
 
 use crate::{BitBlock, BitSet};
 

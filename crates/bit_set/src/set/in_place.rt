@@ -1,8 +1,9 @@
 // Calls that make a set, in place, what it and another become.
 ghost use Rattle.std.specs.Prelude.{◌≡◌, ◌-◌, ◌++◌, max, OnOk, length, replicate, false};
 ghost use Rattle.bit_words.specs.Growth.{Grows};
-ghost use Rattle.bit_set.specs.Members.{IsDifference, IsIntersection, IsMerged, IsSymmetricDifference, IsUnion};
-ghost use Rattle.bit_set.specs.{Sets.{elements, union, intersection, difference, symmetric_difference, merge_of_sets}, Changes.Change};
+ghost use Rattle.sets.specs.Members.{IsDifference, IsIntersection, IsMerged, IsSymmetricDifference, IsUnion};
+ghost use Rattle.sets.specs.Sets.{elements, union, intersection, difference, symmetric_difference, merge_of_sets};
+ghost use Rattle.bit_set.specs.Changes.{Change};
 ghost use Rattle.bit_set.specs.Changes.{Changes, outcome_of_result};
 
 use crate::bit_vec::{Merge, Steps};

@@ -2,7 +2,8 @@
 ghost use Rattle.std.specs.{Prelude.{◌≡◌, ◌≢◌, ℕ, ◌≤◌, ◌↔◌, IfOk, IfErr, IsOk, List, [], length, Some}, Iterator.{Drains, IsFinite, YieldsThen, Runs.WholeRun}};
 ghost use Rattle.bit_blocks.specs.Bits.{blocks_for, capacity_of};
 ghost use Rattle.bit_words.specs.Bounds.{greatest};
-ghost use Rattle.bit_set.specs.{Sets.{bound_of, elements, put_all}, Members.{HasNone, HasTrueOf, IsSameSet}, Capacity.IsPastBlocks};
+ghost use Rattle.sets.specs.{Sets.{bound_of, elements, put_all}, Members.{HasNone, HasTrueOf, IsSameSet}};
+ghost use Rattle.bit_set.specs.Capacity.{IsPastBlocks};
 
 use crate::bit_vec::BitVec;
 use crate::{BitBlock, BitSet, SetError};
@@ -36,7 +37,7 @@ impl<B: BitBlock> BitSet<B> {
     }
 
     /// The set that the bit vector keeps: the indexes at which it is true. Constant time.
-    #[tactic(auto, using(crate::proofs::MemberLemmas::reads))]
+    #[tactic(auto, using(sets::proofs::MemberLemmas::reads))]
     #[inline]
     pub fn from_bit_vec_general(bit_vec: BitVec<B>) -> Self
         ensures value { result ≡ bit_vec }

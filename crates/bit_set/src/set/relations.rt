@@ -1,6 +1,6 @@
 // Calls that say how the elements of two sets lie to each other.
 ghost use Rattle.std.specs.Prelude.{◌≡◌, ◌↔◌, IsTrue};
-ghost use Rattle.bit_set.specs.{Members.{IsDisjoint, IsSubset}, Sets.{elements, is_subset, is_disjoint}};
+ghost use Rattle.sets.specs.{Members.{IsDisjoint, IsSubset}, Sets.{elements, is_subset, is_disjoint}};
 
 use crate::bit_vec::Steps;
 use crate::{BitBlock, BitSet};

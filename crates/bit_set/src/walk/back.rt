@@ -1,6 +1,7 @@
 // The walk over a set's elements, from the back.
 ghost use Rattle.std.specs.{Prelude.{◌≡◌, MatchOption, None}, Iterator.{Adapters.{RevKeepsRuns, rev_source}, Runs.YieldsInReverse}, List.last_or};
-ghost use Rattle.bit_set.specs.{Choices.{IsGreatest, IsLastOf}, Members.HasNone, Walk.AdvancesBack};
+ghost use Rattle.sets.specs.{Choices.{IsGreatest, IsLastOf}, Members.HasNone};
+ghost use Rattle.bit_set.specs.Walk.{AdvancesBack};
 
 use crate::BitBlock;
 use crate::bit_vec::take_highest_one;

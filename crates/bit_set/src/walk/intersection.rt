@@ -1,6 +1,7 @@
 // The walk over what is in both of two sets.
 ghost use Rattle.std.specs.{Prelude.{◌≡◌, Some, min, IfSome, length}, Iterator.{UpTo, item_count, Runs.YieldsInOrder, SizeHint.IsWithinCount}};
-ghost use Rattle.bit_set.specs.{Members.IsIntersection, Sets.{elements, intersection}, Walk.{AdvancesWithBound, StartsOverTwo}};
+ghost use Rattle.sets.specs.{Members.IsIntersection, Sets.{elements, intersection}};
+ghost use Rattle.bit_set.specs.Walk.{AdvancesWithBound, StartsOverTwo};
 
 use super::two_sets::TwoSets;
 use crate::bit_vec::operation;

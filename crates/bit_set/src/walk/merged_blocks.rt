@@ -1,7 +1,8 @@
 // The blocks of two sets, merged.
 ghost use Rattle.std.specs.Prelude.{◌≡◌, ◌<◌, ◌^◌, max, IfSome, All, length};
 ghost use Rattle.bit_blocks.specs.Bits.{blocks_for};
-ghost use Rattle.bit_set.specs.{Sets.{elements, merge_of_sets}, Indexes.{IsMergedPull, IsWalkable, PullsBlock, PullsBlockIf}};
+ghost use Rattle.sets.specs.Sets.{elements, merge_of_sets};
+ghost use Rattle.bit_set.specs.Indexes.{IsMergedPull, IsWalkable, PullsBlock, PullsBlockIf};
 
 use crate::BitBlock;
 use crate::bit_vec::operation::Operation;

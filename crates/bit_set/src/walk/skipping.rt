@@ -1,6 +1,7 @@
 // The walk over a set's elements, past many of them at once.
 ghost use Rattle.std.specs.Prelude.{◌≤◌, length};
-ghost use Rattle.bit_set.specs.{Indexes.Passes, Sets.IsAscending, Walk.Skips};
+ghost use Rattle.sets.specs.Sets.{IsAscending};
+ghost use Rattle.bit_set.specs.{Indexes.Passes, Walk.Skips};
 
 use crate::BitBlock;
 use crate::walk::Iter;

@@ -1,7 +1,9 @@
 use Rattle.std.proofs.Common.{◌≡◌, Bool, List, ℕ, sym, ◌∙◌, subst}
 use Rattle.bit_blocks.specs.declared.block.merge.Merge.{Merge, TheVariants.{Union, Intersection, Difference, Symmetric}}
-use Rattle.bit_set.specs.{Sets.{IsAscending, elements, merge_of_sets}, Walk.{AdvancesByEach, AdvancesWithBound}}
-use Rattle.bit_set.proofs.{SetLemmas.IsAscending-elements, AlgebraLemmas.IsAscending-merge_of_sets, WalkLaws.walked_out}
+use Rattle.sets.specs.Sets.{IsAscending, elements, merge_of_sets}
+use Rattle.bit_set.specs.Walk.{AdvancesByEach, AdvancesWithBound}
+use Rattle.sets.proofs.{SetLemmas.IsAscending-elements, AlgebraLemmas.IsAscending-merge_of_sets}
+use Rattle.bit_set.proofs.WalkLaws.{walked_out}
 use Rattle.bit_set.proofs.WalkLaws.{out}
 use Rattle.bit_set.proofs.laws.whole_walks_ascend.Goals as goal
 

@@ -1,5 +1,6 @@
 use Rattle.std.{proofs.Common.{◌≡◌, ℕ, List, ◌++◌}, specs.{Prelude.codes, List.flat_map, Fmt.{HasWritten, IsPlainFormatter}}}
-use Rattle.bit_set.specs.{RangeTexts.run_text, Runs.runs_of}
+use Rattle.sets.specs.Runs.{runs_of}
+use Rattle.bit_set.specs.RangeTexts.{run_text}
 use Rattle.bit_set.proofs.display.ranges.write_rest.Given as goal
 
 -- what is written and what is left, each run with its comma, are the text

@@ -1,7 +1,9 @@
 use Rattle.std.proofs.{Common.{◌∙◌, ap, length, not}}
-use Rattle.bit_set.proofs.{FusedLemmas.{elements-replaced, length-replaced, members-replaced}, MemberLemmas.counted_within}
+use Rattle.sets.proofs.MemberLemmas.{counted_within}
+use Rattle.bit_set.proofs.FusedLemmas.{elements-replaced, length-replaced, members-replaced}
 use Rattle.bit_set.proofs.ReportedLemmas.{reported_of_lengthened, reported_unchanged}
-use Rattle.bit_set.specs.{Changes.{Changes, Outcome.Returned}, Order.same_sets, Sets.elements}
+use Rattle.sets.specs.{Order.same_sets, Sets.elements}
+use Rattle.bit_set.specs.Changes.{Changes, Outcome.Returned}
 use Rattle.bit_set.proofs.set.BitSet.copy_difference.Goals as goal
 
 pub returns-clause-elements : goal.returns-clause-elements

@@ -1,7 +1,8 @@
 use Rattle.std.proofs.{Common.{◌≡◌, Bool, List, Err, length, ap, ◌∙◌}, lemmas.Result.err_from_is_err_and}
 use Rattle.serde_json.specs.View.{view}
 use Rattle.bit_blocks.specs.Bits.{Bits, blocks_of}
-use Rattle.bit_set.{specs.{Entries.numbers_of, Json.Spells, Sets.{elements, has}}, proofs.JsonLemmas.{fault_of_first, one_fault, one_list, spelt_has_no_fault}}
+use Rattle.sets.specs.Sets.{elements, has}
+use Rattle.bit_set.{specs.{Entries.numbers_of, Json.Spells}, proofs.JsonLemmas.{fault_of_first, one_fault, one_list, spelt_has_no_fault}}
 use Rattle.bit_set.proofs.set.BitSet.from_json.Goals as goal
 
 pub returns-in_err-entries-clause-err : goal.returns-in_err-entries-clause-err

@@ -1,5 +1,6 @@
 use Rattle.std.proofs.Common.{ap, ◌∙◌}
-use Rattle.bit_set.{specs.Sets.elements, proofs.ItemLemmas.elements-grown}
+use Rattle.sets.specs.Sets.{elements}
+use Rattle.bit_set.proofs.ItemLemmas.{elements-grown}
 use Rattle.bit_set.proofs.set.BitSet.grow_within.Goals as goal
 
 pub returns-clause-elements : goal.returns-clause-elements

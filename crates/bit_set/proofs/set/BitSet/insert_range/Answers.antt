@@ -1,6 +1,8 @@
 use Rattle.std.proofs.Common.{refl, true, ap, arith}
-use Rattle.bit_set.proofs.{ChangeLemmas.changes_filled, RangeLemmas.{count_inserted, inserted_range, members_changed, on_ok}, SetLemmas.IsAscending-elements}
-use Rattle.bit_set.specs.{Changes.Changes, Sets.elements}
+use Rattle.sets.proofs.{RangeLemmas.{count_inserted, inserted_range, members_changed, on_ok}, SetLemmas.IsAscending-elements}
+use Rattle.bit_set.proofs.ChangeLemmas.{changes_filled}
+use Rattle.sets.specs.Sets.{elements}
+use Rattle.bit_set.specs.Changes.{Changes}
 use Rattle.bit_set.proofs.set.BitSet.insert_range.Goals as goal
 
 -- ---- past the list

@@ -1,5 +1,6 @@
 use Rattle.std.{proofs.Common.{◌≡◌, ◌+◌, length}, specs.Option.option_map_or}
-use Rattle.bit_set.{specs.{RangeReading.items_left, Sets.elements}, proofs.RangeTextLemmas.Fills}
+use Rattle.sets.specs.Sets.{elements}
+use Rattle.bit_set.{specs.RangeReading.items_left, proofs.RangeTextLemmas.Fills}
 use Rattle.bit_set.proofs.set.BitSet.insert_ranges.Given as goal
 
 -- what was put in and what is left are the text

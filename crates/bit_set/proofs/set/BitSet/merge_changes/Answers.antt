@@ -1,6 +1,8 @@
 use Rattle.std.proofs.Common.{◌-◌, ◌∙◌, ap, length, not}
-use Rattle.bit_set.proofs.{AlgebraLemmas.{elements-lengthened, length-lengthened}, MemberLemmas.{counted_within, members_merged}, ReportedLemmas.{reported_of_lengthened, reported_unchanged}}
-use Rattle.bit_set.specs.{Changes.{Changes, Outcome.Returned}, Order.same_sets, Sets.elements}
+use Rattle.sets.proofs.{AlgebraLemmas.{elements-lengthened, length-lengthened}, MemberLemmas.{counted_within, members_merged}}
+use Rattle.bit_set.proofs.ReportedLemmas.{reported_of_lengthened, reported_unchanged}
+use Rattle.sets.specs.{Order.same_sets, Sets.elements}
+use Rattle.bit_set.specs.Changes.{Changes, Outcome.Returned}
 use Rattle.bit_set.proofs.set.BitSet.merge_changes.Goals as goal
 
 pub returns-clause-elements : goal.returns-clause-elements

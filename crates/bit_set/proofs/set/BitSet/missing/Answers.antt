@@ -1,6 +1,7 @@
 use Rattle.std.proofs.Common.{◌+◌, length, ap, ◌∙◌}
-use Rattle.bit_set.specs.{Ranges.those_in_range, Sets.{elements, has}}
-use Rattle.bit_set.proofs.{ChainLemmas.runs_past_members, MissingLemmas.has-missing, RangeLemmas.count_missing, SetLemmas.IsAscending-elements}
+use Rattle.sets.specs.{Ranges.those_in_range, Sets.{elements, has}}
+use Rattle.sets.proofs.{RangeLemmas.count_missing, SetLemmas.IsAscending-elements}
+use Rattle.bit_set.proofs.{ChainLemmas.runs_past_members, MissingLemmas.has-missing}
 use Rattle.bit_set.proofs.set.BitSet.missing.Goals as goal
 
 pub returns-clause-members : goal.returns-clause-members

@@ -1,4 +1,5 @@
-use Rattle.bit_set.proofs.EndLemmas.{changes_popped, count_popped_first, popped_first}
+use Rattle.bit_set.proofs.ChangeLemmas.{changes_popped}
+use Rattle.sets.proofs.EndLemmas.{count_popped_first, popped_first}
 use Rattle.bit_set.proofs.set.BitSet.pop_first.Goals as goal
 
 pub returns-clause-elements : goal.returns-clause-elements

@@ -1,6 +1,7 @@
 use Rattle.std.proofs.Common.{ap, ◌∙◌}
 use Rattle.bit_blocks.specs.Ranges.{in_range}
-use Rattle.bit_set.{specs.Sets.{elements, has}, proofs.{ChainLemmas.runs_of_walk, SetLemmas.has-filter}}
+use Rattle.sets.{specs.Sets.{elements, has}, proofs.SetLemmas.has-filter}
+use Rattle.bit_set.proofs.ChainLemmas.{runs_of_walk}
 use Rattle.bit_set.proofs.set.BitSet.range.Goals as goal
 
 pub returns-clause-members : goal.returns-clause-members

@@ -1,8 +1,9 @@
 use Rattle.std.proofs.Common.{ℕ, Bool, false, List, sym, ap, ap₂, ◌∙◌, arith}
 use Rattle.bit_blocks.specs.Bits.{Bits}
-use Rattle.bit_set.specs.{Sets.elements, Changes.{Changes, Outcome.Returned}}
-use Rattle.bit_set.proofs.{SetLemmas.{IsAscending-elements, elements-set_false, without_absent}, ValueLemmas.{has-past, has-read, written_again}}
-use Rattle.bit_set.proofs.MemberLemmas.{count_without, updates_without}
+use Rattle.sets.specs.Sets.{elements}
+use Rattle.bit_set.specs.Changes.{Changes, Outcome.Returned}
+use Rattle.sets.proofs.{SetLemmas.{IsAscending-elements, elements-set_false, without_absent}, ValueLemmas.{has-past, has-read, written_again}}
+use Rattle.sets.proofs.MemberLemmas.{count_without, updates_without}
 use Rattle.bit_set.proofs.set.BitSet.remove.Goals as goal
 
 pub returns-then-value-len-clause-returned : goal.returns-then-value-len-clause-returned

@@ -1,5 +1,6 @@
 use Rattle.std.proofs.Common.{◌≡◌, ℕ, ◌-◌, ◌*◌, ◌/◌, ◌^◌, ◌<◌, ◌≤◌, length}
-use Rattle.bit_set.specs.{Retained.HasTested, Sets.{elements, those_from}}
+use Rattle.sets.specs.Sets.{elements, those_from}
+use Rattle.bit_set.specs.Retained.{HasTested}
 use Rattle.bit_set.proofs.set.BitSet.retain.Given as goal
 
 -- the members below `from`, where a block begins, were tested

@@ -1,5 +1,6 @@
 use Rattle.std.{proofs.{Common.{◌-◌, ◌*◌, length, sym, ap, ◌∙◌}, lemmas.Result.IfOk-weaker}}
-use Rattle.bit_set.{specs.Sets.{elements, has}, proofs.{ByteLemmas.bits_of_bytes, SetLemmas.elements-padded}}
+use Rattle.sets.{specs.Sets.{elements, has}, proofs.SetLemmas.elements-padded}
+use Rattle.bit_set.proofs.ByteLemmas.{bits_of_bytes}
 use Rattle.bit_set.proofs.set.BitSet.to_bytes.Goals as goal
 
 pub returns-clause-elements : goal.returns-clause-elements

@@ -1,5 +1,6 @@
 use Rattle.std.proofs.Common.{sym, ◌∙◌, arith, rules}
-use Rattle.bit_set.proofs.{CapacityLemmas.Grows-there, ChangeLemmas.changes_toggled, ValueLemmas.has-within}
+use Rattle.sets.proofs.ValueLemmas.{has-within}
+use Rattle.bit_set.proofs.{CapacityLemmas.Grows-there, ChangeLemmas.changes_toggled}
 use Rattle.bit_set.proofs.set.BitSet.toggle.Goals as goal
 
 pub returns-then-remove-clause-length : goal.returns-then-remove-clause-length

@@ -1,4 +1,5 @@
-use Rattle.bit_set.{proofs.{ReportedLemmas.{reported_as, reported_more, union_kept, union_count}, SetLemmas.IsAscending-elements}, specs.Sets.{elements, is_subset, union}}
+use Rattle.sets.{proofs.SetLemmas.IsAscending-elements, specs.Sets.{elements, is_subset, union}}
+use Rattle.bit_set.proofs.ReportedLemmas.{reported_as, reported_more, union_kept, union_count}
 use Rattle.bit_set.proofs.set.BitSet.union_changes.Goals as goal
 
 pub returns-clause-were_in : goal.returns-clause-were_in

@@ -1,6 +1,7 @@
 use Rattle.std.proofs.Common.{◌≡◌, ◌∙◌, Bool, true, not, refl, sym, ap, arith}
 use Rattle.bit_blocks.{specs.{declared.block.merge.Merge.TheVariants.Symmetric, Merges.merge_of_values, Ranges.changed_in_range}, proofs.VectorLemmas.length_from_view}
-use Rattle.bit_words.proofs.{RangeLemmas.{changed-none, values_of-changed}, SameCapacity.same_capacity, SummarySpanLemmas.{end_in_blocks, span_packed}}
+use Rattle.bit_blocks.proofs.RangeLemmas.{changed-none, values_of-changed}
+use Rattle.bit_words.proofs.{SameCapacity.same_capacity, SummarySpanLemmas.{end_in_blocks, span_packed}}
 use Rattle.bit_words.proofs.StartLemmas.{false_before_none}
 use Rattle.bit_words.proofs.bit_vec.BitVec.negate_range.Goals as goal
 

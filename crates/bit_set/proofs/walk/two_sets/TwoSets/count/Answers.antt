@@ -1,5 +1,6 @@
 use Rattle.std.proofs.Common.{◌≡◌, ◌+◌, ◌<◌, ◌^◌, length, ap, arith}
-use Rattle.bit_set.{specs.Sets.elements, proofs.{IndexLemmas.length-indexes, walk.two_sets.TwoSets.count.Goals.After-count_ones}}
+use Rattle.sets.specs.Sets.{elements}
+use Rattle.bit_set.proofs.{IndexLemmas.length-indexes, walk.two_sets.TwoSets.count.Goals.After-count_ones}
 use Rattle.bit_set.proofs.walk.two_sets.TwoSets.count.Goals as goal
 
 -- the ones of the block in hand and those ahead are all, and can be counted

@@ -1,5 +1,0 @@
-use Rattle.bit_set.proofs.RangeLemmas.{toggled_twice}
-use Rattle.bit_set.proofs.laws.numbers_of_ranges.Goals as goal
-
-pub returns-clause-twice : goal.returns-clause-twice
-returns-clause-twice c = toggled_twice

@@ -1,0 +1,11 @@
+pub mod Sets
+pub mod Members
+pub mod Ranges
+pub mod Choices
+pub mod Order
+pub mod Texts
+pub mod Runs
+pub mod Moved
+pub mod Gaps
+pub mod Mismatches
+pub use Rattle.bit_blocks.specs.Bounds
