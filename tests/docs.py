@@ -16,7 +16,8 @@
 - Each link of a document leads to a file, and to a heading where it names one.
 - Each file of definitions or of lemmas that a README.md or a CALLING.md of a crate names is in the crate that it is said to
   be of, or else in that crate or in one that the same sentence names.
-- Each name in docs/PROVING.md, of a function, a law, a lemma or a clause, is a word of some source or proof.
+- Each name in docs/PROVING.md, of a function, a law, a lemma or a clause, is a word of some source or proof, or of a caller in
+  tests/callers. Each in the README.md of `uses` is too, or it is a folder there.
 
 It prints a line for each quote that does not agree, and at the end 'N passed, M failed'.
 """
@@ -273,8 +274,10 @@ def check_all_calls(check, root, document):
 
 def check_names(check, root, document):
     """The names that a document has by themselves between backticks."""
-    words = set()
-    for source in [*root.glob("crates/*/src/**/*.rt"), *root.glob("crates/*/proofs/**/*.antt"), *root.glob("crates/*/specs/**/*.antt")]:
+    callers = root / "tests" / "callers"
+    words = {it.name for it in [*callers.iterdir(), *(root / "crates").iterdir()]}
+    kinds = ("crates/*/src/**/*.rt", "crates/*/proofs/**/*.antt", "crates/*/specs/**/*.antt", "tests/callers/*/*.txt")
+    for source in [path for kind in kinds for path in root.glob(kind)]:
         words.update(re.findall(r"[\w-]+", source.read_text(encoding="utf-8")))
     parts = f" {' '.join(words)} "
     for number, line in enumerate(document.read_text(encoding="utf-8").splitlines(), 1):
@@ -339,6 +342,7 @@ def main():
         if source.relative_to(root).parts[1] in WITH_EXAMPLES and source.stem != "laws":
             check_each_has_example(check, root, source)
     check_names(check, root, root / "docs/PROVING.md")
+    check_names(check, root, root / "crates/uses/README.md")
     check_tables(check, root)
     check_calls(check, root)
     print(f"{check.passed} passed, {check.failed} failed")

@@ -1,7 +1,7 @@
 #!/usr/bin/env bash
-# Tries the scripts `bitset`, `look`, `add`, `gate` and `c/build` in small repositories, with stand-ins for the toolchain's
-# commands that prove nothing: what is built when, what stays of runs that are ended, and what is said. Then what those find
-# who build over the packages and the headers of a release.
+# Tries the scripts `bitset`, `look`, `add`, `gate`, `c/build` and `tests/callers.sh` in small repositories, with stand-ins for
+# the toolchain's commands that prove nothing: what is built when, what stays of runs that are ended, and what is said. Then
+# what those find who build over the packages and the headers of a release.
 #   tests/scripts.sh           all of that
 #   tests/scripts.sh --real    instead `./bitset` with the real toolchain and a comment that changes, over the libraries
 #                              as `rt ci` has just proved them here
@@ -132,7 +132,7 @@ ended_by_signal() {
         . "$here/scripts/real.sh"
     else
         set_up_toolchain
-        for part in bitset waiting signals usage packages; do
+        for part in bitset waiting signals usage callers packages; do
             # shellcheck source=/dev/null
             . "$here/scripts/$part.sh"
         done

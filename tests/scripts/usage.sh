@@ -60,7 +60,7 @@ for words in '' roaring; do
 done
 
 # Names of nothing, files that are not there, and a locale of another encoding.
-for words in edits.sh 'all_edits.sh bit_set/none' 'cost.sh none' 'add.sh --wrong' 'c.sh --wrong' 'c.sh a b'; do
+for words in edits.sh 'all_edits.sh bit_set/none' 'callers.sh none/none' 'cost.sh none' 'add.sh --wrong' 'c.sh --wrong' 'c.sh a b'; do
     ended=0
     # shellcheck disable=SC2086  # each word is one
     PYTHONSAFEPATH=1 "$top/tests/"$words > "$room/wrote" 2> "$room/said" < /dev/null || ended=$?

@@ -1,29 +1,57 @@
-//! Numbers that are handed out and given back.
-ghost use Rattle.std.specs.Prelude.{◌≡◌, ◌≢◌, ℕ, ◌<◌, ◌==◌, ◌||◌, false, IfNone, IfOk, IfSome, IsTrue};
+//! Numbers that are handed out.
+ghost use Rattle.std.specs.Prelude.{◌≡◌, ℕ, ◌+◌, ◌<◌, ◌≤◌, ◌&&◌, ◌||◌, false, nat_le, nat_lt, true, IfNone, IfOk, IfSome, IsOk, IsTrue, MatchOption, OnErr};
+ghost use Rattle.bit_set.specs.Gaps.{HasAmong, IsFirstGap};
+ghost use Rattle.bit_set.specs.Members.{Updates};
 ghost use Rattle.bit_set.specs.Sets.{elements, has};
 
 use bit_set::{BitBlock, BitSet, SetError};
 
-/// Takes the least free number below `limit`.
-pub fn take_free<B: BitBlock>(used: &mut BitSet<B>, limit: usize) -> Result<Option<usize>, SetError>
-    ensures some { IfOk result (λ found. IfSome found (λ x. (x < limit) × (has (elements used.old.values) x ≡ false)
-        × ((y : ℕ) → y < x → IsTrue (has (elements used.old.values) y))
-        × ((y : ℕ) → has (elements used.new.values) y ≡ (x == y || has (elements used.old.values) y)))) }
-    ensures none { IfOk result (λ found. IfNone found ((y : ℕ) → y < limit → IsTrue (has (elements used.old.values) y))) }
+/// Takes the lowest free number below `limit` into use and gives it, or None where all of them are in use.
+/// On an error nothing changed; a capacity of `limit` rules errors out.
+pub fn take_lowest<B: BitBlock>(
+    used: &mut BitSet<B>,
+    limit: usize,
+) -> Result<Option<usize>, SetError>
+    ensures lowest { IfOk result (λ taken. MatchOption taken
+        ((x : ℕ) → x < limit → IsTrue (has (elements used.old.values) x))
+        (λ id. (id < limit) × (has (elements used.old.values) id ≡ false)
+        × ((x : ℕ) → x < id → IsTrue (has (elements used.old.values) x)))) }
+    ensures marked { IfOk result (λ taken. MatchOption taken
+        (elements used.new.values ≡ elements used.old.values)
+        (λ id. Updates (elements used.old.values) (elements used.new.values) id true)) }
+    ensures unchanged { OnErr result (elements used.new.values ≡ elements used.old.values) }
+    ensures succeeds { limit ≤ used.old.capacity → IsOk result }
 {
-    let free = used.next_missing(0);
-    if free >= limit {
+    let id = used.next_missing(0);
+    if id >= limit {
         return Ok(None);
     }
-    used.insert(free)?;
-    Ok(Some(free))
+    used.insert(id)?;
+    Ok(Some(id))
 }
 
-/// Gives a number back; whether it was taken.
-pub fn give_back<B: BitBlock>(used: &mut BitSet<B>, slot: usize) -> bool
-    ensures was { result ≡ has (elements used.old.values) slot }
-    ensures free { has (elements used.new.values) slot ≡ false }
-    ensures others { (y : ℕ) → y ≢ slot → has (elements used.new.values) y ≡ has (elements used.old.values) y }
+/// Claims the first `count` free pages in a row that end by `limit`, and gives the first of them; None where there are no
+/// such pages. Where it claims none, the pages stay as they were.
+pub fn claim_run<B: BitBlock>(
+    used: &mut BitSet<B>,
+    count: usize,
+    limit: usize,
+) -> Result<Option<usize>, SetError>
+    ensures first { IfOk result (λ found. IfSome found (λ at. IsFirstGap (elements used.old.values) 0 count at)) }
+    ensures within { IfOk result (λ found. IfSome found (λ at. at + count ≤ limit)) }
+    ensures claimed { IfOk result (λ found. IfSome found (λ at. (x : ℕ) → has (elements used.new.values) x
+        ≡ ((nat_le at x && nat_lt x (at + count)) || has (elements used.old.values) x))) }
+    ensures none { IfOk result (λ found. IfNone found
+        ((at : ℕ) → at + count ≤ limit → HasAmong (elements used.old.values) count at)) }
+    ensures unchanged { IfOk result (λ found. IfNone found (elements used.new.values ≡ elements used.old.values)) }
+    ensures err { OnErr result (elements used.new.values ≡ elements used.old.values) }
+    ensures succeeds { limit ≤ used.old.capacity → IsOk result }
 {
-    used.remove(slot)
+    match used.first_gap(0, count) {
+        Some(at) if at + count <= limit => {
+            used.insert_range(at..at + count)?;
+            Ok(Some(at))
+        }
+        _ => Ok(None),
+    }
 }

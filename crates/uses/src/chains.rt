@@ -1,8 +1,8 @@
 //! Walks over sets in chains.
-ghost use Rattle.std.specs.Prelude.{◌≡◌, ℕ, ◌/◌, ◌%◌, ◌==◌, ◌↔◌, false, filter, map, nat_le, nat_lt, position, take, Any, IfOk, IsTrue, MatchOption, None, OnOk};
-ghost use Rattle.std.specs.List.{last_or, list_all, list_any};
-ghost use Rattle.bit_set.specs.Choices.{IsGreatest, IsLeast, IsLeastPassing};
-ghost use Rattle.bit_set.specs.Members.{HasNone, IsIntersection, IsSameSet, IsUnion};
+ghost use Rattle.std.specs.Prelude.{◌≡◌, ℕ, ◌/◌, ◌%◌, ◌≤◌, ◌==◌, false, filter, map, nat_le, nat_lt, position, take, IfNone, IfOk, IfSome, IsTrue, MatchOption, OnOk};
+ghost use Rattle.std.specs.List.{list_all, list_any};
+ghost use Rattle.bit_set.specs.Choices.{IsGreatest, IsLeastPassing};
+ghost use Rattle.bit_set.specs.Members.{HasNone, IsSameSet, IsSubset, IsUnion};
 ghost use Rattle.bit_set.specs.Order.{same_sets};
 ghost use Rattle.bit_set.specs.Sets.{elements, has, union};
 
@@ -28,16 +28,6 @@ pub fn put_row<B: BitBlock>(set: &mut BitSet<B>, row: &[usize]) -> Result<(), Se
     ensures { OnOk result (IsUnion (elements set.old.values) row.now (elements set.new.values)) }
 {
     set.extend(row.iter().copied())
-}
-
-/// Puts the members of another set in, which may have another block type.
-pub fn put_members<A: BitBlock, B: BitBlock>(
-    set: &mut BitSet<A>,
-    other: &BitSet<B>,
-) -> Result<(), SetError>
-    ensures { OnOk result (IsUnion (elements set.old.values) (elements other.now.values) (elements set.new.values)) }
-{
-    set.extend(other.iter())
 }
 
 /// A copy over another block type.
@@ -68,45 +58,12 @@ pub fn ten_least<B: BitBlock>(alloc: Global, set: &BitSet<B>) -> Result<BitSet<B
     BitSet::from_iter(alloc, set.iter().take(10))
 }
 
-/// What both sets have, as a new one.
-pub fn common<B: BitBlock>(
-    alloc: Global,
-    a: &BitSet<B>,
-    b: &BitSet<B>,
-) -> Result<BitSet<B>, SetError>
-    ensures { IfOk result (λ set.
-        IsIntersection (elements a.now.values) (elements b.now.values) (elements set.values)) }
-{
-    BitSet::from_iter(alloc, a.intersection(b))
-}
-
-/// The greatest member.
-pub fn greatest<B: BitBlock>(set: &BitSet<B>) -> Option<usize>
-    ensures { MatchOption result (HasNone (elements set.now.values)) (IsGreatest (elements set.now.values)) }
-{
-    set.iter().max()
-}
-
 /// The greatest odd member.
 pub fn greatest_odd<B: BitBlock>(set: &BitSet<B>) -> Option<usize>
     ensures { MatchOption result (HasNone (filter (λ x. x % 2 == 1) (elements set.now.values)))
         (IsGreatest (filter (λ x. x % 2 == 1) (elements set.now.values))) }
 {
     set.iter().filter(|x| *x % 2 == 1).max()
-}
-
-/// The least member.
-pub fn least<B: BitBlock>(set: &BitSet<B>) -> Option<usize>
-    ensures { MatchOption result (HasNone (elements set.now.values)) (IsLeast (elements set.now.values)) }
-{
-    set.iter().min()
-}
-
-/// The last member, which is the greatest.
-pub fn last<B: BitBlock>(set: &BitSet<B>) -> Option<usize>
-    ensures { result ≡ last_or None (elements set.now.values) }
-{
-    set.iter().last()
 }
 
 /// At which place among the members, in ascending order, a number is.
@@ -132,10 +89,12 @@ pub fn is_union<B: BitBlock>(a: &BitSet<B>, b: &BitSet<B>, whole: &BitSet<B>) ->
     a.union(b).eq(whole.iter())
 }
 
-/// Whether a row has a set of these members.
-pub fn has_set<B: BitBlock>(sets: &[BitSet<B>], set: &BitSet<B>) -> bool
-    ensures { IsTrue result
-        ↔ Any (λ one. IsSameSet (elements one.values) (elements set.now.values)) sets.now }
+/// The least of a that is not in b.
+pub fn first_without<B: BitBlock>(a: &BitSet<B>, b: &BitSet<B>) -> Option<usize>
+    ensures some { IfSome result (λ x. IsTrue (has (elements a.now.values) x)
+        × (has (elements b.now.values) x ≡ false)
+        × ((y : ℕ) → IsTrue (has (elements a.now.values) y) → has (elements b.now.values) y ≡ false → x ≤ y)) }
+    ensures none { IfNone result (IsSubset (elements a.now.values) (elements b.now.values)) }
 {
-    sets.iter().any(|one| *one == *set)
+    a.difference(b).next()
 }

@@ -1,9 +1,9 @@
 //! What is not in a set.
-ghost use Rattle.std.specs.Prelude.{◌≡◌, ℕ, ◌<◌, ◌≤◌, ◌&&◌, false, nat_lt, not, IfNone, IfOk, IfSome, IsTrue, OnOk};
-ghost use Rattle.bit_set.specs.Sets.{elements, has};
+ghost use Rattle.std.specs.Prelude.{◌≡◌, ℕ, ◌+◌, ◌&&◌, length, nat_le, nat_lt, not, IfOk};
+ghost use Rattle.bit_set.specs.Sets.{elements, has, those_below, IsAscending};
 
 use bit_set::{BitBlock, BitSet, SetError};
-use std::alloc::Global;
+use std::alloc::{AllocError, Global};
 
 /// What is below `n` and not in the set.
 pub fn complement_below<B: BitBlock>(
@@ -20,30 +20,39 @@ pub fn complement_below<B: BitBlock>(
     Ok(rest)
 }
 
-/// The same by the walk over what is missing.
-pub fn missing_below<B: BitBlock>(
+/// The pupils below `size` that are not present.
+pub fn absent<B: BitBlock>(
     alloc: Global,
-    set: &BitSet<B>,
-    n: usize,
+    present: &BitSet<B>,
+    size: usize,
 ) -> Result<BitSet<B>, SetError>
-    ensures { IfOk result (λ rest. (x : ℕ) → has (elements rest.values) x
-        ≡ (nat_lt x n && not (has (elements set.now.values) x))) }
+    ensures members { IfOk result (λ set. (x : ℕ) → has (elements set.values) x
+        ≡ (nat_lt x size && not (has (elements present.now.values) x))) }
+    ensures count { IfOk result (λ set. length (elements set.values)
+        + length (those_below (elements present.now.values) size) ≡ size) }
 {
-    BitSet::from_iter(alloc, set.missing(0..n))
+    let mut set = present.clone(alloc)?;
+    set.truncate(size);
+    set.toggle_range(0..size)?;
+    Ok(set)
 }
 
-/// The first that is missing in a range.
-pub fn first_missing_in<B: BitBlock>(set: &BitSet<B>, low: usize, high: usize) -> Option<usize>
-    ensures some { IfSome result (λ x. (low ≤ x) × (x < high) × (has (elements set.now.values) x ≡ false)
-        × ((y : ℕ) → low ≤ y → y < x → IsTrue (has (elements set.now.values) y))) }
-    ensures none { IfNone result ((y : ℕ) → low ≤ y → y < high → IsTrue (has (elements set.now.values) y)) }
+/// The ports from `low` on and below `high` that are not in use, in ascending order.
+pub fn free_ports<B: BitBlock>(
+    alloc: Global,
+    used: &BitSet<B>,
+    low: usize,
+    high: usize,
+) -> Result<Vec<usize>, AllocError>
+    ensures members { IfOk result (λ ports. (x : ℕ) → has ports.items x
+        ≡ (nat_le low x && nat_lt x high && not (has (elements used.now.values) x))) }
+    ensures ascends { IfOk result (λ ports. IsAscending ports.items) }
 {
-    set.missing(low..high).next()
-}
-
-/// Makes the set its complement below `n`.
-pub fn flip_below<B: BitBlock>(set: &mut BitSet<B>, n: usize) -> Result<(), SetError>
-    ensures { OnOk result ((x : ℕ) → x < n → has (elements set.new.values) x ≡ not (has (elements set.old.values) x)) }
-{
-    set.toggle_range(0..n)
+    let mut ports = Vec::new(alloc);
+    for port in low..high {
+        if !used.contains(port) {
+            ports.push(port)?;
+        }
+    }
+    Ok(ports)
 }

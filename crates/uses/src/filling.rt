@@ -1,5 +1,5 @@
 //! Sets that are filled, and out of which numbers are taken.
-ghost use Rattle.std.specs.Prelude.{◌≡◌, ℕ, ◌+◌, ◌*◌, ◌<◌, ◌%◌, ◌==◌, ◌&&◌, ◌||◌, nat_le, nat_lt, not, IfOk};
+ghost use Rattle.std.specs.Prelude.{◌≡◌, ℕ, ◌+◌, ◌%◌, ◌<◌, ◌≤◌, ◌==◌, ◌&&◌, ◌||◌, nat_le, nat_lt, not, IfOk};
 ghost use Rattle.std.specs.List.{list_any};
 ghost use Rattle.bit_set.specs.Sets.{elements, has};
 
@@ -22,18 +22,6 @@ pub fn with_hole<B: BitBlock>(
     Ok(set)
 }
 
-/// The multiples of three below `3 * n`.
-pub fn threes<B: BitBlock>(alloc: Global, n: usize) -> Result<BitSet<B>, SetError>
-    requires { n < 1000 }
-    ensures { IfOk result (λ set. (x : ℕ) → has (elements set.values) x ≡ (x % 3 == 0 && nat_lt x (3 * n))) }
-{
-    let mut set = BitSet::new_general(alloc);
-    for k in 0..n {
-        set.insert(3 * k)?;
-    }
-    Ok(set)
-}
-
 /// Takes out each number of another set, and the one after it.
 pub fn remove_pairs<B: BitBlock>(set: &mut BitSet<B>, firsts: &BitSet<B>)
     ensures { (x : ℕ) → has (elements set.new.values) x ≡ (has (elements set.old.values) x
@@ -42,5 +30,20 @@ pub fn remove_pairs<B: BitBlock>(set: &mut BitSet<B>, firsts: &BitSet<B>)
     for first in firsts {
         set.remove(first);
         set.remove(first + 1);
+    }
+}
+
+/// Takes the multiples of `step` below `end` out.
+#[tactic(auto, using(bit_set::proofs::CallerLemmas::steps))]
+pub fn remove_multiples<B: BitBlock>(set: &mut BitSet<B>, step: usize, end: usize)
+    requires step { 0 < step }
+    requires fits { end + step ≤ usize.MAX }
+    ensures { (x : ℕ) → has (elements set.new.values) x
+        ≡ (has (elements set.old.values) x && not (nat_lt x end && x % step == 0)) }
+{
+    let mut multiple = 0;
+    while multiple < end {
+        set.remove(multiple);
+        multiple += step;
     }
 }

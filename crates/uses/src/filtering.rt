@@ -1,16 +1,8 @@
 //! Members that pass a test.
-ghost use Rattle.std.specs.Prelude.{◌≡◌, ℕ, ◌%◌, ◌==◌, ◌&&◌, ◌||◌, nat_lt, not, IfOk, OnOk};
+ghost use Rattle.std.specs.Prelude.{◌≡◌, ℕ, ◌%◌, ◌==◌, ◌&&◌, ◌||◌, not, OnOk};
 ghost use Rattle.bit_set.specs.Sets.{elements, has};
 
 use bit_set::{BitBlock, BitSet, SetError};
-use std::alloc::Global;
-
-/// Keeps the even members.
-pub fn keep_even<B: BitBlock>(set: &mut BitSet<B>)
-    ensures { (x : ℕ) → has (elements set.new.values) x ≡ (has (elements set.old.values) x && x % 2 == 0) }
-{
-    set.retain(|x| x % 2 == 0);
-}
 
 /// Keeps what the other has too.
 pub fn keep_common<A: BitBlock, B: BitBlock>(set: &mut BitSet<A>, other: &BitSet<B>)
@@ -18,17 +10,6 @@ pub fn keep_common<A: BitBlock, B: BitBlock>(set: &mut BitSet<A>, other: &BitSet
         ≡ (has (elements set.old.values) x && has (elements other.now.values) x) }
 {
     set.retain(|x| other.contains(x));
-}
-
-/// A new set of the members below `n`.
-pub fn low_part<B: BitBlock>(
-    alloc: Global,
-    set: &BitSet<B>,
-    n: usize,
-) -> Result<BitSet<B>, SetError>
-    ensures { IfOk result (λ low. (x : ℕ) → has (elements low.values) x ≡ (has (elements set.now.values) x && nat_lt x n)) }
-{
-    BitSet::from_iter(alloc, set.iter().filter(|x| *x < n))
 }
 
 /// Parts the members by a test.

@@ -1,17 +1,10 @@
 //! Members from the greatest on.
-ghost use Rattle.std.specs.Prelude.{◌≡◌, ℕ, ◌≤◌, false, reverse, take, IfNone, IfOk, IfSome, IsTrue};
+ghost use Rattle.std.specs.Prelude.{◌≡◌, ℕ, ◌<◌, ◌≤◌, false, length, min, reverse, take, IfOk, IsTrue, MatchOption};
 ghost use Rattle.bit_set.specs.Members.{IsSubset};
 ghost use Rattle.bit_set.specs.Sets.{elements, has};
 
 use bit_set::{BitBlock, BitSet};
 use std::alloc::{AllocError, Global};
-
-/// The members from the back.
-pub fn descending<B: BitBlock>(alloc: Global, set: &BitSet<B>) -> Result<Vec<usize>, AllocError>
-    ensures { IfOk result (λ list. list.items ≡ reverse (elements set.now.values)) }
-{
-    set.iter().rev().collect(alloc)
-}
 
 /// The k greatest, the greatest first.
 pub fn greatest_k<B: BitBlock>(
@@ -24,17 +17,29 @@ pub fn greatest_k<B: BitBlock>(
     set.iter().rev().take(k).collect(alloc)
 }
 
-/// The greatest member below `n` that the other lacks.
-pub fn last_without<A: BitBlock, B: BitBlock>(a: &BitSet<A>, b: &BitSet<B>) -> Option<usize>
-    ensures none { IfNone result (IsSubset (elements a.now.values) (elements b.now.values)) }
-    ensures some { IfSome result (λ x. IsTrue (has (elements a.now.values) x) × (has (elements b.now.values) x ≡ false)
-        × ((y : ℕ) → IsTrue (has (elements a.now.values) y) → has (elements b.now.values) y ≡ false → y ≤ x)) }
+/// The greatest member below `n`, or None where no member is below it.
+pub fn last_below<B: BitBlock>(set: &BitSet<B>, n: usize) -> Option<usize>
+    ensures { MatchOption result
+        ((x : ℕ) → IsTrue (has (elements set.now.values) x) → n ≤ x)
+        (λ m. IsTrue (has (elements set.now.values) m) × (m < n)
+        × ((x : ℕ) → IsTrue (has (elements set.now.values) x) → x < n → x ≤ m)) }
 {
-    let mut walk = a.iter();
-    while let Some(member) = walk.next_back() {
-        if !b.contains(member) {
+    for member in set.iter().rev() {
+        if member < n {
             return Some(member);
         }
     }
     None
+}
+
+/// Takes the greatest member out, again and again, until no more than `most` are left.
+pub fn keep_least<B: BitBlock>(set: &mut BitSet<B>, most: usize)
+    ensures count { length (elements set.new.values) ≡ min most (length (elements set.old.values)) }
+    ensures kept { IsSubset (elements set.new.values) (elements set.old.values) }
+    ensures least { (x y : ℕ) → IsTrue (has (elements set.new.values) x)
+        → IsTrue (has (elements set.old.values) y) → has (elements set.new.values) y ≡ false → x < y }
+{
+    while set.count() > most {
+        set.pop_last();
+    }
 }

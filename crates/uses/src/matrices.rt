@@ -1,8 +1,13 @@
-//! A use of `bit_matrix`: a loop over the rows of a matrix.
-ghost use Rattle.std.specs.Prelude.{◌≡◌, ℕ, ◌<◌, ◌==◌, ◌&&◌, not, length};
-ghost use Rattle.bit_matrix.specs.Matrices.{has_at};
+//! Matrices as relations: where column b of row a is in, a leads to b.
+ghost use Rattle.std.specs.Prelude.{◌≡◌, ℕ, ◌<◌, ◌==◌, ◌&&◌, ◌↔◌, length, not, IfOk, IsTrue};
+ghost use Rattle.std.specs.List.{list_any};
+ghost use Rattle.bit_set.specs.Order.{same_sets};
+ghost use Rattle.bit_set.specs.Sets.{elements, has};
+ghost use Rattle.bit_matrix.specs.Matrices.{has_at, row_of};
 
 use bit_matrix::{BitBlock, BitMatrix};
+use bit_set::BitSet;
+use std::alloc::{AllocError, Global};
 
 /// Takes the column out of each row.
 pub fn remove_column<B: BitBlock>(matrix: &mut BitMatrix<B>, column: usize)
@@ -15,4 +20,46 @@ pub fn remove_column<B: BitBlock>(matrix: &mut BitMatrix<B>, column: usize)
     for row in 0..matrix.rows() {
         matrix.remove(row, column);
     }
+}
+
+/// Whether a row is a set.
+pub fn row_is<B: BitBlock>(matrix: &BitMatrix<B>, row: usize, set: &BitSet<B>) -> bool
+    requires { row < length matrix.now.rows }
+    ensures { result ≡ same_sets (row_of matrix.now row) (elements set.now.values) }
+{
+    matrix.iter(row).eq(set.iter())
+}
+
+/// Whether the relation is symmetric.
+pub fn is_symmetric<B: BitBlock>(matrix: &BitMatrix<B>) -> bool
+    requires { matrix.now.columns ≡ length matrix.now.rows }
+    ensures { IsTrue result ↔ ((r c : ℕ) → has_at matrix.now r c ≡ has_at matrix.now c r) }
+{
+    for r in 0..matrix.rows() {
+        for c in matrix.iter(r) {
+            if !matrix.contains(c, r) {
+                return false;
+            }
+        }
+    }
+    true
+}
+
+/// What some member of `from` is related to.
+pub fn image<B: BitBlock>(
+    alloc: Global,
+    matrix: &BitMatrix<B>,
+    from: &BitSet<B>,
+) -> Result<BitSet<B>, AllocError>
+    ensures { IfOk result (λ to. (c : ℕ) → has (elements to.values) c
+        ≡ list_any (λ r. has_at matrix.now r c) (elements from.now.values)) }
+{
+    let mut to = BitSet::new_general(alloc);
+    for r in from {
+        if r < matrix.rows() {
+            let row = matrix.row_to_set(alloc, r)?;
+            to.union_with(&row)?;
+        }
+    }
+    Ok(to)
 }

@@ -1,6 +1,7 @@
-//! Sets that are written and read again.
-ghost use Rattle.std.specs.{Prelude.{◌≡◌, ℕ, ◌-◌, ◌/◌, ◌%◌, ◌==◌, ◌||◌, IfOk, slice_index}, Int.bit_at};
-ghost use Rattle.bit_set.specs.Members.{IsSameSet};
+//! Sets that are read and written.
+ghost use Rattle.std.specs.Prelude.{◌≡◌, ℕ, ◌-◌, ◌/◌, ◌%◌, ◌==◌, ◌||◌, slice_index, IfOk, OnErr, OnOk};
+ghost use Rattle.std.specs.Int.{bit_at};
+ghost use Rattle.bit_set.specs.Members.{IsSameSet, IsUnion};
 ghost use Rattle.bit_set.specs.Sets.{elements, has};
 
 use bit_set::{BitBlock, BitSet, SetError};
@@ -25,4 +26,23 @@ pub fn bytes_with<B: BitBlock>(
 {
     set.insert(number)?;
     Ok(set.to_bytes(alloc)?)
+}
+
+/// Puts all of the numbers in, or none.
+pub fn insert_all<B: BitBlock>(set: &mut BitSet<B>, items: &[usize]) -> Result<(), SetError>
+    ensures ok { OnOk result (IsUnion (elements set.old.values) items.now (elements set.new.values)) }
+    ensures err { OnErr result (elements set.new.values ≡ elements set.old.values) }
+{
+    let mut len: usize = 0;
+    for item in items {
+        if *item == usize::MAX {
+            return Err(SetError::Element);
+        }
+        len = len.max(*item + 1);
+    }
+    set.reserve_len(len)?;
+    for item in items {
+        set.insert(*item)?;
+    }
+    Ok(())
 }

@@ -1,31 +1,34 @@
 //! Members by how many are below them.
-ghost use Rattle.std.specs.Prelude.{◌≡◌, ◌≤◌, ◌/◌, IfNone, IfSome, IsTrue, length};
+ghost use Rattle.std.specs.Prelude.{◌≡◌, ◌-◌, ◌/◌, ◌<◌, false, length, IfSome, MatchOption};
+ghost use Rattle.bit_set.specs.Choices.{IsSelected};
 ghost use Rattle.bit_set.specs.Members.{HasNone};
-ghost use Rattle.bit_set.specs.Sets.{elements, has, those_below};
+ghost use Rattle.bit_set.specs.Sets.{elements, has};
 
-use bit_set::{BitBlock, BitSet};
+use bit_set::{BitBlock, BitSet, laws};
 
-/// The member with `k` members below it.
-pub fn kth<B: BitBlock>(set: &BitSet<B>, k: usize) -> Option<usize>
-    ensures some { IfSome result (λ x. IsTrue (has (elements set.now.values) x)
-        × (length (those_below (elements set.now.values) x) ≡ k)) }
-    ensures none { IfNone result (length (elements set.now.values) ≤ k) }
+/// How many tickets are called before this one, or `None` where it does not wait.
+pub fn place_in_queue<B: BitBlock>(waiting: &BitSet<B>, ticket: usize) -> Option<usize>
+    ensures place { MatchOption result (has (elements waiting.now.values) ticket ≡ false)
+        (λ place. IsSelected (elements waiting.now.values) place ticket) }
+    ensures within { IfSome result (λ place. place < length (elements waiting.now.values)) }
 {
-    set.iter().nth(k)
+    if !waiting.contains(ticket) {
+        return None;
+    }
+    laws::ranks_of_members();
+    let before = waiting.count_in_range(0..ticket);
+    Some(before)
 }
 
-/// The member in the middle.
+/// The median, the lower one of two.
 pub fn median<B: BitBlock>(set: &BitSet<B>) -> Option<usize>
-    ensures none { IfNone result (HasNone (elements set.now.values)) }
-    ensures some { IfSome result (λ x. IsTrue (has (elements set.now.values) x)
-        × (length (those_below (elements set.now.values) x) ≡ length (elements set.now.values) / 2)) }
+    ensures { MatchOption result (HasNone (elements set.now.values))
+        (IsSelected (elements set.now.values) ((length (elements set.now.values) - 1) / 2)) }
 {
-    set.iter().nth(set.count() / 2)
-}
-
-/// How many members are below `x`.
-pub fn rank<B: BitBlock>(set: &BitSet<B>, x: usize) -> usize
-    ensures { result ≡ length (those_below (elements set.now.values) x) }
-{
-    set.count_in_range(0..x)
+    let count = set.count();
+    if count == 0 {
+        return None;
+    }
+    let mut walk = set.iter();
+    walk.nth((count - 1) / 2)
 }

@@ -1,12 +1,12 @@
 //! The walks in chains.
-use crate::expect::{expect_eq, ok};
+use crate::expect::{expect, expect_eq, ok};
 use crate::sets::{has_members, set_of};
 use bit_set::BitSet;
 use std::alloc::Global;
 use std::process::Abort;
 use uses::chains::{
-    all_below, any_from, common, copy_over, first_from, greatest_odd, halves, last, least,
-    place_of, put_members, put_row, ten_least,
+    all_below, any_from, copy_over, first_from, first_without, greatest_odd, halves, is_union,
+    place_of, put_row, ten_least,
 };
 
 // A bound, whether 3 and 70 are both below it, and the least of them that is not.
@@ -30,20 +30,12 @@ fn members_are_searched(rt: HostRuntime) {
 fn members_are_put_in(rt: HostRuntime) {
     let mut set = set_of::<u8>(&rt, rt.alloc(), &[2]);
     ok(&rt, put_row(&mut set, &[70, 3, 9, 3]));
-    ok(
-        &rt,
-        put_members(&mut set, &set_of::<u64>(&rt, rt.alloc(), &[0, 2])),
-    );
-    has_members(&rt, &set, &[0, 2, 3, 9, 70]);
+    has_members(&rt, &set, &[2, 3, 9, 70]);
 }
 
 // What the calls make. A function without a clause keeps what they ensure from the test.
 fn copied(rt: &impl Abort, alloc: Global, set: &BitSet<u128>) -> BitSet<u8> {
     ok(rt, copy_over(alloc, set))
-}
-
-fn in_both(rt: &impl Abort, alloc: Global, a: &BitSet<u128>, b: &BitSet<u128>) -> BitSet<u128> {
-    ok(rt, common(alloc, a, b))
 }
 
 fn halved(rt: &impl Abort, alloc: Global, set: &BitSet<u128>) -> BitSet<u8> {
@@ -52,11 +44,9 @@ fn halved(rt: &impl Abort, alloc: Global, set: &BitSet<u128>) -> BitSet<u8> {
 
 #[test]
 fn sets_are_made_by_chains(rt: HostRuntime) {
-    let a = set_of(&rt, rt.alloc(), &[0, 2, 300]);
-    has_members(&rt, &copied(&rt, rt.alloc(), &a), &[0, 2, 300]);
-    let b = set_of(&rt, rt.alloc(), &[2, 3, 300]);
-    has_members(&rt, &in_both(&rt, rt.alloc(), &a, &b), &[2, 300]);
-    has_members(&rt, &halved(&rt, rt.alloc(), &b), &[1, 150]);
+    let set = set_of(&rt, rt.alloc(), &[2, 3, 300]);
+    has_members(&rt, &copied(&rt, rt.alloc(), &set), &[2, 3, 300]);
+    has_members(&rt, &halved(&rt, rt.alloc(), &set), &[1, 150]);
 }
 
 // Eleven members.
@@ -78,7 +68,16 @@ fn odd_members_have_a_greatest(rt: HostRuntime) {
 #[test]
 fn members_have_places(rt: HostRuntime) {
     let set = set_of::<u8>(&rt, rt.alloc(), &[3, 70]);
-    expect_eq(&rt, &[least(&set), last(&set)], &[Some(3), Some(70)]);
     let places = [place_of(&set, 70), place_of(&set, 4)];
     expect_eq(&rt, &places, &[Some(1), None]);
+}
+
+#[test]
+fn sets_are_compared(rt: HostRuntime) {
+    let a = set_of::<u16>(&rt, rt.alloc(), &[1, 70]);
+    let b = set_of::<u16>(&rt, rt.alloc(), &[1]);
+    let found = [first_without(&a, &b), first_without(&b, &a)];
+    expect_eq(&rt, &found, &[Some(70), None]);
+    expect(&rt, is_union(&a, &b, &a));
+    expect(&rt, !is_union(&b, &b, &a));
 }

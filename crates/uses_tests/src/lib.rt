@@ -16,12 +16,6 @@ mod loops_tests;
 #[cfg(test)]
 mod matrices_tests;
 #[cfg(test)]
-mod round_three_tests;
-#[cfg(test)]
-mod rounds_tests;
-#[cfg(test)]
-mod rows_tests;
-#[cfg(test)]
 mod set_tests;
 #[cfg(test)]
 mod sets;
