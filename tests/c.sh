@@ -252,12 +252,12 @@ compare_names() {
 
 try_python() {
     if command -v python3 > /dev/null; then
-        # Each public call of BitSet and BitMatrix has one for C, and this one in the packages, or a reason why it has none.
+        # The calls that the header and the packages have, or a reason why they have not.
         if PYTHONUTF8=1 python3 -B "$here/c_surface.py" "$top" > said 2>&1; then
             pass
         else
             cat said
-            fail 'the header lacks a call of BitSet or BitMatrix, or a package one of the header'
+            fail 'the header or a package lacks a call'
         fi
         if [ ! -f "$(python3 -c 'import sysconfig; print(sysconfig.get_path("include"))')/Python.h" ]; then
             echo 'left out: the Python module, without the headers of Python'

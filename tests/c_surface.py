@@ -1,5 +1,5 @@
-"""Compares the public calls of BitSet and BitMatrix with tests/c_surface.txt, that with the header for C, and the header with
-what the packages for Rust and Python call.
+"""Compares the public calls of BitSet and BitMatrix with tests/c_surface.txt, the calls of the library for C with its header,
+and the packages for Rust, C++ and Python with both: which calls for C each makes, and which functions it has itself.
 
 python3 c_surface.py TOP       writes a line for each difference, and ends with status 1 where there is one
 """
@@ -7,6 +7,7 @@ python3 c_surface.py TOP       writes a line for each difference, and ends with 
 import fnmatch
 import re
 import sys
+from collections import Counter
 from pathlib import Path
 
 
@@ -15,12 +16,17 @@ from pathlib import Path
 TYPES = [("BitSet", "bit_set", ""), ("BitMatrix", "bit_matrix", "BitMatrix::")]
 
 
-# The names of the functions that the blocks `impl .. NAME<..>` of the sources have, without those of a trait.
-def calls_of(sources, name):
+def texts_in(folder, pattern):
+    """The texts of the sources in a folder."""
+    return [path.read_text() for path in sorted(folder.rglob(pattern))]
+
+
+def rattle_calls(sources, name):
+    """The names of the functions that the blocks `impl .. NAME<..>` of the sources have, without those of a trait."""
     calls = set()
-    for path in sorted(sources.rglob("*.rt")):
+    for text in texts_in(sources, "*.rt"):
         inside = False
-        for line in path.read_text().splitlines():
+        for line in text.splitlines():
             if line.startswith("impl"):
                 inside = bool(re.match(rf"impl(<[^>]*>)? {name}<", line))
             elif inside and (found := re.match(r"    pub fn (\w+)", line)):
@@ -28,57 +34,165 @@ def calls_of(sources, name):
     return calls
 
 
-# The names of the calls that the header declares, and those in the sources of a package.
-def declared_in(header):
-    lines = [line for line in header.splitlines() if not line.startswith("static")]
-    return {name for line in lines for name in re.findall(r"^[a-z].*\b(bit_(?:set|matrix)_[a-z_]+)\(", line)}
+# The calls for C: those that are exported, those that the header declares, and those that each package makes.
+def exported(top):
+    texts = texts_in(top / "crates/bit_set_c/src", "*.rt")
+    return {name for text in texts for name in re.findall(r'^pub extern "C" fn (\w+)', text, re.MULTILINE)}
 
 
-def called_in_rust(top):
+def declared(top):
+    lines = (top / "c/bit_set.h").read_text().splitlines()
+    found = [re.match(r"[a-z].*\b(bit_(?:set|matrix)_[a-z_]+)\(", line) for line in lines if not line.startswith("static")]
+    return {it.group(1) for it in found if it}
+
+
+def made_in_bit_set_sys(top):
     text = (top / "rust/bit-set-sys/src/lib.rs").read_text()
     parts = zip(re.split(r"^calls! \{", text, flags=re.MULTILINE)[1:], ["bit_set_", "bit_matrix_"])
     lines = [(prefix, line) for part, prefix in parts for line in part.splitlines()]
     return {prefix + name for prefix, line in lines for name in re.findall(r"^        \[?(\w+)(?:\(| of)", line)}
 
 
-def called_in_python(top):
-    texts = [path.read_text() for path in (top / "python/src").glob("*.c")]
+def made_in_bit_set(top):
+    found = set()
+    for text in texts_in(top / "rust/bit-set/src", "*.rs"):
+        found |= {f"bit_matrix_{name}" for name in re.findall(r"\bB::Rows::(\w+)", text)}
+        found |= {f"bit_set_{name}" for name in re.findall(r"\b(?:B|raw::Calls>)::([a-z]\w+)", text)}
+    # The others are of its own trait.
+    return found & made_in_bit_set_sys(top)
+
+
+def made_in_python(top):
+    texts = texts_in(top / "python/src", "*.c")
     return {name for text in texts for name in re.findall(r"\bbit_(?:set|matrix)_\w+", text)}
 
 
-# The calls for C that a package is listed not to make: a star stands for any name that begins so.
-def left_out(path, package, declared):
-    lines = re.findall(rf"^{package} lacks ([\w*, ]+): .", path.read_text(), re.MULTILINE)
-    patterns = [pattern for line in lines for pattern in line.split(", ")]
-    return {name for pattern in patterns for name in fnmatch.filter(declared, pattern) or [pattern]}
+# The functions of each package, by the types that they are of. One name may stand for several.
+def functions_in_rust(folder, own):
+    """Those that are public or of a trait, and those that macros make for the package's own type from a line."""
+    found = {}
+    for text in texts_in(folder / "src", "*.rs"):
+        name = trait = None
+        for line in text.splitlines():
+            if head := re.match(r"(?:unsafe )?impl(?:<[^>]*>)? (?:([\w:]+)(?:<&?\w+>)? for )?&?(?:'\w+ )?(\w+)", line):
+                trait, name = head.groups()
+            elif made := re.match(r"    [A-Z]\w+(?: over .*)?, (\w+)(?: of other)?[:;]", line):
+                found.setdefault(own, Counter())[made.group(1)] += 1
+            elif made := re.match(r"    [A-Z]\w+ (\w+), [A-Z]\w+ (\w+): ", line):
+                found.setdefault(own, Counter()).update(made.groups())
+            elif (it := re.match(r"    (pub )?(?:const |unsafe )*fn (\w+)", line)) and name and (it.group(1) or trait):
+                found.setdefault(name, Counter())[it.group(2)] += 1
+            elif line.startswith("}"):
+                name = None
+    return found
 
 
-# Each call of the list with the names for C that stand for it; of one that has none the list says why.
-def listed(path):
-    rows = {}
-    for line in path.read_text().splitlines():
-        if line and not line.startswith("#") and " lacks " not in line:
-            call, names = line.split(": ", 1)
-            rows[call] = [] if names.startswith("none, ") else names.split(", ")
-    return rows
+def functions_in_cpp(top):
+    """The public ones of each class, with its operators."""
+    found, name, is_public = {}, None, False
+    for line in (top / "c/bit_set.hpp").read_text().splitlines():
+        if head := re.match(r"class (\w+) \{", line):
+            name, is_public = head.group(1), False
+        elif line == "public:":
+            is_public = True
+        elif is_public and (it := re.match(r"    (?! )[^(/]*?(operator\S+?|~?\w+)\(", line)):
+            found.setdefault(name, Counter())[it.group(1)] += 1
+    return found
+
+
+def functions_in_python(top):
+    """The methods and attributes in the tables of the module."""
+    text = (top / "python/src/module.c").read_text()
+    methods = {name: re.findall(rf"^    METHOD\({name}, (\w+)", text, re.MULTILINE) for name in ("set", "matrix")}
+    attributes = re.search(r"matrix_attributes\[\] = \{(.*?)\n\};", text, re.DOTALL).group(1)
+    return {"BitSet": Counter(methods["set"]), "BitMatrix": Counter(methods["matrix"] + re.findall(r'\{"(\w+)"', attributes))}
+
+
+def functions_in_stub(top):
+    """What the file of the module's types has of each class, but for what Python calls itself."""
+    found, name = {}, None
+    for line in (top / "python/src/__init__.pyi").read_text().splitlines():
+        if head := re.match(r"class (\w+)", line):
+            name = head.group(1)
+        elif it := re.match(r"    def ([a-z]\w*)\(", line):
+            found.setdefault(name, Counter())[it.group(1)] += 1
+    return found
+
+
+FUNCTIONS = {
+    "bit-set": lambda top: functions_in_rust(top / "rust/bit-set", "BitSet"),
+    "fixedbitset": lambda top: functions_in_rust(top / "rust/fixedbitset", "FixedBitSet"),
+    "C++": functions_in_cpp,
+    "Python": functions_in_python,
+    "Python's types": functions_in_stub,
+}
+
+
+class List:
+    """What tests/c_surface.txt says."""
+
+    def __init__(self, path):
+        self.text = path.read_text()
+        lines = [line for line in self.text.splitlines() if line and not line.startswith("#")]
+        rows = [line.split(": ", 1) for line in lines if not re.search(" (lacks|has) ", line)]
+        # Each call with the names for C that stand for it; of one that has none the list says why.
+        self.calls = {call: [] if names.startswith("none, ") else names.split(", ") for call, names in rows}
+
+    def left_out(self, package, known):
+        """The calls for C that a package is listed not to make: a star stands for any name that begins so."""
+        lines = re.findall(rf"^{re.escape(package)} lacks ([\w*, ]+): .", self.text, re.MULTILINE)
+        patterns = [pattern for line in lines for pattern in line.split(", ")]
+        return {name for pattern in patterns for name in fnmatch.filter(known, pattern) or [pattern]}
+
+    def functions(self, package):
+        """The functions that a package is listed to have, by their types."""
+        # What Python's type checkers read is to have what the module has.
+        name = re.escape(package.partition("'")[0])
+        lines = re.findall(rf"^{name} has (\w+)::\{{(.+)\}}$", self.text, re.MULTILINE)
+        found = {}
+        for kind, names in lines:
+            found.setdefault(kind, Counter()).update(names.split(", "))
+        return found
+
+
+def compare_calls(top, listed, known):
+    for name, crate, before in TYPES:
+        calls = {before + call for call in rattle_calls(top / "crates" / crate / "src", name)}
+        own = {it: names for it, names in listed.calls.items() if it.startswith("BitMatrix::") == bool(before)}
+        yield from (f"{call} has no line in tests/c_surface.txt" for call in calls - set(own))
+        yield from (f"{crate} has no {call}, which tests/c_surface.txt lists" for call in set(own) - calls)
+        exports = [(call, f"{crate}_{each}") for call, names in own.items() for each in names]
+        yield from (f"{call}: bit_set.h has no {export}" for call, export in exports if export not in known)
+    yield from (f"bit_set.h has no {name}, which bit_set_c exports" for name in exported(top) - known)
+    yield from (f"bit_set.h has {name}, which bit_set_c does not export" for name in known - exported(top))
+
+
+def compare_made(package, made, without, known):
+    """What a package makes of these calls for C, beside those that a line says it does not make."""
+    yield from (f"{package} does not call {name}, and no line says why" for name in known - made - without)
+    yield from (f"{package} calls {name}, of which a line says that it does not" for name in made & without)
+    yield from (f"there is no {name}, which {package} is said to lack" for name in without - known)
+
+
+def compare_functions(package, found, wanted):
+    for name, functions in wanted.items():
+        yield from (f"{package} has no {name}::{it}, which a line lists" for it in functions - found.get(name, Counter()))
+        yield from (f"{package} has {name}::{it}, which no line lists" for it in found.get(name, Counter()) - functions)
 
 
 def main():
     top = Path(sys.argv[1])
-    path = top / "tests" / "c_surface.txt"
-    rows, declared = listed(path), declared_in((top / "c" / "bit_set.h").read_text())
-    faults = []
-    for name, crate, before in TYPES:
-        calls = {before + call for call in calls_of(top / "crates" / crate / "src", name)}
-        faults += [f"{call} has no line in tests/c_surface.txt" for call in calls - set(rows)]
-        own = {call: names for call, names in rows.items() if call.rpartition("::")[0] == before.rpartition("::")[0]}
-        exports = [(call, f"{crate}_{each}") for call, names in own.items() for each in names]
-        faults += [f"{call}: bit_set.h has no {export}" for call, export in exports if export not in declared]
-    for package, called in [("Rust", called_in_rust(top)), ("Python", called_in_python(top))]:
-        without = left_out(path, package, declared)
-        faults += [f"{package} does not call {name}, and no line says why" for name in declared - called - without]
-        faults += [f"{package} calls {name}, of which a line says that it does not" for name in called & without]
-        faults += [f"bit_set.h has no {name}, which {package} is said to lack" for name in without - declared]
+    listed, known = List(top / "tests/c_surface.txt"), declared(top)
+    faults = [*compare_calls(top, listed, known)]
+    in_rust = made_in_bit_set_sys(top)
+    for package, made, among in [
+        ("bit-set-sys", in_rust, known),
+        ("bit-set", made_in_bit_set(top), in_rust),
+        ("Python", made_in_python(top), known),
+    ]:
+        faults += compare_made(package, made, listed.left_out(package, known), among)
+    for package, functions in FUNCTIONS.items():
+        faults += compare_functions(package, functions(top), listed.functions(package))
     print("\n".join(sorted(faults)), end="\n" if faults else "")
     return 1 if faults else 0
 
