@@ -1,104 +1,110 @@
 """Tries every edit of tests/edits.txt, also those that the gate does not, and keeps a record.
 
-    all_edits.py ROOT [--anew] [CRATE | CRATE/EDIT ..]
+    all_edits.py ROOT [--anew | --left] [CRATE | CRATE/EDIT ..]
 
-tests/edits.csv has a row for each edit: the clause that it breaks, the verdict, the processor seconds of its function, and the
-commit at which it was tried. Rows are written as they come, and an edit whose row says that it is refused is tried again only
-where it or its crate changed since that commit, so that a run which was stopped goes on where it was; --anew tries all. The
-verdict must be 'refused for a value' (see edits.py). The last line is 'N passed, M failed'.
+tests/edits.csv has a row for each edit that was refused for a value (see edits.py): the processor seconds of its function, and
+a checksum of the edit, of its function's name and of the text of its crate. So a row holds for this text alone: of another it
+says nothing, and goes as the next row is written. Rows are written as they come, and an edit that has one is not tried again,
+so that a run which was stopped goes on where it was; --anew tries all. The last line is 'N passed, M failed'. --left tries none
+and names those that have no row; its last line is 'N recorded, M left'.
 """
 
 import csv
+import hashlib
 import shutil
-import subprocess
 import sys
 import tempfile
 from pathlib import Path
 
-from copies import crates_of, edits_of
+from copies import PARTS, crates_of, edits_of
 from edits import REFUSED, rounds_of, try_round
 
-COLUMNS = ("edit", "clause", "verdict", "seconds", "commit")
+COLUMNS = ("edit", "seconds", "checksum")
 
 
-def read_rows(path):
-    """The rows of the record by their edits."""
-    if not path.exists():
-        return {}
-    with path.open() as file:
-        return {row["edit"]: row for row in csv.DictReader(file)}
+def text_of(root, crate):
+    """The sources, definitions and proofs of a crate, and where each is in it."""
+    folder, text = root / "crates" / crate, b""
+    for path in sorted(it for part in PARTS for it in (folder / part).rglob("*") if it.is_file()):
+        text += f"{path.relative_to(folder)}\0".encode() + path.read_bytes() + b"\0"
+    return text
 
 
-def write_rows(path, rows, listed):
-    """Writes the rows of the edits that are listed, in the order of the list. What ends it leaves the old rows."""
-    new = path.with_suffix(".new")
-    with new.open("w") as file:
-        out = csv.DictWriter(file, COLUMNS, lineterminator="\n")
-        out.writeheader()
-        out.writerows(rows[it] for it in listed if it in rows)
-    new.replace(path)
+def checksums_of(root, crate, edits):
+    """Of each of these edits of a crate, by CRATE/EDIT, the checksum of what its verdict is of."""
+    text, found = text_of(root, crate), {}
+    for edit, (function, _) in edits.items():
+        edited = edit.read_bytes() if edit.exists() else b""
+        found[f"{crate}/{edit.stem}"] = hashlib.sha256(b"\0".join([function.encode(), edited, text])).hexdigest()[:16]
+    return found
 
 
-def git(root, *words):
-    """What git says in the checkout, and whether it succeeds."""
-    done = subprocess.run(["git", "-C", root, *words], capture_output=True, text=True)
-    return done.stdout.strip(), done.returncode == 0
+class Record:
+    """The rows of tests/edits.csv."""
+
+    def __init__(self, root, checksums):
+        self.path, self.checksums = root / "tests" / "edits.csv", checksums
+
+    def rows(self):
+        """Those that hold for the text that is there, by their edits."""
+        if not self.path.exists():
+            return {}
+        with self.path.open() as file:
+            rows = {row["edit"]: row for row in csv.DictReader(file)}
+        return {it: rows[it] for it, sum_ in self.checksums.items() if it in rows and rows[it]["checksum"] == sum_}
+
+    def put(self, edit, seconds):
+        """Writes the row of an edit; of None there is none. What ends it leaves the old rows."""
+        rows = {**self.rows(), edit: dict(zip(COLUMNS, (edit, seconds, self.checksums[edit])))}
+        if seconds is None:
+            del rows[edit]
+        new = self.path.with_suffix(".new")
+        with new.open("w") as file:
+            out = csv.DictWriter(file, COLUMNS, lineterminator="\n")
+            out.writeheader()
+            out.writerows(rows[it] for it in self.checksums if it in rows)
+        new.replace(self.path)
 
 
-def commit_of(root, crate):
-    """The commit that the crate is at, with a '+' where its files are others."""
-    commit, _ = git(root, "rev-parse", "--short=8", "HEAD")
-    changed, _ = git(root, "status", "--porcelain", f"crates/{crate}", f"tests/edits/{crate}")
-    return commit + "+" * bool(changed)
-
-
-def is_tried(root, crate, edit, row):
-    """Whether the row says that the edit is refused, and neither it nor its crate changed since."""
-    folders = [f"crates/{crate}/{it}" for it in ("src", "specs", "proofs")]
-    return bool(row) and row["verdict"] == REFUSED and git(root, "diff", "--quiet", row["commit"], "--", edit, *folders)[1]
-
-
-def try_crate(root, crates, crate, edits, at_row):
-    """Tries these edits of a crate, over what an earlier check in its folder has kept, and hands on each row."""
+def try_crate(root, crates, crate, edits, record):
+    """Tries these edits of a crate, over what an earlier check in its folder has kept, and records those that are refused."""
     with tempfile.TemporaryDirectory(prefix="all-edits-") as room:
         folder, kept = Path(room), root / "crates" / crate / "out" / "incremental"
         if kept.is_dir():
             shutil.copytree(kept, folder / "kept")
-        commit = commit_of(root, crate)
         for part in rounds_of(edits):
-            for edit, (verdict, shown, seconds) in try_round(root, crates, crate, folder, part).items():
-                row = (f"{crate}/{edit.stem}", f"{part[edit][0]}: {part[edit][1]}", verdict, f"{seconds:.1f}", commit)
-                at_row(dict(zip(COLUMNS, row)), shown)
+            tried = try_round(root, crates, crate, folder, part)
+            checksums = checksums_of(root, crate, part)
+            for edit, (verdict, shown, seconds) in tried.items():
+                name = f"{crate}/{edit.stem}"
+                if checksums[name] != record.checksums[name]:
+                    verdict = "CHANGED MEANWHILE"
+                record.put(name, f"{seconds:.1f}" if verdict == REFUSED else None)
+                print(f"{seconds:7.1f} s  {verdict}: {name}: {shown[:200]}", flush=True)
 
 
 def main():
     root, words = Path(sys.argv[1]), sys.argv[2:]
-    crates, path = crates_of(root), root / "tests" / "edits.csv"
-    all_edits = {name: edits_of(root, name) for name in crates}
-    listed = [f"{name}/{edit.stem}" for name, edits in all_edits.items() for edit in edits]
-    rows = read_rows(path)
-    asked = [it for it in words if it != "--anew"] or list(crates)
-    if unknown := [it for it in asked if it not in crates and it not in listed]:
+    crates = crates_of(root)
+    edits = {name: edits_of(root, name) for name in crates}
+    checksums = {edit: it for name in crates for edit, it in checksums_of(root, name, edits[name]).items()}
+    asked = [it for it in words if it not in ("--anew", "--left")] or list(crates)
+    if unknown := [it for it in asked if it not in crates and it not in checksums]:
         print(f"all_edits: no crate and no CRATE/EDIT of tests/edits.txt: {' '.join(unknown)}", file=sys.stderr)
         return 2
-    asked = [it for it in listed if it in asked or it.partition("/")[0] in asked]
-
-    def at_row(row, shown):
-        rows.update(read_rows(path))
-        rows[row["edit"]] = row
-        write_rows(path, rows, listed)
-        print(f"{row['seconds']:>7} s  {row['verdict']}: {row['edit']}: {shown[:200]}", flush=True)
-
-    for name, edits in all_edits.items():
-        kept = {} if "--anew" in words else rows
-        named = {edit: it for edit, it in edits.items() if f"{name}/{edit.stem}" in asked}
-        left = {edit: it for edit, it in named.items() if not is_tried(root, name, edit, kept.get(f"{name}/{edit.stem}"))}
-        if left:
-            try_crate(root, crates, name, left, at_row)
-    failed = [it for it in asked if rows[it]["verdict"] != REFUSED]
+    asked = [it for it in checksums if it in asked or it.partition("/")[0] in asked]
+    record = Record(root, checksums)
+    kept = {} if "--anew" in words else record.rows()
+    for name in crates if "--left" not in words else ():
+        named = {it: edits[name][it] for it in edits[name] if f"{name}/{it.stem}" in asked}
+        if left := {edit: it for edit, it in named.items() if f"{name}/{edit.stem}" not in kept}:
+            try_crate(root, crates, name, left, record)
+    rows = record.rows()
+    failed = [it for it in asked if it not in rows]
+    word, passed, left = ("left", "recorded", "left") if "--left" in words else ("FAILED", "passed", "failed")
     for it in failed:
-        print(f"FAILED: {it}: {rows[it]['verdict']}")
-    print(f"{len(asked) - len(failed)} passed, {len(failed)} failed")
+        print(f"{word}: {it}")
+    print(f"{len(asked) - len(failed)} {passed}, {len(failed)} {left}")
     return 1 if failed else 0
 
 

@@ -39,10 +39,21 @@ def rounds_of(edits):
     return rounds
 
 
+def messages_of(said):
+    """The lines, each with the indented ones that go on with it."""
+    found = []
+    for line in said:
+        if line.startswith(" ") and found:
+            found[-1] += " " + line.strip()
+        else:
+            found.append(line)
+    return found
+
+
 def own_goals(said, function):
     """The goals of the function itself that are open: where its proof fails, and those that the notes above its line name."""
     folder, goals, above = f"./proofs/{function.replace('::', '/')}/", [], []
-    for line in said:
+    for line in messages_of(said):
         if line.startswith(folder) and ": error: " in line:
             goals.append(line)
         if re.match(rf"fn \w+::{re.escape(function)}: ", line):
@@ -51,19 +62,24 @@ def own_goals(said, function):
     return goals
 
 
+def tells(message, pattern):
+    """Whether the prover's own words are so, without the terms of the program that it quotes."""
+    return re.search(pattern, re.sub("`[^`]*`", "", message))
+
+
 def verdict_of(status, said, function):
     """What the prover says of a function, and the goal of its own that shows it. Only a goal that is open for a value refuses:
     a name that is gone, or a limit of the prover, says nothing of the statement."""
     line = next((it for it in said if re.match(rf"fn \w+::{re.escape(function)}: ", it)), "")
     goals = own_goals(said, function)
-    values = [it for it in goals if not LIMITS.search(it) and not NAMES.search(it)]
+    values = [it for it in goals if not tells(it, LIMITS) and not tells(it, NAMES)]
     if line.endswith(": proved"):
         return "NOT REFUSED", line
     if status != 1 or not line:
         return "NO VERDICT", " ".join(said)[-300:]
     if values:
         return REFUSED, values[0]
-    limits = [it for it in goals if LIMITS.search(it)]
+    limits = [it for it in goals if tells(it, LIMITS)]
     return ("LIMIT", limits[0]) if limits else ("NO GOAL", (goals or [line])[0])
 
 

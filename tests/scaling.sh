@@ -26,7 +26,7 @@ fail() {
 }
 
 if ! command -v valgrind > /dev/null; then
-    echo 'scaling: left out, since there is no valgrind to count instructions with'
+    echo 'left out: what calls cost at two sizes, without valgrind, which counts instructions'
     echo '0 passed, 0 failed'
     exit 0
 fi
