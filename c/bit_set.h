@@ -397,7 +397,7 @@ bool bit_matrix_from_set(bit_matrix **out, const bit_set *set, size_t rows) BIT_
 bool bit_matrix_clone(bit_matrix **out, const bit_matrix *matrix) BIT_SET_MAY_FAIL;
 
 /* The matrix that has a row for each column, and in it the rows that have that column. Goes by squares of blocks, or, where
- * less than every other block has a column in it on average, by what is in. */
+ * fewer than one bit in 64 is set, by what is in. */
 bool bit_matrix_transpose(bit_matrix **out, const bit_matrix *matrix) BIT_SET_MAY_FAIL;
 
 /* The set of the columns that are in the row. Its length is the number of columns. */
