@@ -1,7 +1,6 @@
 #!/usr/bin/env bash
-# Prints what the proofs cost of the crates that are named, or of all: processor seconds of proof, tests and, after
-# --edits, edits, and the ten slowest functions and edits. One crate after another, with one job each: of all crates
-# it takes hours.
+# Prints what the proofs cost of the crates that are named, or of all: processor seconds of proof and of tests, and the ten
+# slowest functions. One crate after another, with one job each: of all crates it takes hours.
 # Bash runs this where `sh` is called too. Options of it that are exported, and what it is to read first, are for other scripts.
 { [ -n "${BASH_VERSION:-}" ] && [[ ${SHELLOPTS@a}${BASHOPTS@a}${BASH_ENV+x} != *x* ]]; } || exec env -u SHELLOPTS -u BASHOPTS -u BASH_ENV bash "$0" "$@"
 set -euo pipefail
