@@ -1,9 +1,12 @@
 //! Times calls of this library through its Rust package beside the crate `bit-set`, both over blocks of one width and in
 //! one program: the least of many rounds, in turns. With the word `instructions` it counts these instead, by callgrind.
+//! `put` is of blocks by `bit_set_put_blocks`, which no package calls, beside the copy of these to a slice.
 use clients::Draws;
 use std::env;
+use std::ffi::c_void;
 use std::hint::black_box;
 use std::io;
+use std::ptr::null_mut;
 use std::time::Instant;
 
 mod callgrind;
@@ -11,16 +14,55 @@ mod callgrind;
 const LIMIT: usize = 1 << 20;
 const ROUNDS: usize = 60;
 const FIVE: [usize; 5] = [3, 40, 70, 100, 120];
-const ROWS: [&str; 19] = [
+const ROWS: [&str; 21] = [
     "contains", "insert", "remove", "grow", "walk 1", "walk 2", "walk 16", "walk 64", "walk 256", "walk 4096",
     "walk 65536", "union 2", "union 256", "intersection 2", "intersection 256", "difference 2", "difference 256",
-    "symmetric 2", "symmetric 256",
+    "symmetric 2", "symmetric 256", "put 64", "put 8192",
 ];
 const SMALL_ROWS: [&str; 5] = ["five: walk", "five: first", "five: clone", "five: kept clones", "new"];
 const TURNS: [usize; 2] = [1, 3];
 
+extern "C" {
+    fn bit_set_new(out: *mut *mut c_void) -> bool;
+    fn bit_set32_new(out: *mut *mut c_void) -> bool;
+    fn bit_set_put_blocks(set: *mut c_void, from: usize, blocks: *const u64, count: usize) -> bool;
+    fn bit_set32_put_blocks(set: *mut c_void, from: usize, blocks: *const u32, count: usize) -> bool;
+}
+
+// A set of C's, which stays until the program ends.
+fn made(new: unsafe extern "C" fn(*mut *mut c_void) -> bool) -> *mut c_void {
+    let mut set = null_mut();
+    assert!(unsafe { new(&mut set) });
+    set
+}
+
+// What puts blocks into such a set, or copies them to a slice, from the block of this index on.
+macro_rules! puts {
+    ($($block:ty: $ours:ident by $new:ident, $put:ident, $theirs:ident;)*) => {
+        $(
+            fn $ours() -> impl FnMut(usize, &[$block]) {
+                let set = made($new);
+                move |from, blocks| assert!(unsafe { $put(set, from, blocks.as_ptr(), blocks.len()) })
+            }
+
+            fn $theirs() -> impl FnMut(usize, &[$block]) {
+                let mut slice = vec![0; LIMIT / <$block>::BITS as usize];
+                move |from, blocks| {
+                    slice[from..from + blocks.len()].copy_from_slice(blocks);
+                    black_box(&mut slice);
+                }
+            }
+        )*
+    };
+}
+
+puts! {
+    u32: ours32_puts by bit_set32_new, bit_set32_put_blocks, theirs32_puts;
+    u64: ours64_puts by bit_set_new, bit_set_put_blocks, theirs64_puts;
+}
+
 macro_rules! sides {
-    ($($name:ident is $set:path;)*) => {
+    ($($name:ident is $set:path, of $block:ident, $puts:ident;)*) => {
         $(
             mod $name {
                 use super::*;
@@ -51,12 +93,25 @@ macro_rules! sides {
                     }
                 }
 
+                // All blocks of a set, put in so many at a time.
+                fn put_row(at_a_time: usize) -> Box<dyn FnMut() -> usize> {
+                    let (mut draws, mut put) = (Draws(7), $puts());
+                    let blocks: Vec<$block> = (0..LIMIT / $block::BITS as usize).map(|_| draws.below(usize::MAX) as $block).collect();
+                    Box::new(move || {
+                        let parts = black_box(&blocks).chunks(at_a_time).enumerate();
+                        parts.map(|(k, part)| put(k * at_a_time, part)).count()
+                    })
+                }
+
                 pub fn row(name: &str, numbers: &[usize]) -> Box<dyn FnMut() -> usize> {
                     if SMALL_ROWS.contains(&name) {
                         return small_row(name);
                     }
                     let (call, every) = name.split_once(' ').unwrap_or((name, "2"));
                     let every: usize = every.parse().unwrap();
+                    if call == "put" {
+                        return put_row(every);
+                    }
                     let (mut set, other, numbers) = (filled(every, 3), filled(every, 5), numbers.to_vec());
                     match call {
                         "contains" => Box::new(move || numbers.iter().filter(|&&n| set.contains(n)).count()),
@@ -80,10 +135,10 @@ macro_rules! sides {
 }
 
 sides! {
-    ours32 is bit_set::BitSet<u32>;
-    theirs32 is peer::BitSet<u32>;
-    ours64 is bit_set::BitSet<u64>;
-    theirs64 is peer::BitSet<u64>;
+    ours32 is bit_set::BitSet<u32>, of u32, ours32_puts;
+    theirs32 is peer::BitSet<u32>, of u32, theirs32_puts;
+    ours64 is bit_set::BitSet<u64>, of u64, ours64_puts;
+    theirs64 is peer::BitSet<u64>, of u64, theirs64_puts;
 }
 
 type Side = fn(&str, &[usize]) -> Box<dyn FnMut() -> usize>;
