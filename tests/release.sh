@@ -1,11 +1,11 @@
 #!/usr/bin/env bash
 # Tries what ./release wrote where no toolchain is and no network: in roots of Debian 11, 12 and 13, with musl, and as
 # programs for aarch64 under qemu. It installs the packages, builds the examples, runs the tests of Python and Rust, and
-# makes a million random calls beside a plain table for each processor. The roots and the other kinds of system are tried
-# beside each other. It is not a part of the gate.
+# makes a million random calls beside a plain table for each processor. It makes the packages again of the source release,
+# and compares their bytes. The roots and the other kinds of system are tried beside each other. It is not a part of the gate.
 #   tests/release.sh FOLDER [ROOTS]      ROOTS keeps the roots, which debootstrap makes where they are not there
-# It is to be run by root, for chroot. What cannot be tried for want of a program it says. The last line is
-# 'N passed, M failed'.
+# It is to be run by root, for chroot. What cannot be tried, as for want of a program, it says again in its last lines, of
+# which the very last is 'N passed, M failed'.
 # shellcheck disable=SC2034,SC2154  # what the parts read and set
 # Bash runs this where `sh` is called too. Options of it that are exported, and what it is to read first, are for other scripts.
 { [ -n "${BASH_VERSION:-}" ] && [[ ${SHELLOPTS@a}${BASHOPTS@a}${BASH_ENV+x} != *x* ]]; } || exec env -u SHELLOPTS -u BASHOPTS -u BASH_ENV bash "$0" "$@"
@@ -53,7 +53,9 @@ try() {
     fi
 }
 
-left_out() { echo "left out: $1"; }
+# Says what cannot be tried here, and again at the end.
+not_tried="$room/not_tried"
+left_out() { echo "left out: $1" | tee -a "$not_tried"; }
 has() { command -v "$1" > /dev/null; }
 
 # Runs a command here without the toolchain and without a network.
@@ -68,7 +70,7 @@ inside() {
 # What runs a program for aarch64 here, over a root or what the cross compiler has.
 on_arm() { bare qemu-aarch64-static -L "${sysroot:-/usr/aarch64-linux-gnu}" "$@"; }
 
-for part in files readme roots machines; do
+for part in files readme roots machines again; do
     # shellcheck source=/dev/null
     . "$here/release/$part.sh"
 done
@@ -120,7 +122,9 @@ finish() {
     begin 11 try_root 11 bullseye ''
     begin here try_here
     begin musl try_musl
+    begin again try_again
     finish
+    [ ! -e "$not_tried" ] || sort "$not_tried"
     echo "$passed passed, $failed failed"
     [ "$failed" -eq 0 ]
     exit
