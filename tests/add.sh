@@ -1,13 +1,11 @@
-#!/usr/bin/env bash
+#!/usr/bin/env -S bash -p
 # Runs `add` in empty repositories, and looks at what it leaves there and at what it refuses. With --prove it also
 # makes README's first example there, with the texts that README has, and proves and runs it, which takes minutes.
 # The last line is 'N passed, M failed'.
-# Bash runs this where `sh` is called too. Options of it that are exported, and what it is to read first, are for other scripts.
-{ [ -n "${BASH_VERSION:-}" ] && [[ ${SHELLOPTS@a}${BASHOPTS@a}${BASH_ENV+x} != *x* ]]; } || exec env -u SHELLOPTS -u BASHOPTS -u BASH_ENV bash "$0" "$@"
+case $- in *p*) ;; *) exec bash -p "$0" "$@" ;; esac
 set -uo pipefail
-unset CDPATH GLOBIGNORE POSIXLY_CORRECT
-# A hook of git names its own repository to what it runs, whatever folder that works in.
-unset GIT_DIR GIT_WORK_TREE GIT_INDEX_FILE GIT_OBJECT_DIRECTORY GIT_COMMON_DIR
+# shellcheck source=tools/start.sh
+. "$(dirname "$(readlink -f "$0")")/../tools/start.sh"
 top="$(dirname "$(dirname "$(readlink -f "${BASH_SOURCE[0]}")")")"
 passed=0
 failed=0

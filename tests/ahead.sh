@@ -1,14 +1,14 @@
-#!/usr/bin/env bash
+#!/usr/bin/env -S bash -p
 # Has `rt ci` prove the longest chain of crates ahead of the gate's own run. It gives a proof half of the cores while no
 # other can begin, and else one; and it takes what another run on the machine has proved, or is proving. So the chain up
 # to roaring is proved on two cores, and the gate's run has the others for what needs less; then refusals, which takes
 # long, and for which the gate's run has no memory until late. Where rt can keep nothing, or takes no names of crates since
 # CI is set, nothing is proved here. It counts nothing: the gate's own run says what is not proved. The last line is
 # 'N passed, M failed'.
-# Bash runs this where `sh` is called too. Options of it that are exported, and what it is to read first, are for other scripts.
-{ [ -n "${BASH_VERSION:-}" ] && [[ ${SHELLOPTS@a}${BASHOPTS@a}${BASH_ENV+x} != *x* ]]; } || exec env -u SHELLOPTS -u BASHOPTS -u BASH_ENV bash "$0" "$@"
+case $- in *p*) ;; *) exec bash -p "$0" "$@" ;; esac
 set -uo pipefail
-unset CDPATH GLOBIGNORE POSIXLY_CORRECT
+# shellcheck source=tools/start.sh
+. "$(dirname "$(readlink -f "$0")")/../tools/start.sh"
 cd "$(dirname "$(dirname "$(readlink -f "${BASH_SOURCE[0]}")")")" || exit 1
 . tools/ending.sh
 # rt keeps the copy there that it proves, and leaves it where it is ended.

@@ -1,4 +1,4 @@
-#!/usr/bin/env bash
+#!/usr/bin/env -S bash -p
 # Builds c/example.c over the library for C by the system's compilers, runs it, and runs it again with one request for
 # memory after another failing; the first over blocks of 32 bits too, and c/example.cc in C++. Holds the calls that make a
 # set to the memory that they may ask for, and makes random calls beside a table. Compares the prototypes of both headers
@@ -7,10 +7,10 @@
 #   tests/c.sh [FOLDER]      over the library that c/build wrote into the folder; where none is given it is built, over
 #                            the libraries as `rt ci` has just proved them here
 # The last line is 'N passed, M failed'.
-# Bash runs this where `sh` is called too. Options of it that are exported, and what it is to read first, are for other scripts.
-{ [ -n "${BASH_VERSION:-}" ] && [[ ${SHELLOPTS@a}${BASHOPTS@a}${BASH_ENV+x} != *x* ]]; } || exec env -u SHELLOPTS -u BASHOPTS -u BASH_ENV bash "$0" "$@"
+case $- in *p*) ;; *) exec bash -p "$0" "$@" ;; esac
 set -uo pipefail
-unset CDPATH GLOBIGNORE POSIXLY_CORRECT
+# shellcheck source=tools/start.sh
+. "$(dirname "$(readlink -f "$0")")/../tools/start.sh"
 here="$(dirname "$(readlink -f "${BASH_SOURCE[0]}")")"
 top="$(dirname "$here")"
 passed=0

@@ -1,10 +1,10 @@
-#!/usr/bin/env bash
+#!/usr/bin/env -S bash -p
 # Looks whether the program `bitset` still compiles without the modules that left_out.txt names, as `./bitset` builds it:
 # nothing is proved. The last line is 'N passed, M failed'.
-# Bash runs this where `sh` is called too. Options of it that are exported, and what it is to read first, are for other scripts.
-{ [ -n "${BASH_VERSION:-}" ] && [[ ${SHELLOPTS@a}${BASHOPTS@a}${BASH_ENV+x} != *x* ]]; } || exec env -u SHELLOPTS -u BASHOPTS -u BASH_ENV bash "$0" "$@"
+case $- in *p*) ;; *) exec bash -p "$0" "$@" ;; esac
 set -uo pipefail
-unset CDPATH GLOBIGNORE POSIXLY_CORRECT
+# shellcheck source=tools/start.sh
+. "$(dirname "$(readlink -f "$0")")/../tools/start.sh"
 top="$(dirname "$(dirname "$(readlink -f "${BASH_SOURCE[0]}")")")"
 kit="$(dirname "$(rt doc | head -n 1)")"
 . "$top/tools/ending.sh"

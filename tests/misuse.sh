@@ -1,12 +1,12 @@
-#!/usr/bin/env bash
+#!/usr/bin/env -S bash -p
 # Tries each edit of `misuse/` on a copy of the crates' sources: the compiler must reject it, for the one reason that
 # the edit names. Edits that the prover rejects are in `edits/`, and two with a crate; these do not come so far.
 # An edit has one line each of 'crate:', 'file:', 'old:' and 'new:', of which the old text is once in the file, and
 # of 'says:', with which each error that is said begins, behind its place. The last line is 'N passed, M failed'.
-# Bash runs this where `sh` is called too. Options of it that are exported, and what it is to read first, are for other scripts.
-{ [ -n "${BASH_VERSION:-}" ] && [[ ${SHELLOPTS@a}${BASHOPTS@a}${BASH_ENV+x} != *x* ]]; } || exec env -u SHELLOPTS -u BASHOPTS -u BASH_ENV bash "$0" "$@"
+case $- in *p*) ;; *) exec bash -p "$0" "$@" ;; esac
 set -uo pipefail
-unset CDPATH GLOBIGNORE POSIXLY_CORRECT
+# shellcheck source=tools/start.sh
+. "$(dirname "$(readlink -f "$0")")/../tools/start.sh"
 here="$(dirname "$(readlink -f "${BASH_SOURCE[0]}")")"
 top="$(dirname "$here")"
 passed=0

@@ -1,10 +1,10 @@
-#!/usr/bin/env bash
+#!/usr/bin/env -S bash -p
 # Runs the built program whose path is given as a shell does, and looks at its status, at what it writes and at what
 # it says on standard error: no contract says what `main` does with them. The last line is 'N passed, M failed'.
-# Bash runs this where `sh` is called too. Options of it that are exported, and what it is to read first, are for other scripts.
-{ [ -n "${BASH_VERSION:-}" ] && [[ ${SHELLOPTS@a}${BASHOPTS@a}${BASH_ENV+x} != *x* ]]; } || exec env -u SHELLOPTS -u BASHOPTS -u BASH_ENV bash "$0" "$@"
+case $- in *p*) ;; *) exec bash -p "$0" "$@" ;; esac
 set -uo pipefail
-unset CDPATH GLOBIGNORE POSIXLY_CORRECT
+# shellcheck source=tools/start.sh
+. "$(dirname "$(readlink -f "$0")")/../tools/start.sh"
 if [ $# -ne 1 ]; then
     echo 'usage: tests/program.sh BITSET' >&2
     exit 2

@@ -1,12 +1,12 @@
-#!/usr/bin/env bash
+#!/usr/bin/env -S bash -p
 # Runs the three built programs whose paths are given, `refusals`, `roaring_refusals` and `bitset`, with `shim.c` before the
 # C library: each call of the first two with one request for memory after another failing, and held to the requests and
 # bytes that its line allows; and the third with that too, and with one read or write after another failing. What `bitset`
 # must write is said here, and not taken from it. The last line is 'N passed, M failed'.
-# Bash runs this where `sh` is called too. Options of it that are exported, and what it is to read first, are for other scripts.
-{ [ -n "${BASH_VERSION:-}" ] && [[ ${SHELLOPTS@a}${BASHOPTS@a}${BASH_ENV+x} != *x* ]]; } || exec env -u SHELLOPTS -u BASHOPTS -u BASH_ENV bash "$0" "$@"
+case $- in *p*) ;; *) exec bash -p "$0" "$@" ;; esac
 set -uo pipefail
-unset CDPATH GLOBIGNORE POSIXLY_CORRECT
+# shellcheck source=tools/start.sh
+. "$(dirname "$(readlink -f "$0")")/../tools/start.sh"
 if [ $# -ne 3 ]; then
     echo 'usage: tests/refusals.sh REFUSALS ROARING_REFUSALS BITSET' >&2
     exit 2

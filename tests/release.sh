@@ -1,4 +1,4 @@
-#!/usr/bin/env bash
+#!/usr/bin/env -S bash -p
 # Tries what ./release wrote where no toolchain is and no network: in roots of Debian 11, 12 and 13, with musl, and as
 # programs for aarch64 under qemu. It installs the packages, builds the examples, runs the tests of Python and Rust, and
 # makes a million random calls beside a plain table for each processor. It makes the packages again of the source release,
@@ -7,10 +7,10 @@
 # It is to be run by root, for chroot. What cannot be tried, as for want of a program, it says again in its last lines, of
 # which the very last is 'N passed, M failed'.
 # shellcheck disable=SC2034,SC2154  # what the parts read and set
-# Bash runs this where `sh` is called too. Options of it that are exported, and what it is to read first, are for other scripts.
-{ [ -n "${BASH_VERSION:-}" ] && [[ ${SHELLOPTS@a}${BASHOPTS@a}${BASH_ENV+x} != *x* ]]; } || exec env -u SHELLOPTS -u BASHOPTS -u BASH_ENV bash "$0" "$@"
+case $- in *p*) ;; *) exec bash -p "$0" "$@" ;; esac
 set -uo pipefail
-unset CDPATH GLOBIGNORE POSIXLY_CORRECT
+# shellcheck source=tools/start.sh
+. "$(dirname "$(readlink -f "$0")")/../tools/start.sh"
 here="$(dirname "$(readlink -f "${BASH_SOURCE[0]}")")"
 passed=0
 failed=0

@@ -1,19 +1,18 @@
-#!/usr/bin/env bash
-# Tries the scripts `bitset`, `look`, `add`, `gate`, `c/build` and `tests/callers.sh` in small repositories, with stand-ins for
-# the toolchain's commands that prove nothing: what is built when, what stays of runs that are ended, and what is said. Then
+#!/usr/bin/env -S bash -p
+# Tries the scripts `bitset`, `look`, `add`, `gate`, `c/build`, `release` and `tests/callers.sh` in small repositories, with
+# stand-ins for the toolchain's commands that prove nothing: what is built when, what stays of runs that are ended, and what is said. Then
 # what those find who build over the packages and the headers of a release.
-#   tests/scripts.sh           all of that
+#   tests/scripts.sh           all of that, in parts that run side by side
+#   tests/scripts.sh PART..    the parts that are named: each is a file of tests/scripts
 #   tests/scripts.sh --real    instead `./bitset` with the real toolchain and a comment that changes, over the libraries
 #                              as `rt ci` has just proved them here
 # The last line is 'N passed, M failed'.
-# Bash runs this where `sh` is called too. Options of it that are exported, and what it is to read first, are for other scripts.
-{ [ -n "${BASH_VERSION:-}" ] && [[ ${SHELLOPTS@a}${BASHOPTS@a}${BASH_ENV+x} != *x* ]]; } || exec env -u SHELLOPTS -u BASHOPTS -u BASH_ENV bash "$0" "$@"
+case $- in *p*) ;; *) exec bash -p "$0" "$@" ;; esac
 set -uo pipefail
-unset CDPATH GLOBIGNORE POSIXLY_CORRECT
+# shellcheck source=tools/start.sh
+. "$(dirname "$(readlink -f "$0")")/../tools/start.sh"
 # What the system's commands say is looked for in English.
 export LC_ALL=C
-# A hook of git names its own repository to what it runs, whatever folder that works in.
-unset GIT_DIR GIT_WORK_TREE GIT_INDEX_FILE GIT_OBJECT_DIRECTORY GIT_COMMON_DIR
 here="$(dirname "$(readlink -f "${BASH_SOURCE[0]}")")"
 top="$(dirname "$here")"
 . "$top/tools/ending.sh"
@@ -22,10 +21,23 @@ top="$(dirname "$here")"
 comma="$(locale -a 2> /dev/null | grep -m 1 '^\(de_DE\|fr_FR\|tr_TR\)\.utf8$')"
 passed=0
 failed=0
-case "$*" in
-    '' | --real) ;;
-    *) echo 'usage: tests/scripts.sh [--real]' >&2; exit 2 ;;
-esac
+for word in "$@"; do
+    if [ "$#:$word" != 1:--real ] && [[ "$word" != [a-z]* || ! -f "$here/scripts/$word.sh" ]]; then
+        echo 'usage: tests/scripts.sh [--real | PART..]' >&2
+        exit 2
+    fi
+done
+# Disks that are full, or from which no program runs, are mounted in a namespace that nothing else sees: any user may have
+# one, where the system lets him.
+if [ -z "${HAS_DISKS+is known}" ]; then
+    export HAS_DISKS=''
+    for words in --mount '--user --map-root-user --mount'; do
+        # shellcheck disable=SC2086  # each word is one
+        if unshare $words mount -t tmpfs none "$here/scripts" 2> /dev/null; then
+            HAS_DISKS=yes exec unshare $words "$0" "$@"
+        fi
+    done
+fi
 room="$(mktemp -d)" || exit 1
 passing+=("$room")
 
@@ -43,12 +55,12 @@ expect() {
 
 not() { ! "$@"; }
 
-# Waits until a command succeeds, for ten seconds at most.
+# Waits until a command succeeds, for half a minute at most.
 wait_until() {
     local turns
-    for ((turns = 0; turns < 100; turns++)); do
+    for ((turns = 0; turns < 600; turns++)); do
         ! "$@" 2> /dev/null || return 0
-        sleep 0.1
+        sleep 0.05
     done
     return 1
 }
@@ -84,11 +96,30 @@ is_called() { [ "$(calls "$1")" -ge 1 ]; }
 forget_calls() { : > "$STAND_INS/calls"; }
 take_seconds() { echo "$1" > "$STAND_INS/seconds"; }
 
-# Runs a command where options of bash are exported that scripts do not have, and a file is named that it is to read first.
+# Mounts a disk on a new folder, with these options of tmpfs, or says what is left out where none can be.
+mount_disk() {
+    mkdir "$2"
+    if [ -n "$HAS_DISKS" ]; then
+        mount -t tmpfs -o "$1" none "$2"
+    else
+        echo "left out, since no disk can be mounted here: $3"
+        return 1
+    fi
+}
+
+# Runs a command where options of bash and functions are exported that scripts do not have, and a file is named that it is
+# to read first.
 with_options() {
-    echo 'set -o noclobber -o noglob && export SHELLOPTS' > "$room/first"
+    local name functions=()
+    for name in awk cat cd chmod command cp cut date dirname echo env exec exit export find flock git grep hash head kill local \
+        make mapfile mkdir mktemp mv nproc printf pwd read readlink realpath rm sed set sha256sum shopt sleep sort source stat \
+        tail tar test touch tr trap true type umask unset wait xargs; do
+        functions+=("BASH_FUNC_$name%%=() { builtin echo \"the function $name of another\"; }")
+    done
+    builtin echo 'set -o noclobber -o noglob && export SHELLOPTS' > "$room/first"
     env SHELLOPTS=allexport:errexit:keyword:noclobber:noglob:nounset:onecmd:physical:posix:xtrace \
-        BASHOPTS=extglob:failglob:lastpipe:nocasematch:xpg_echo BASH_ENV="$room/first" POSIXLY_CORRECT=1 GLOBIGNORE='*' "$@"
+        BASHOPTS=extglob:failglob:lastpipe:nocasematch:xpg_echo BASH_ENV="$room/first" POSIXLY_CORRECT=1 GLOBIGNORE='*' \
+        "${functions[@]}" "$@"
 }
 
 # The stand-ins as a toolchain, whose commands are on the PATH.
@@ -125,14 +156,37 @@ ended_by_signal() {
     take_seconds 0.1
 }
 
+# Runs all parts, those of a line one after another and the lines side by side, and counts what each says.
+run_all() {
+    local line at status begun=() lines=(bitset 'waiting environment' signals c_build others release 'usage callers' packages)
+    for line in "${lines[@]}"; do
+        # shellcheck disable=SC2086  # each word is one
+        start_group "$here/scripts.sh" $line < /dev/null > "$room/${#begun[@]}" 2>&1
+        begun+=("$!")
+    done
+    for at in "${!begun[@]}"; do
+        status=0
+        wait_group "${begun[at]}" || status=$?
+        if [[ "$(tail -n 1 "$room/$at")" =~ ^([0-9]+)' passed, '([0-9]+)' failed'$ ]]; then
+            passed=$((passed + BASH_REMATCH[1]))
+            failed=$((failed + BASH_REMATCH[2]))
+            sed '$d' "$room/$at"
+        else
+            cat "$room/$at"
+            expect "the tests of ${lines[at]} end with $status" false
+        fi
+    done
+}
+
 # Bash reads all of this before it begins, so an edit of this script meanwhile is for the next run.
 {
-    if [ "${1:-}" = --real ]; then
-        # shellcheck source=/dev/null
-        . "$here/scripts/real.sh"
+    if [ $# -eq 0 ]; then
+        run_all
     else
-        set_up_toolchain
-        for part in bitset waiting signals usage callers packages; do
+        [ "$1" = --real ] || set_up_toolchain
+        # shellcheck source=tests/scripts/repositories.sh
+        . "$here/scripts/repositories.sh"
+        for part in "${@#--}"; do
             # shellcheck source=/dev/null
             . "$here/scripts/$part.sh"
         done

@@ -1,5 +1,5 @@
 # What c/build and release share: the crate bit_set_c, proved and compiled to assembly, and the source release that is
-# made of it. To be sourced after tools/ending.sh.
+# made of it. To be sourced after tools/ending.sh and tools/copy.sh.
 # shellcheck shell=bash disable=SC2034,SC2154
 
 # A program would take what is closed here for the first file that it opens, as bash does for the script.
@@ -9,27 +9,14 @@ for stream in 0 1 2; do
     fi
 done
 
-top="$(dirname "$(dirname "$(readlink -f "${BASH_SOURCE[0]}")")")"
-crates="$top/crates"
+# Has what follows work on the sources in a folder, which has them as the repository does.
+use_sources() {
+    top="$1"
+    crates="$top/crates"
+    version="$(sed -n 's/^#define BIT_SET_VERSION "\(.*\)"$/\1/p' "$top/c/bit_set.h")"
+}
+use_sources "$(dirname "$(dirname "$(readlink -f "${BASH_SOURCE[0]}")")")"
 kit="$(dirname "$(rt doc | head -n 1)")"
-version="$(sed -n 's/^#define BIT_SET_VERSION "\(.*\)"$/\1/p' "$top/c/bit_set.h")"
-
-# Waits until no other run writes into a folder. The provers have this lock too.
-lock() {
-    local locked
-    exec {locked}< "$1"
-    if ! flock -n "$locked"; then
-        echo "${0##*/}: another run writes into $1: waiting for its end" >&2
-        run_group flock "$locked"
-    fi
-}
-
-# Stops where the system runs no program from `room`, as it must once all is proved.
-look_at_room() {
-    printf '#!/bin/sh\n' > "$room/runs"
-    chmod +x "$room/runs"
-    "$room/runs" 2> /dev/null || stop "no program can be run from ${room%/*}: set TMPDIR to another folder"
-}
 
 # The libraries that the crate stands on, the highest first.
 libraries_below() {
@@ -75,7 +62,7 @@ make_toolchain() {
         notes="-Xclang -mlink-bitcode-file -Xclang ${folder@Q}/notes.bc"
     fi
     cat > "$folder/bin/clang" << END
-#!/usr/bin/env bash
+#!/usr/bin/env -S bash -p
 words=()
 for word in "\$@"; do
     case "\$word" in
@@ -180,8 +167,24 @@ write_headers() {
         s/blocks have 64 bits/blocks have 32 bits/; s,n % 64,n % 32,; s,n / 64,n / 32,' "$top/c/bit_set.h" > "$1/bit_set32.h"
 }
 
-# Writes all of the source release into a folder but for its assembly. Each file has its name here, since what an editor
-# or a compiler left beside them, of which git may be told to say nothing, is no part of it.
+# The parts that the library is made of, of which the files are what `write_source` copies. Each has its name here, since
+# what an editor or a compiler left beside them, of which git may be told to say nothing, is no part of it.
+find_parts() {
+    local name part
+    parts=(./crates.txt ./CHANGELOG.md ./LICENSE-{MIT,APACHE} ./c/bit_set.{h,hpp} ./c/example.{c,cc,out}
+        ./c/source/{Makefile,CMakeLists.txt,README.md,mem.c})
+    [ ! -f "$top/HANDLES" ] || parts+=(./HANDLES)
+    for name in "$top"/tests/c_*.[ch]; do
+        parts+=("./tests/${name##*/}")
+    done
+    for name in bit_set_c $(libraries_below); do
+        for part in src specs proofs; do
+            [ ! -d "$crates/$name/$part" ] || parts+=("crates/$name/$part")
+        done
+    done
+}
+
+# Writes all of the source release into a folder but for its assembly.
 write_source() {
     mkdir -p "$1"/{include,src,examples,tests}
     cp "$top"/c/source/{Makefile,CMakeLists.txt,README.md} "$top"/LICENSE-{MIT,APACHE} "$top/CHANGELOG.md" "$1"

@@ -1,55 +1,6 @@
 # What `./bitset` builds, and when: in a repository of three crates, each of which has a mark that the program then writes.
 # To be sourced by tests/scripts.sh.
 # shellcheck shell=bash disable=SC2154
-repository="$room/repository"
-
-# Writes the mark of a crate.
-mark() { echo "// mark: $2" > "$repository/crates/$1/src/marks.rt"; }
-
-set_up_repository() {
-    local crate
-    mkdir -p "$repository/tools" "$repository/crates"/{low,mid,bitset}/{src,specs,proofs}
-    cp "$top"/{bitset,look} "$repository"
-    cp "$top"/tools/{ending.sh,needed} "$repository/tools"
-    printf '%s\n' 'low:' 'mid: low' 'bitset: mid' > "$repository/crates.txt"
-    echo '# none' > "$repository/tools/left_out.txt"
-    for crate in low mid bitset; do
-        mark "$crate" 1
-        echo '// a source' | tee "$repository/crates/$crate/src/lib.rt" > "$repository/crates/$crate/src/main.rt"
-    done
-}
-
-# What the program writes that has these marks, of the lowest crate first.
-marks() { printf '%s\n' 'words: u8' "low: $1" "mid: $2" "bitset: $3"; }
-
-run() {
-    ended=0
-    "$@" "$repository/bitset" u8 < /dev/null > "$room/wrote" 2> "$room/said" || ended=$?
-}
-
-# Runs it, and looks at how it ended and which marks it wrote.
-expect_marks() {
-    local what="$1"
-    run
-    expect "$what: it ended with $ended: $(tail -n 1 "$room/said")" ends_with 0
-    expect "$what: another program was run" wrote "$(marks "${@:2}")"
-}
-
-# Starts it beside, until it proves a crate.
-begin_until() {
-    forget_calls
-    start_group "$repository/bitset" u8 < /dev/null > "$room/wrote" 2> "$room/said"
-    begun=$!
-    expect "it does not begin with $1" wait_until is_called "$1\$"
-}
-
-expect_begun() {
-    local what="$1"
-    finish "$begun"
-    expect "$what: it ended with $ended" ends_with 0
-    expect "$what: another program was run" wrote "$(marks "${@:2}")"
-}
-
 set_up_repository
 expect_marks 'from nothing' 1 1 1
 expect 'it does not say what it proves' says 'bitset: proving and building mid'
@@ -124,11 +75,11 @@ expect_marks 'with a change of an older source' 7 7 1
 # Another way to build the program, by a script that is newer than it.
 sleep 3.1
 expect_marks 'with older sources, before another script' 7 7 1
-sed 's/^compile() {/&\n    : another way/' "$room/script" > "$repository/bitset"
+sed 's/^compile() {/&\n    : another way/' "$top/tools/program.sh" > "$repository/tools/program.sh"
 forget_calls
 expect_marks 'with another way to build' 7 7 1
 expect 'it builds nothing in another way' is_called 'low$'
-cat "$room/script" > "$repository/bitset"
+cp "$top/tools/program.sh" "$repository/tools"
 mkdir -p "$repository/crates/mid/src/out"
 echo '// mark: inside' > "$repository/crates/mid/src/out/inside.rt"
 run
@@ -173,7 +124,7 @@ expect 'with a limit of the size of a file it succeeds' not ends_with 0
 # By the signal, or as an error where the signal is ignored.
 expect 'it does not say that a file is too large' grep -q -e 'File size limit exceeded' -e 'File too large' "$room/said"
 expect_marks 'without that limit' 7 10 1
-if [ "$(id -u)" -eq 0 ] && mkdir "$room/small" && mount -t tmpfs -o size=256k none "$room/small" 2> /dev/null; then
+if mount_disk size=256k "$room/small" './bitset on a full disk'; then
     mv "$repository/out" "$room/out"
     ln -s "$room/small" "$repository/out"
     run

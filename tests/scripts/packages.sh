@@ -77,7 +77,7 @@ chmod +x "$library/python/build"
 echo '*.py export-ignore' > "$room/attributes"
 in_library init -q && in_library add . && in_library commit -qm stand_in
 in_library config tar.umask 0177 && in_library config core.attributesFile "$room/attributes"
-(. "$top/tools/release/source.sh" && top="$library" commit=HEAD write_committed "$room/archived" python) > "$room/said" 2>&1
+(. "$top/tools/release/folder.sh" && here="$library" commit=HEAD write_committed "$room/archived" python) > "$room/said" 2>&1
 expect "git's tar.umask has a release lose rights: $(cat "$room/said")" [ -x "$room/archived/python/build" ]
 expect 'a file is left out of a release by attributes of its user' [ -f "$room/archived/python/faults.py" ]
 

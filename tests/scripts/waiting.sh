@@ -1,5 +1,6 @@
-# Two runs of `./bitset` in one repository, and its input and output. To be sourced by tests/scripts.sh, after bitset.sh.
+# Two runs of `./bitset` in one repository, and its input and output. To be sourced by tests/scripts.sh.
 # shellcheck shell=bash disable=SC2154
+set_up_repository
 
 # Starts a second run beside the one that begin_until began, and has what it writes and says in `second` and `waits`.
 begin_second() {
@@ -20,16 +21,16 @@ take_seconds 1
 mark low 20
 begin_until low
 begin_second
-expect_begun 'beside another' 20 11 1
-expect_second 'beside another' 20 11 1
+expect_begun 'beside another' 20 1 1
+expect_second 'beside another' 20 1 1
 expect 'two runs prove one crate twice' [ "$(calls 'low$')" -eq 1 ]
 
 mark low 21
 begin_until low
 begin_second
 mark low 22
-expect_begun 'beside another, with an edit' 21 11 1
-expect_second 'beside another, with an edit' 22 11 1
+expect_begun 'beside another, with an edit' 21 1 1
+expect_second 'beside another, with an edit' 22 1 1
 
 mark low 23
 begin_until low
@@ -37,8 +38,39 @@ kill -KILL "$begun"
 finish "$begun"
 take_seconds 0.1
 begin_second
-expect_second 'after a run that was killed' 23 11 1
+expect_second 'after a run that was killed' 23 1 1
 expect 'a prover outlives the runs' all_are_gone
+
+# A prover that outlives its run, and writes what it made of older sources once the folder was made anew. In the second
+# turn the file that says so is removed too.
+for removed in out 'out .bitset.lock'; do
+    mark low "24 $removed"
+    take_seconds 1
+    begin_until low
+    kill -KILL "$begun"
+    finish "$begun"
+    # shellcheck disable=SC2086  # each word is a name
+    (cd "$repository" && rm -rf $removed)
+    mark low "25 $removed"
+    take_seconds 0.1
+    echo 2 > "$STAND_INS/seconds.mid"
+    expect_marks "beside a prover that was left, without $removed" "25 $removed" 1 1
+    rm "$STAND_INS/seconds.mid"
+    expect_marks "after a prover that was left, without $removed" "25 $removed" 1 1
+done
+
+# Files of a library that change as a crate is proved over it.
+mark mid 2
+echo 1 > "$STAND_INS/seconds.mid"
+begin_until mid
+for file in "$repository"/out/low.rlib/*; do
+    echo 'low: another' > "$file"
+done
+finish "$begun"
+rm "$STAND_INS/seconds.mid"
+expect 'a program is run over a library that was changed' not grep -q another "$room/wrote"
+mark mid 1
+expect_marks 'after a library was changed' "25 out .bitset.lock" 1 1
 
 # Input and output that cannot be read and written.
 "$repository/bitset" <&- > "$room/wrote" 2> "$room/said"
@@ -52,7 +84,7 @@ mark low 25
 "$repository/bitset" < /dev/null >&- 2> "$room/said"
 ended=$?
 expect "with a closed output and a change it ends with $ended" ends_with 4
-expect 'what is built with a closed output is another program' [ "$("$repository/bitset" u8 < /dev/null)" = "$(marks 25 11 1)" ]
+expect 'what is built with a closed output is another program' [ "$("$repository/bitset" u8 < /dev/null)" = "$(marks 25 1 1)" ]
 
 look() {
     ended=0
@@ -90,7 +122,7 @@ expect "look with a full output ends with $ended" ends_with 4
 expect 'look does not say that it cannot write' says 'write failed'
 look < /dev/null >&-
 expect "look with a closed output ends with $ended" ends_with 4
-if [ "$(id -u)" -eq 0 ] && mkdir "$room/temporary_disk" && mount -t tmpfs -o size=64k none "$room/temporary_disk" 2> /dev/null; then
+if mount_disk size=64k "$room/temporary_disk" './look with a full disk for temporary files'; then
     head -c 200000 /dev/zero | TMPDIR="$room/temporary_disk" look > "$room/wrote"
     expect 'look does not say that the disk of its temporary files is full' says 'nothing more can be written'
     expect 'look leaves something on a full disk' is_empty "$room/temporary_disk"

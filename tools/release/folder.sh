@@ -1,4 +1,5 @@
-# The folder that a release is written into, where nothing changes before all is made. To be sourced by release.
+# The folder that a release is written into, where nothing changes before all is made, and the commit that it is made of.
+# To be sourced by release, with the top of the repository in `here`.
 # shellcheck shell=bash disable=SC2154
 
 # Ends the script unless this is an empty folder, or one that can be made. Its whole path is then in `released`.
@@ -17,17 +18,23 @@ look_at_folder() {
 # Whether all is as it was committed, but for that folder. No file is one at which git is told not to look.
 no_change() {
     local but=() changes files
-    [[ "$released" != "$top"/* ]] || but=(":(exclude,literal)${released#"$top"/}")
-    { changes="$(git status --porcelain --untracked-files=normal -- . "${but[@]}")" && files="$(git ls-files -v)"; } \
-        || stop "git does not read the repository in $top"
+    [[ "$released" != "$here"/* ]] || but=(":(exclude,literal)${released#"$here"/}")
+    { changes="$(git -C "$here" status --porcelain --untracked-files=normal -- . "${but[@]}")" \
+        && files="$(git -C "$here" ls-files -v)"; } || stop "git does not read the repository in $here"
     [ -z "$changes" ] && ! grep -qv '^H ' <<< "$files"
 }
 
 # Which commit is checked out, and of when it is. Who reads logs may have git write before each what it says of signatures.
 read_commit() {
-    commit="$(git rev-parse HEAD)"
-    SOURCE_DATE_EPOCH="$(git log -1 --no-show-signature --format=%ct)"
+    commit="$(git -C "$here" rev-parse HEAD)"
+    SOURCE_DATE_EPOCH="$(git -C "$here" log -1 --no-show-signature --format=%ct "$commit")"
     export SOURCE_DATE_EPOCH
+}
+
+# Writes the files of the commit into a folder, or some of its folders, whatever git is told of archives.
+#   write_committed FOLDER [NAME..]
+write_committed() {
+    git -C "$here" -c tar.umask=0022 -c core.attributesFile=/dev/null archive "$commit" "${@:2}" | tar x -C "$1"
 }
 
 # Writes what was made into the folder, at once: no signal ends it in between.

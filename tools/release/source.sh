@@ -20,9 +20,3 @@ make_source() {
     source="$room/bit_set-$version"
     abi="$(sed -n 's/^#define BIT_SET_ABI \(.*\)$/\1/p' "$source/include/bit_set.h")"
 }
-
-# Writes folders into another as they were committed, whatever git is told of archives.
-#   write_committed FOLDER NAME..
-write_committed() {
-    (cd "$top" && git -c tar.umask=0022 -c core.attributesFile=/dev/null archive "$commit" "${@:2}") | tar x -C "$1"
-}

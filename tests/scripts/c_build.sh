@@ -1,0 +1,101 @@
+# `c/build`, and tests that take long, which are ended by signals. To be sourced by tests/scripts.sh.
+# shellcheck shell=bash disable=SC2154
+set_up_repository
+set_up_library
+set_up_waiting
+expect 'c/build fails' "$library/c/build" "$room/built"
+for file in libbit_set.a libbit_set.so bit_set.h bit_set32.h bit_set.pc; do
+    expect "c/build makes no $file" [ -s "$room/built/$file" ]
+done
+expect 'c/build --proved fails' "$library/c/build" "$room/built" --proved
+expect 'c/build fails in a make that has another BUILD' env MAKEFLAGS=' -- BUILD=theirs' "$library/c/build" "$room/built" --proved
+expect 'c/build fails where make is to say alone what it would do' env MAKEFLAGS=n "$library/c/build" "$room/built" --proved
+expect 'c/build fails where options of bash are exported' with_options "$library/c/build" "$room/built" --proved
+expect 'c/build fails where its input is closed' "$library/c/build" "$room/built" --proved <&-
+for closed in '>&-' '2>&-' '<&- >&- 2>&-'; do
+    ended=0
+    eval '"$library/c/build" "$room/built" --proved > "$room/wrote" 2> "$room/said"' "$closed" || ended=$?
+    expect "c/build $closed ends with $ended" ends_with 0
+done
+mkdir "$room/who's"
+expect 'c/build fails where the path of its temporary files has a quote' env TMPDIR="$room/who's" "$library/c/build" "$room/built"
+expect 'c/build leaves temporary files' is_empty "$TMPDIR"
+for signal in HUP INT QUIT TERM; do
+    ended_by_signal c/build "$signal" 'bit_set_c$' "$library/c/build" "$room/built"
+    ended_by_signal 'c/build --proved' "$signal" 'bit_set_c$' "$library/c/build" "$room/built" --proved
+done
+
+# A disk that is full, or is only to be read: what is there stays.
+if mount_disk size=100k "$room/disk" 'c/build on a disk that is full or only to be read'; then
+    expect 'c/build fails on a small disk' "$library/c/build" "$room/disk" --proved
+    (cd "$room/disk" && find . -type f -exec sha256sum {} + | sort) > "$room/sums"
+    head -c 60000 /dev/zero > "$room/disk/theirs" 2> /dev/null
+    expect 'c/build succeeds on a full disk' not "$library/c/build" "$room/disk" --proved
+    rm "$room/disk/theirs"
+    expect 'c/build changes what is on a full disk' cmp "$room/sums" <(cd "$room/disk" && find . -type f -exec sha256sum {} + | sort)
+    mount -o remount,ro "$room/disk"
+    forget_calls
+    expect 'c/build succeeds on a disk that is only to be read' not "$library/c/build" "$room/disk" --proved
+    expect 'c/build proves what it cannot write' not is_called 'bit_set_c$'
+    umount "$room/disk"
+fi
+
+# A disk for temporary files from which no program is run.
+if mount_disk noexec "$room/no_programs" 'c/build with temporary files on a disk from which no program is run'; then
+    forget_calls
+    ended=0
+    TMPDIR="$room/no_programs" "$library/c/build" "$room/built" > "$room/wrote" 2> "$room/said" < /dev/null || ended=$?
+    expect "c/build on a disk with no programs ends with $ended" ends_with 1
+    expect 'c/build does not say that a disk has no programs' says 'set TMPDIR to another folder'
+    expect 'c/build proves what it cannot build' not is_called 'bit_set_c$'
+    expect 'c/build leaves something on a disk with no programs' is_empty "$room/no_programs"
+    umount "$room/no_programs"
+fi
+
+# The tests of edits, over libraries that are only named here.
+cp -r "$top"/tests/{edits,{edits,gate_edits}.txt,{edits,copies}.py,edits.sh} "$library/tests"
+for name in $(sed -n 's/^\([a-z_]*\):.*/\1/p' "$library/crates.txt"); do
+    mkdir -p "$library/crates/$name/out/rlib/$name.rlib"
+done
+for signal in HUP INT QUIT TERM; do
+    ended_by_signal tests/edits.sh "$signal" 'bit_set_c$' "$library/tests/edits.sh" bit_set_c
+done
+# What stands for the prover proves no crate.
+cp "$top"/tests/cost.{sh,py} "$library/tests"
+ended=0
+"$library/tests/cost.sh" bit_set_c > "$room/wrote" 2> "$room/said" < /dev/null || ended=$?
+expect "tests/cost.sh of what is not proved ends with $ended: $(cat "$room/said")" ends_with 1
+expect 'tests/cost.sh does not say what is not proved' grep -q '^bit_set_c .* NOT PROVED$' "$room/wrote"
+find "$library/crates" -mindepth 1 -maxdepth 1 ! -name bit_set_c -exec rm -r {} +
+
+# Tests that take long, over what only begins: the library for C, an edit that is compiled, the program's sources, and a
+# program that stands for those that are tried, and for what tries them.
+cp -r "$top"/tests/{{c,misuse}.sh,shim.c,c_surface.py} "$library/tests"
+mkdir "$library/tests/misuse" "$repository/tests"
+cp "$top/tests/first_run.sh" "$repository/tests"
+echo 'a text' > "$library/crates/bit_set_c/src/text.rt"
+printf '%s\n' 'crate: bit_set_c' 'file: src/text.rt' 'old: a text' 'new: another' 'says: none' > "$library/tests/misuse/a.edit"
+for signal in INT TERM; do
+    ended_by_signal tests/c.sh "$signal" 'bit_set_c$' "$library/tests/c.sh"
+    ended_by_signal tests/misuse.sh "$signal" try "$library/tests/misuse.sh"
+    ended_by_signal tests/first_run.sh "$signal" 'bitset$' "$repository/tests/first_run.sh"
+    ended_by_signal tests/program.sh "$signal" waits "$top/tests/program.sh" "$waits"
+    ended_by_signal tests/refusals.sh "$signal" waits "$top/tests/refusals.sh" "$waits" "$waits" "$waits"
+    ended_by_signal tests/scaling.sh "$signal" waits env PATH="$room/waiting:$PATH" "$top/tests/scaling.sh" "$waits"
+    ended_by_signal tests/add.sh "$signal" waits env PATH="$room/waiting:$PATH" "$top/tests/add.sh"
+done
+rm -r "$library/tests/misuse" "$library/crates/bit_set_c/src/text.rt"
+
+# Two runs for one folder: the second waits.
+take_seconds 1
+forget_calls
+start_group "$library/c/build" "$room/built" < /dev/null > "$room/wrote" 2> "$room/said"
+begun=$!
+expect 'c/build does not begin' wait_until is_called 'bit_set_c$'
+"$library/c/build" "$room/built" < /dev/null > "$room/second" 2> "$room/waits"
+ended=$?
+expect "a second c/build ended with $ended" ends_with 0
+expect 'a second c/build does not wait' grep -q 'another run' "$room/waits"
+finish "$begun"
+expect "c/build beside another ended with $ended" ends_with 0
+take_seconds 0.1
