@@ -1,11 +1,11 @@
-#!/usr/bin/env bash
+#!/usr/bin/env -S bash -p
 # Tries each edit of tests/edits.txt, or of the crates or the CRATE/EDIT that are named, over the libraries that the checkout has built,
 # and writes tests/edits.csv. A run that was stopped goes on where it was; --anew tries all again. The last line is
 # 'N passed, M failed'. With --left it tries none, and names those that were not rejected over the text that is there.
-# Bash runs this where `sh` is called too. Options of it that are exported, and what it is to read first, are for other scripts.
-{ [ -n "${BASH_VERSION:-}" ] && [[ ${SHELLOPTS@a}${BASHOPTS@a}${BASH_ENV+x} != *x* ]]; } || exec env -u SHELLOPTS -u BASHOPTS -u BASH_ENV bash "$0" "$@"
+case $- in *p*) ;; *) exec bash -p "$0" "$@" ;; esac
 set -euo pipefail
-unset CDPATH GLOBIGNORE POSIXLY_CORRECT
+# shellcheck source=tools/start.sh
+. "$(dirname "$(readlink -f "$0")")/../tools/start.sh"
 here="$(dirname "$(readlink -f "${BASH_SOURCE[0]}")")"
 # Whatever the locale, texts are UTF-8.
 export PYTHONUTF8=1

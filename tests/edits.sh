@@ -1,10 +1,10 @@
-#!/usr/bin/env bash
+#!/usr/bin/env -S bash -p
 # Tries the edits of these crates that tests/gate_edits.txt names, over the libraries below them as `rt ci` has just proved
 # them here. The last line is 'N passed, M failed'.
-# Bash runs this where `sh` is called too. Options of it that are exported, and what it is to read first, are for other scripts.
-{ [ -n "${BASH_VERSION:-}" ] && [[ ${SHELLOPTS@a}${BASHOPTS@a}${BASH_ENV+x} != *x* ]]; } || exec env -u SHELLOPTS -u BASHOPTS -u BASH_ENV bash "$0" "$@"
+case $- in *p*) ;; *) exec bash -p "$0" "$@" ;; esac
 set -euo pipefail
-unset CDPATH GLOBIGNORE POSIXLY_CORRECT
+# shellcheck source=tools/start.sh
+. "$(dirname "$(readlink -f "$0")")/../tools/start.sh"
 here="$(dirname "$(readlink -f "${BASH_SOURCE[0]}")")"
 # Whatever the locale, texts are UTF-8.
 export PYTHONUTF8=1

@@ -1,13 +1,13 @@
-#!/usr/bin/env bash
+#!/usr/bin/env -S bash -p
 # Counts the instructions of calls at a size n and at 16 n, by the built program `scaling` and valgrind's tool callgrind:
 # of four turns and of two, of which half the difference is a turn. Other work on the machine does not move these counts.
 #   tests/scaling.sh PROGRAM          compares each row with its bounds
 #   tests/scaling.sh PROGRAM --show   prints a line for each row too, with what it took
 # Where there is no valgrind, it says so and counts nothing. The last line is 'N passed, M failed'.
-# Bash runs this where `sh` is called too. Options of it that are exported, and what it is to read first, are for other scripts.
-{ [ -n "${BASH_VERSION:-}" ] && [[ ${SHELLOPTS@a}${BASHOPTS@a}${BASH_ENV+x} != *x* ]]; } || exec env -u SHELLOPTS -u BASHOPTS -u BASH_ENV bash "$0" "$@"
+case $- in *p*) ;; *) exec bash -p "$0" "$@" ;; esac
 set -uo pipefail
-unset CDPATH GLOBIGNORE POSIXLY_CORRECT
+# shellcheck source=tools/start.sh
+. "$(dirname "$(readlink -f "$0")")/../tools/start.sh"
 # Elsewhere awk may write a fraction with a comma, and then take it for text.
 export LC_ALL=C
 if [ $# -ne 1 ] && [ "$# ${2:-}" != '2 --show' ]; then

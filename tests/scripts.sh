@@ -122,6 +122,20 @@ with_options() {
         "${functions[@]}" "$@"
 }
 
+# Runs a command where `mktemp`, which it calls, adds a line to a script that runs then, and looks whether that is run too.
+#   expect_no_edit SCRIPT COMMAND..
+expect_no_edit() {
+    mkdir -p "$room/edits"
+    printf '%s\n' '#!/bin/sh' 'echo "touch \"\$ADDED.run\"" >> "$EDITED" && touch "$ADDED"' "exec $(type -P mktemp) \"\$@\"" \
+        > "$room/edits/mktemp"
+    chmod +x "$room/edits/mktemp"
+    rm -f "$room/added" "$room/added.run"
+    env EDITED="$1" ADDED="$room/added" PATH="$room/edits:$PATH" "${@:2}" < /dev/null > "$room/wrote" 2> "$room/said" || true
+    expect "$1 is not edited as it runs" [ -e "$room/added" ]
+    expect "an edit changes a run of $1" [ ! -e "$room/added.run" ]
+    sed -i '$d' "$1"
+}
+
 # The stand-ins as a toolchain, whose commands are on the PATH.
 set_up_toolchain() {
     export STAND_INS="$room/toolchain" TMPDIR="$room/temporary"

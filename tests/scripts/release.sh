@@ -20,6 +20,22 @@ for signal in HUP INT QUIT TERM; do
     ended_by_signal release "$signal" 'bit_set_c$' env PATH="$others:$PATH" "$library/release" "$room/released"
     expect "release by SIG$signal leaves a folder" [ ! -e "$room/released" ]
 done
+
+# An edit meanwhile that is taken back before the end: all is of the commit.
+mkdir -p "$library/crates/bit_blocks/src"
+echo '// mark: committed' | tee "$library/crates/bit_blocks/src/lib.rt" > "$library/crates/bit_set_c/src/marks.rt"
+in_library add . && in_library commit -qm marks
+echo 1 > "$STAND_INS/seconds.bit_blocks"
+forget_calls
+start_group env PATH="$others:$PATH" "$library/release" "$room/released" < /dev/null > "$room/wrote" 2> "$room/said"
+begun=$!
+expect 'release does not prove a library below' wait_until is_called 'bit_blocks$'
+echo '// mark: edited' > "$library/crates/bit_set_c/src/marks.rt"
+expect 'release proves nothing' wait_until [ -e "$STAND_INS/marks.bit_set_c" ]
+kill -s TERM "$begun"
+finish "$begun"
+expect 'release takes a text that is not committed' not grep -q edited "$STAND_INS/marks.bit_set_c"
+in_library reset -q --hard HEAD~1 && rm -rf "$library/crates/bit_blocks" "$STAND_INS/seconds.bit_blocks"
 release /usr/bin:/bin
 expect "release without rt ended with $ended" ends_with 127
 mkdir "$room/older"
@@ -109,6 +125,9 @@ for signal in HUP INT QUIT TERM; do
     CI='' ended_by_signal gate "$signal" 'ci$' "$library/gate"
     CI='' ended_by_signal tests/ahead.sh "$signal" 'ci roaring' "$library/tests/ahead.sh"
 done
+
+take_seconds 0.1
+CI='' expect_no_edit "$library/gate" "$library/gate"
 
 # Two runs in one checkout: the second waits.
 forget_calls

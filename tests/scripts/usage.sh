@@ -1,5 +1,6 @@
 # What scripts say of how they are called, and what `add` does with what is in its way. To be sourced by tests/scripts.sh.
 # shellcheck shell=bash disable=SC2154
+set_up_waiting
 
 for script in add bitset gate look c/build c/clients python/build release diff/run bench/run; do
     ended=0
@@ -34,14 +35,40 @@ expect 'add copies libraries where its usage cannot be written' [ ! -e "$room/no
 
 # Each script that bash runs.
 scripts() {
-    find "$top" "$top"/{bench,c,diff,diff/roaring,python,tests,tools} -maxdepth 1 -type f -exec sed -ns '1{/^#!.* bash$/F}' {} +
+    find "$top" "$top"/{bench,c,diff,diff/roaring,python,tests,tools} -maxdepth 1 -type f -exec sed -ns '1{/^#!.*bash/F}' {} +
 }
+
+# None calls a function or has an option that is exported. Each is run where there are no commands but those that its first
+# lines call, so that it does not get far.
+mkdir "$room/few_commands"
+for command in bash env readlink dirname; do
+    ln -s "$(type -P "$command")" "$room/few_commands"
+done
+functions=()
+for name in cd command declare dirname readlink set source unset; do
+    functions+=("BASH_FUNC_$name%%=() { builtin echo called > '$room/called'; }")
+done
 while read -r script; do
-    expect "$script has the options of bash that are exported" grep -q '^{ \[ -n "\${BASH_VERSION:-}" .* exec env -u SHELLOPTS ' "$script"
-    # What `exec` runs has the rest of a script in it.
-    expect "an edit changes a run of $script" grep -qE '^(# Bash reads all of this before|exec (python3|awk) )' "$script"
+    rm -f "$room/called"
+    env "${functions[@]}" SHELLOPTS=xtrace PATH="$room/few_commands" timeout 20 "$script" > "$room/wrote" 2> "$room/said" < /dev/null
+    expect "$script calls a function that is exported" [ ! -e "$room/called" ]
+    # What is at work for others with Python alone begins as bash that is told nothing.
+    [ "$script" = "$top/python/build" ] || expect "$script has an option that is exported" not grep -q '^+' "$room/said"
 done < <(scripts)
 expect 'there is no script' [ "$(scripts | wc -l)" -gt 20 ]
+
+# What they then do is the same.
+for words in tests/{add,c,scripts}.sh\ --wrong 'tests/cost.sh none' tests/{program,refusals,release}.sh tools/needed add\ --help \
+    {bitset,gate,look,c/build,c/clients,release,diff/run,bench/run}\ --help; do
+    for way in env with_options; do
+        ended=0
+        # shellcheck disable=SC2086  # a command and its words
+        "$way" "$top/"$words > "$room/by_$way" 2>&1 < /dev/null || ended=$?
+        echo "$ended" >> "$room/by_$way"
+    done
+    expect "$words does something else where options are exported: $(tail -n 3 "$room/by_with_options")" \
+        cmp "$room/by_env" "$room/by_with_options"
+done
 
 for words in --cpu '--cpu x86-64-v4' '--cpu x86-64-v3 --wrong' '--cpu=x86-64-v3' "$room/bench no-table"; do
     ended=0
@@ -218,6 +245,8 @@ for folder in crates/bit_words crates/../crates/bit_set/src; do
     expect "tools/needed takes what is in $folder away" [ -f "$from/crates/bit_words/src/bit_vec.rt" ]
 done
 
+expect_no_edit "$from/add" "$from/add"
+
 # A repository that is only to be read.
 chmod -R a-w "$from/crates"
 mkdir "$room/read_only"
@@ -227,15 +256,31 @@ expect 'add makes a copy that is only to be read' [ -z "$(find "$room/read_only/
 cd "$top" || exit 1
 
 # Without a folder for temporary files a script would work at the root of the file system.
-expect 'a test goes on without a temporary folder' not grep -rq 'mktemp -d)"$' "$top/tests" --include='*.sh'
-expect 'a test of a release goes on without a temporary folder' grep -qx 'make_room || exit 1' "$top/tests/release.sh"
+mkdir "$room/no_temporary"
+printf '%s\n' '#!/bin/sh' 'echo "mktemp: no folder" >&2' 'exit 1' > "$room/no_temporary/mktemp"
+for command in mkdir rm cp tar; do
+    printf '%s\n' '#!/bin/sh' "echo \"\$*\" | grep -qE '(^| )/[a-z_.]+( |\$)' && echo \"$command \$*\" >> '$room/works'" 'exit 1' \
+        > "$room/no_temporary/$command"
+done
+chmod +x "$room/no_temporary"/*
+for words in add.sh c.sh misuse.sh first_run.sh "program.sh $waits" "refusals.sh $waits $waits $waits" "release.sh $room/none" \
+    'scripts.sh waiting'; do
+    ended=0
+    # shellcheck disable=SC2086  # a script and its words
+    PATH="$room/no_temporary:$PATH" timeout 20 "$top/tests/"$words > "$room/wrote" 2> "$room/said" < /dev/null || ended=$?
+    expect "tests/$words goes on without a temporary folder" grep -qx '[12]' <<< "$ended"
+    expect "tests/$words works at the root of the file system: $(cat "$room/works")" [ ! -e "$room/works" ]
+done
 # A pipe ends as its last command does, whatever the program ended with that wrote into it.
 expect 'a test of a release loses how a program ends' not grep -rqE '[^|][|] cmp ' "$top/tests/release"
 
 # A hook of git says to all that it runs which repository is its own, and that one is not to be changed.
-for script in gate release tests/scripts.sh tests/add.sh; do
-    expect "$script works in the repository whose hook runs it" grep -q '^unset GIT_DIR ' "$top/$script"
-done
+git init -q "$room/of_hook"
+find "$room/of_hook" | sort > "$room/of_hook_before"
+mkdir "$room/by_hook"
+(cd "$room/by_hook" && touch .git && GIT_DIR="$room/of_hook/.git" GIT_INDEX_FILE="$room/of_hook/.git/index" "$from/add") \
+    > "$room/wrote" 2> "$room/said" < /dev/null
+expect 'add works in the repository whose hook runs it' cmp "$room/of_hook_before" <(find "$room/of_hook" | sort)
 
 # Each call that is given a row looks first where C asks for it. An entry may be any number.
 while read -r call; do
