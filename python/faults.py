@@ -12,7 +12,9 @@ import ctypes
 import functools
 import gc
 import itertools
+import os
 import pickle
+import resource
 import sys
 import threading
 import unittest
@@ -203,6 +205,15 @@ class Beside(unittest.TestCase):
                 for name in (*OPERATORS, *COMPARISONS):
                     self.same(name, iterables, place)
 
+    def test_sets_with_items_that_raise(self):
+        def make(_):
+            for rest in ((), (1,), (1, 2), (2, 70), (1, 2, 70, 400), (1, 2, 70, 400, 500), range(100, 200)):
+                yield from ({*rest, Equal()}, frozenset([Equal(), *rest]), {*rest, 3}, {*rest, 3.0})
+
+        for place in range(len(list(make(None)))):
+            for name in (*OPERATORS, *COMPARISONS, *IN_PLACE, *NEW, *TESTS):
+                self.same(name, make, place)
+
     def test_several_iterables(self):
         places = [at for at, it in enumerate(iterables(BitSet())) if not isinstance(it, (list, tuple)) or at % 7 == 0]
         for name in (*IN_PLACE, *NEW):
@@ -333,6 +344,32 @@ def held(make_ready, times):
     for _ in range(times):
         raised(make_ready())
     return tuple(after - had for after, had in zip(in_use(), before))
+
+
+class Memory(unittest.TestCase):
+    @unittest.skipIf("asan" in os.environ.get("LD_PRELOAD", ""), "the sanitizer ends the process")
+    @unittest.skipUnless(os.path.exists("/proc/self/statm"), "the system does not tell how much memory there is")
+    def test_the_library_finds_no_memory(self):
+        """Calls with sets of some 60 megabytes, where a sixteenth of that is left: the operands stay as they were."""
+        far = 5 * 10**8
+        models = {1, 5}, {1, far}, {2, far + 10**6}
+        few, one, other = sets = [BitSet(model) for model in models]
+        failing = ("__or__", "__xor__", "__ior__", "__ixor__", "union", "symmetric_difference", "update")
+        calls = [bound(a, name, b) for name in failing for a, b in ((few, one), (one, other), (few, {far}))]
+        calls += [bound(one, name, other) for name in (*OPERATORS, *NEW, *IN_PLACE) if name[2] != "r"]
+        calls += [one.copy, functools.partial(BitSet, one), bound(BitSet(), "__init__", one), bound(BitSet, "from_range", 0, far)]
+        with open("/proc/self/statm", encoding="ascii") as numbers:
+            size = int(numbers.read().split()[0]) * resource.getpagesize()
+        limits = resource.getrlimit(resource.RLIMIT_AS)
+        resource.setrlimit(resource.RLIMIT_AS, (size + 2**22, limits[1]))
+        try:
+            outcomes = [raised(call) for call in calls]
+            found = few & one, one & few, few - one, few <= one, one.isdisjoint(other)
+        finally:
+            resource.setrlimit(resource.RLIMIT_AS, limits)
+        self.assertEqual(outcomes, [MemoryError] * len(calls))
+        self.assertEqual(found, ({1}, {1}, {5}, False, True))
+        self.assertEqual([sorted(set_) for set_ in sets], [[1, 5], [1, far], [2, far + 10**6]])
 
 
 class Threads(unittest.TestCase):

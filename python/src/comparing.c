@@ -1,6 +1,9 @@
 /* Which of two sets has the other, and how many members they have between them. */
 #include "set.h"
 
+/* So many numbers have one block of the summary; and so many items are looked at before members are counted. */
+enum { SUMMARY_BLOCK = 64 * 64, GLANCE = 64 };
+
 static int has(void *self, PyObject *item)
 {
     return set_contains(self, item);
@@ -17,6 +20,25 @@ static int is_in(void *container, PyObject *member)
     return PySequence_Contains(container, member);
 }
 
+/* A set, and how many more items are looked at. */
+struct glance {
+    PyObject *set;
+    int left;
+};
+
+/* 2 where no more are looked at. */
+static int lacks_at_glance(void *with, PyObject *item)
+{
+    struct glance *glance = with;
+    return glance->left-- > 0 ? lacks(glance->set, item) : 2;
+}
+
+static int is_out(void *container, PyObject *member)
+{
+    int found = PySequence_Contains(container, member);
+    return found < 0 ? found : !found;
+}
+
 /* Whether each item of an iterable is a member: 1, 0, or -1 with an exception. */
 static int has_each(PyObject *self, PyObject *iterable)
 {
@@ -27,6 +49,50 @@ static int has_each(PyObject *self, PyObject *iterable)
 static int is_within(PyObject *self, PyObject *container)
 {
     return each_item(set_iter(self), is_in, container);
+}
+
+/* Below 0 where a set has fewer members than so many, 0 where as many, and above 0 where more. Reads no more than tells. */
+static int compare_count(const bit_set *set, size_t count)
+{
+    if (count == 0)
+        return !bit_set_is_empty(set);
+    size_t last = count > bit_set_length(set) ? NO_MEMBER : bit_set_nth(set, 0, count - 1);
+    return last == NO_MEMBER ? -1 : bit_set_next(set, last + 1) != NO_MEMBER;
+}
+
+/* Whether an iterable is a set of Python's with more items than the set has members, so that a look-up of each member is less
+ * work than one of each item. To count costs about as much as one of these for each summary block. */
+bool has_less_members(PyObject *self, PyObject *iterable)
+{
+    size_t items = PyAnySet_CheckExact(iterable) ? (size_t)PySet_Size(iterable) : 0;
+    return items > bit_set_length(set_of(self)) / SUMMARY_BLOCK && compare_count(set_of(self), items) < 0;
+}
+
+/* Whether a look at the first item of one set finds that another lacks it, so that their counts, for which a bit set is read,
+ * need no look. What is raised then, the look at each item raises, unless the counts tell that none is to be asked. */
+static bool lacks_first(look *look_at, void *with, PyObject *first)
+{
+    int found = first ? look_at(with, first) : -1;
+    Py_XDECREF(first);
+    PyErr_Clear();
+    return found == 0;
+}
+
+static bool begins_outside(PyObject *self, PyObject *other)
+{
+    size_t first = bit_set_first(set_of(self));
+    return first != NO_MEMBER && PyAnySet_CheckExact(other) && lacks_first(is_in, other, int_of(first));
+}
+
+/* Of many items the first may be far into their table, and a set with about as many is counted faster. */
+static bool has_outside(PyObject *self, PyObject *other)
+{
+    bool has_few = PyAnySet_CheckExact(other) && (size_t)PySet_Size(other) < bit_set_length(set_of(self)) / 8;
+    PyObject *items = has_few ? PyObject_GetIter(other) : NULL;
+    bool is_outside = items && lacks_first(has, self, PyIter_Next(items));
+    Py_XDECREF(items);
+    PyErr_Clear();
+    return is_outside;
 }
 
 static int compare_with_bit_set(PyObject *self, PyObject *other, int operation)
@@ -42,22 +108,40 @@ static int compare_with_bit_set(PyObject *self, PyObject *other, int operation)
     }
 }
 
-/* With a set of another kind, by its count first. */
+/* An int is in both or shows that the sets differ: 1 or 0. Of another item that is not said: 2. */
+static int is_int_of_both(void *self, PyObject *item)
+{
+    return PyLong_CheckExact(item) ? set_contains(self, item) : 2;
+}
+
+/* Whether the members are the items of a set of another kind, which has as many. A walk over a bit set makes each int, so one
+ * over a set of Python's is faster. */
+static int is_same(PyObject *self, PyObject *other)
+{
+    int found = PyAnySet_CheckExact(other) ? each_item(PyObject_GetIter(other), is_int_of_both, self) : 2;
+    return found == 2 ? is_within(self, other) : found;
+}
+
+/* With a set of another kind, by the counts first. */
 static int compare_with_set(PyObject *self, PyObject *other, int operation)
 {
-    Py_ssize_t count = set_length(self), others = PyObject_Size(other);
-    if (others < 0)
-        return -1;
-    switch (operation) {
-    case Py_EQ: return count == others ? is_within(self, other) : 0;
-    case Py_LE: return count <= others ? is_within(self, other) : 0;
-    case Py_LT: return count < others ? is_within(self, other) : 0;
-    case Py_GE: return count >= others ? has_each(self, other) : 0;
-    case Py_GT: return count > others ? has_each(self, other) : 0;
-    default: {
+    if (operation == Py_NE) {
         int is_equal = compare_with_set(self, other, Py_EQ);
         return is_equal < 0 ? is_equal : !is_equal;
     }
+    bool is_for_more = operation == Py_GE || operation == Py_GT;
+    if (is_for_more ? has_outside(self, other) : begins_outside(self, other))
+        return 0;
+    Py_ssize_t others = PyObject_Size(other);
+    if (others < 0)
+        return -1;
+    int more = compare_count(set_of(self), (size_t)others);
+    switch (operation) {
+    case Py_EQ: return more == 0 ? is_same(self, other) : 0;
+    case Py_LE: return more == 0 ? is_same(self, other) : more < 0 ? is_within(self, other) : 0;
+    case Py_LT: return more < 0 ? is_within(self, other) : 0;
+    case Py_GE: return more >= 0 ? has_each(self, other) : 0;
+    default: return more > 0 ? has_each(self, other) : 0;
     }
 }
 
@@ -82,6 +166,8 @@ PyObject *set_issuperset(PyObject *self, PyObject *items)
 {
     if (is_bit_set(items))
         return truth_if(bit_set_is_subset(set_of(items), set_of(self)));
+    if (PyAnySet_Check(items))
+        return truth_if(compare_with_set(self, items, Py_GE));
     return truth_if(has_each(self, items));
 }
 
@@ -91,16 +177,26 @@ PyObject *set_issubset(PyObject *self, PyObject *items)
         return truth_if(bit_set_is_subset(set_of(self), set_of(items)));
     if (PyAnySet_Check(items))
         return truth_if(compare_with_set(self, items, Py_LE));
-    size_t others;
-    PyObject *met = members_among(self, items, &others);
-    Py_XDECREF(met);
-    return truth_if(met ? others == 0 : -1);
+    return truth_if(is_among(self, items));
+}
+
+/* Sets that have some in common mostly show it soon. */
+static int is_disjoint_from_set(PyObject *self, PyObject *set)
+{
+    struct glance glance = {self, GLANCE};
+    int found = each_item(PyObject_GetIter(set), lacks_at_glance, &glance);
+    if (found != 2)
+        return found;
+    return has_less_members(self, set) ? each_item(set_iter(self), is_out, set)
+                                       : each_item(PyObject_GetIter(set), lacks, self);
 }
 
 PyObject *set_isdisjoint(PyObject *self, PyObject *iterable)
 {
     if (is_bit_set(iterable))
         return truth_if(bit_set_is_disjoint(set_of(self), set_of(iterable)));
+    if (PyAnySet_CheckExact(iterable))
+        return truth_if(is_disjoint_from_set(self, iterable));
     return truth_if(each_item(PyObject_GetIter(iterable), lacks, self));
 }
 

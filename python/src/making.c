@@ -64,44 +64,80 @@ bool put(PyObject *self, PyObject *member)
     return false;
 }
 
+/* Puts numbers in up to the first that cannot go in, and returns how many. Memory for the greatest is asked for first, so that
+ * the set grows once; without it those go in that come before the first that finds none. */
+static size_t insert_group(PyObject *self, const size_t *group, size_t count)
+{
+    size_t greatest = 0;
+    for (size_t at = 0; at < count; at++)
+        if (group[at] > greatest && group[at] != NO_MEMBER)
+            greatest = group[at];
+    if (greatest >= bit_set_capacity(set_of(self)))
+        (void)!bit_set_reserve(set_of(self), greatest + 1);
+    return bit_set_insert_members(set_of(self), group, count);
+}
+
 static bool put_group(PyObject *self, const size_t *group, size_t count)
 {
-    if (bit_set_insert_members(set_of(self), group, count) == count)
+    if (insert_group(self, group, count) == count)
         return true;
     PyErr_NoMemory();
+    return false;
+}
+
+/* Numbers that are gathered for a set, which takes many at a time. */
+struct gathered {
+    PyObject *set;
+    size_t count;
+    size_t group[GROUP];
+};
+
+static int gather(void *with, PyObject *item)
+{
+    struct gathered *numbers = with;
+    if (!read_member(item, &numbers->group[numbers->count]))
+        return -1;
+    if (++numbers->count < GROUP)
+        return 1;
+    numbers->count = 0;
+    return put_group(numbers->set, numbers->group, GROUP) ? 1 : -1;
+}
+
+/* Puts in what is left, also where an exception is raised. Returns whether all is in. */
+static bool put_rest(struct gathered *numbers)
+{
+    PyObject *type, *value, *trace;
+    PyErr_Fetch(&type, &value, &trace);
+    if (put_group(numbers->set, numbers->group, numbers->count)) {
+        PyErr_Restore(type, value, trace);
+        return !type;
+    }
+    Py_XDECREF(type);
+    Py_XDECREF(value);
+    Py_XDECREF(trace);
     return false;
 }
 
 /* The items of a list or a tuple. Those before one that cannot go in are in too. */
 static bool put_items(PyObject *self, PyObject *items)
 {
+    struct gathered numbers = {.set = self, .count = 0};
     bool is_list = PyList_Check(items), is_good = true;
-    size_t group[GROUP], count = 0;
     Py_ssize_t size = PySequence_Size(items);
-    for (Py_ssize_t at = 0; at < size; at++) {
+    for (Py_ssize_t at = 0; is_good && at < size; at++) {
         PyObject *item = is_list ? PyList_GetItem(items, at) : PyTuple_GetItem(items, at);
         /* A list may become shorter meanwhile, by the `__index__` of an item. */
-        is_good = item && read_member(item, &group[count]);
-        if (!is_good)
-            break;
-        if (++count == GROUP) {
-            if (!put_group(self, group, count))
-                return false;
-            count = 0;
-        }
+        is_good = item && gather(&numbers, item) == 1;
     }
-    if (is_good)
-        return put_group(self, group, count);
-    PyObject *type, *value, *trace;
-    PyErr_Fetch(&type, &value, &trace);
-    if (put_group(self, group, count)) {
-        PyErr_Restore(type, value, trace);
-    } else {
-        Py_XDECREF(type);
-        Py_XDECREF(value);
-        Py_XDECREF(trace);
-    }
-    return false;
+    return put_rest(&numbers);
+}
+
+/* The same of a set of Python's, over which no code of the user's walks. */
+static bool put_set(PyObject *self, PyObject *items)
+{
+    struct gathered numbers = {.set = self, .count = 0};
+    each_item(PyObject_GetIter(items), gather, &numbers);
+    return put_rest(&numbers);
 }
 
 static int put_item(void *self, PyObject *item)
@@ -158,7 +194,7 @@ static bool put_numbers(PyObject *self, const char *bytes, size_t size, size_t w
         size_t count = size - start < GROUP ? size - start : GROUP;
         for (size_t at = 0; at < count; at++)
             group[at] = number_at(bytes, width, is_signed, start + at);
-        size_t done = bit_set_insert_members(set_of(self), group, count);
+        size_t done = insert_group(self, group, count);
         if (done == count)
             continue;
         if (group[done] != NO_MEMBER)
@@ -221,6 +257,8 @@ bool put_all(PyObject *self, PyObject *members)
     }
     if (PyList_CheckExact(members) || PyTuple_CheckExact(members))
         return put_items(self, members);
+    if (PyAnySet_CheckExact(members))
+        return put_set(self, members);
     enum reading done = put_buffer(self, members);
     return done == NO_NUMBER ? each_item(PyObject_GetIter(members), put_item, self) == 1 : done == NUMBER;
 }
@@ -232,7 +270,14 @@ int set_init(PyObject *self, PyObject *arguments, PyObject *named)
     if (!PyArg_ParseTupleAndKeywords(arguments, named, "|O:BitSet", names, &members))
         return -1;
     bit_set_reset(set_of(self));
-    return members && !put_all(self, members) ? -1 : 0;
+    if (!members || members == self)
+        return 0;
+    if (!is_bit_set(members))
+        return put_all(self, members) ? 0 : -1;
+    if (bit_set_copy(set_of(self), set_of(members)))
+        return 0;
+    PyErr_NoMemory();
+    return -1;
 }
 
 /* A bit set of the members of an iterable: itself where it is one. A new reference. */
@@ -242,7 +287,10 @@ PyObject *as_bit_set(PyObject *members)
         Py_INCREF(members);
         return members;
     }
-    return PyObject_CallFunctionObjArgs((PyObject *)bit_set_type, members, NULL);
+    PyObject *made = set_new(bit_set_type, NULL, NULL);
+    if (made && !put_all(made, members))
+        Py_CLEAR(made);
+    return made;
 }
 
 PyObject *set_add(PyObject *self, PyObject *member)

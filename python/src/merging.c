@@ -2,24 +2,70 @@
  * that set, or none. */
 #include "set.h"
 
+/* How many bits a block has. */
+enum { WIDTH = 8 * sizeof(bit_set_block) };
+
+/* A new set that a call fills from two others. */
+static PyObject *filled(PyTypeObject *type, PyObject *one, PyObject *other,
+                        int32_t (*call)(bit_set *, const bit_set *, const bit_set *))
+{
+    PyObject *made = set_new(type, NULL, NULL);
+    return made ? made_if(call(set_of(made), set_of(one), set_of(other)) >= 0, made) : NULL;
+}
+
+static size_t blocks_of(PyObject *self)
+{
+    return (bit_set_length(set_of(self)) + (WIDTH - 1)) / WIDTH;
+}
+
+/* A new set of what two bit sets make. What both have takes the blocks of the shorter one, and a difference those of the
+ * first: a copy that is merged in place would have those of the longer one. */
+static PyObject *merged_sets(PyTypeObject *type, PyObject *left, PyObject *right, merge *call)
+{
+    size_t count = blocks_of(left), others = blocks_of(right);
+    PyObject *shorter = count < others ? left : right, *longer = count < others ? right : left;
+    if (call == bit_set_intersect_with && count != others)
+        return filled(type, shorter, longer, bit_set_union_with_intersection);
+    if (call == bit_set_difference_with && count < others)
+        return filled(type, left, right, bit_set_become_difference);
+    PyObject *made = copy_as(type, longer);
+    return made ? made_if(call(set_of(made), set_of(shorter)), made) : NULL;
+}
+
+/* Gives a set the members of one that was made for it, which may be NULL. */
+static bool becomes(PyObject *self, PyObject *made)
+{
+    if (!made)
+        return false;
+    bit_set *set = set_of(self);
+    ((BitSet *)self)->set = set_of(made);
+    ((BitSet *)made)->set = set;
+    Py_DECREF(made);
+    return true;
+}
+
+/* Whether a merge in place would make the set grow for numbers that are not in the result. */
+static bool grows_in_vain(PyObject *self, PyObject *other, merge *call)
+{
+    return (call == bit_set_intersect_with || call == bit_set_difference_with)
+        && bit_set_length(set_of(other)) > bit_set_capacity(set_of(self));
+}
+
 static bool merge_with(PyObject *self, PyObject *other, merge *call)
 {
-    bool found = true;
-    if (self != other)
-        found = call(set_of(self), set_of(other));
-    else if (call == bit_set_difference_with || call == bit_set_symmetric_difference_with)
-        bit_set_make_empty(set_of(self));
+    if (self == other) {
+        if (call == bit_set_difference_with || call == bit_set_symmetric_difference_with)
+            bit_set_reset(set_of(self));
+        return true;
+    }
+    if (grows_in_vain(self, other, call))
+        return becomes(self, merged_sets(bit_set_type, self, other, call));
+    if (call == bit_set_intersect_with && bit_set_length(set_of(other)) < bit_set_length(set_of(self)))
+        bit_set_truncate(set_of(self), bit_set_length(set_of(other)));
+    bool found = call(set_of(self), set_of(other));
     if (!found)
         PyErr_NoMemory();
     return found;
-}
-
-/* Exchanges the members of two sets. */
-static void exchange(PyObject *one, PyObject *other)
-{
-    bit_set *set = set_of(one);
-    ((BitSet *)one)->set = set_of(other);
-    ((BitSet *)other)->set = set;
 }
 
 static int take_out_item(void *self, PyObject *item)
@@ -27,10 +73,10 @@ static int take_out_item(void *self, PyObject *item)
     return take_out(self, item) == FAILED ? -1 : 1;
 }
 
-/* A set, another that is made of items, and how many members of the set are not in that yet. */
+/* A set, another that is made of items, and the least member of the set that is not in that yet, or NO_MEMBER. */
 struct made_of_items {
     PyObject *set, *made;
-    size_t left;
+    size_t missing;
 };
 
 /* Puts an item in that is a member, until all are in: as with Python's own sets, no more items are asked for then. */
@@ -41,34 +87,72 @@ static int put_member(void *with, PyObject *item)
     enum reading reading = read_equal(sets->set, item, &number);
     if (reading != NUMBER || !bit_set_contains(set_of(sets->set), number))
         return reading == FAILED ? -1 : 1;
-    int32_t answer = bit_set_insert(set_of(sets->made), number);
-    if (answer == BIT_SET_YES)
-        sets->left--;
-    else if (answer != BIT_SET_NO)
+    if (bit_set_insert(set_of(sets->made), number) < 0) {
         PyErr_NoMemory();
-    return answer < 0 ? -1 : sets->left > 0;
+        return -1;
+    }
+    while (sets->missing != NO_MEMBER && bit_set_contains(set_of(sets->made), sets->missing))
+        sets->missing = bit_set_next(set_of(sets->set), sets->missing + 1);
+    return sets->missing != NO_MEMBER;
 }
 
-/* The members that are items of an iterable, as a new set, and how many are not. What equals no member is passed over. */
-PyObject *members_among(PyObject *self, PyObject *iterable, size_t *others)
+/* The members that are items of an iterable, as a new set, and whether all are. What equals no member is passed over. */
+static PyObject *members_among(PyTypeObject *type, PyObject *self, PyObject *iterable, bool *are_all)
 {
-    struct made_of_items sets = {self, set_new(bit_set_type, NULL, NULL), bit_set_count(set_of(self))};
+    struct made_of_items sets = {self, set_new(type, NULL, NULL), bit_set_first(set_of(self))};
     if (sets.made && each_item(PyObject_GetIter(iterable), put_member, &sets) < 0)
         Py_CLEAR(sets.made);
-    *others = sets.left;
+    *are_all = sets.missing == NO_MEMBER;
     return sets.made;
 }
 
-/* Keeps these members. All stay where the iterable raises. */
-static bool keep_each(PyObject *self, PyObject *iterable)
+/* Whether each member is an item of an iterable: 1, 0, or -1 with an exception. */
+int is_among(PyObject *self, PyObject *iterable)
 {
-    size_t others;
-    PyObject *made = members_among(self, iterable, &others);
-    if (!made)
-        return false;
-    exchange(self, made);
-    Py_DECREF(made);
-    return true;
+    bool are_all;
+    PyObject *met = members_among(bit_set_type, self, iterable, &are_all);
+    Py_XDECREF(met);
+    return met ? are_all : -1;
+}
+
+static int put_common(void *with, PyObject *member)
+{
+    struct made_of_items *sets = with;
+    int is_in = PySequence_Contains(sets->set, member);
+    return is_in > 0 ? (put(sets->made, member) ? 1 : -1) : is_in < 0 ? -1 : 1;
+}
+
+/* What a set and an iterable have in common, as a new set. As with Python's own sets, the smaller of two is walked. */
+static PyObject *common(PyTypeObject *type, PyObject *self, PyObject *iterable)
+{
+    bool are_all;
+    if (!has_less_members(self, iterable))
+        return members_among(type, self, iterable, &are_all);
+    struct made_of_items sets = {iterable, set_new(type, NULL, NULL), NO_MEMBER};
+    if (sets.made && each_item(set_iter(self), put_common, &sets) < 0)
+        Py_CLEAR(sets.made);
+    return sets.made;
+}
+
+/* A set, and another of Python's. */
+struct two_sets {
+    PyObject *set, *other;
+};
+
+static int take_out_common(void *with, PyObject *member)
+{
+    struct two_sets *sets = with;
+    int is_in = PySequence_Contains(sets->other, member);
+    return is_in > 0 ? take_out_item(sets->set, member) : is_in < 0 ? -1 : 1;
+}
+
+/* Takes out what is an item of an iterable. */
+static bool take_out_each(PyObject *self, PyObject *iterable)
+{
+    struct two_sets sets = {self, iterable};
+    if (has_less_members(self, iterable))
+        return each_item(set_iter(self), take_out_common, &sets) == 1;
+    return each_item(PyObject_GetIter(iterable), take_out_item, self) == 1;
 }
 
 static int put_other(void *with, PyObject *item)
@@ -95,9 +179,10 @@ static bool merge_iterable(PyObject *self, PyObject *iterable, merge *call)
     if (is_bit_set(iterable))
         return merge_with(self, iterable, call);
     if (call == bit_set_difference_with)
-        return each_item(PyObject_GetIter(iterable), take_out_item, self) == 1;
+        return take_out_each(self, iterable);
+    /* All stay where the iterable raises. */
     if (call == bit_set_intersect_with)
-        return keep_each(self, iterable);
+        return becomes(self, common(bit_set_type, self, iterable));
     PyObject *other = as_bit_set(iterable);
     bool is_done = other && merge_with(self, other, call);
     Py_XDECREF(other);
@@ -112,13 +197,32 @@ static PyObject *merge_each(PyObject *self, PyObject *iterables, merge *call)
     return reference_to(Py_None);
 }
 
-/* A copy that is merged, or NULL. */
-static PyObject *merged_with_each(PyObject *made, PyObject *iterables, merge *call)
+/* A new set of what a set and an iterable make. */
+static PyObject *merged(PyTypeObject *type, PyObject *self, PyObject *iterable, merge *call)
 {
-    PyObject *done = made ? merge_each(made, iterables, call) : NULL;
-    if (!done)
+    if (is_bit_set(iterable))
+        return merged_sets(type, self, iterable, call);
+    if (call == bit_set_intersect_with)
+        return common(type, self, iterable);
+    if (call == bit_set_symmetric_difference_with) {
+        PyObject *made = set_new(type, NULL, NULL);
+        if (made && !(put_all(made, iterable) && merge_with(made, self, call)))
+            Py_CLEAR(made);
+        return made;
+    }
+    PyObject *made = copy_as(type, self);
+    if (made && !merge_iterable(made, iterable, call))
         Py_CLEAR(made);
-    Py_XDECREF(done);
+    return made;
+}
+
+static PyObject *merged_with_each(PyTypeObject *type, PyObject *self, PyObject *iterables, merge *call)
+{
+    Py_ssize_t count = PyTuple_Size(iterables);
+    PyObject *made = count ? merged(type, self, PyTuple_GetItem(iterables, 0), call) : copy_as(type, self);
+    for (Py_ssize_t at = 1; made && at < count; at++)
+        if (!merge_iterable(made, PyTuple_GetItem(iterables, at), call))
+            Py_CLEAR(made);
     return made;
 }
 
@@ -136,27 +240,24 @@ PyObject *set_difference_update(PyObject *self, PyObject *others)
  * own sets. */
 PyObject *set_intersection_update(PyObject *self, PyObject *others)
 {
-    PyObject *made = merged_with_each(copy_as(bit_set_type, self), others, bit_set_intersect_with);
-    if (!made)
-        return NULL;
-    exchange(self, made);
-    Py_DECREF(made);
-    return reference_to(Py_None);
+    if (PyTuple_Size(others) == 1)
+        return merge_each(self, others, bit_set_intersect_with);
+    return becomes(self, merged_with_each(bit_set_type, self, others, bit_set_intersect_with)) ? none_if(true) : NULL;
 }
 
 PyObject *set_union(PyObject *self, PyObject *others)
 {
-    return merged_with_each(set_copy(self, NULL), others, bit_set_union_with);
+    return merged_with_each(Py_TYPE(self), self, others, bit_set_union_with);
 }
 
 PyObject *set_intersection(PyObject *self, PyObject *others)
 {
-    return merged_with_each(set_copy(self, NULL), others, bit_set_intersect_with);
+    return merged_with_each(Py_TYPE(self), self, others, bit_set_intersect_with);
 }
 
 PyObject *set_difference(PyObject *self, PyObject *others)
 {
-    return merged_with_each(set_copy(self, NULL), others, bit_set_difference_with);
+    return merged_with_each(Py_TYPE(self), self, others, bit_set_difference_with);
 }
 
 /* Of one iterable alone, as with Python's own sets. */
@@ -167,12 +268,7 @@ PyObject *set_symmetric_difference_update(PyObject *self, PyObject *members)
 
 PyObject *set_symmetric_difference(PyObject *self, PyObject *members)
 {
-    PyObject *made = set_copy(self, NULL);
-    if (made && !merge_iterable(made, members, bit_set_symmetric_difference_with)) {
-        Py_DECREF(made);
-        return NULL;
-    }
-    return made;
+    return merged(Py_TYPE(self), self, members, bit_set_symmetric_difference_with);
 }
 
 /* Whether an operator takes this: a bit set, or what is a Set of collections.abc. */
@@ -197,11 +293,11 @@ static PyObject *operate(PyObject *left, PyObject *right, merge *call)
     }
     if (call == bit_set_difference_with && !is_bit_set(left))
         return others_than(right, left);
-    PyObject *made = is_bit_set(left) ? set_copy(left, NULL) : as_bit_set(left);
-    if (made && !merge_iterable(made, right, call)) {
-        Py_DECREF(made);
-        return NULL;
-    }
+    if (is_bit_set(left))
+        return merged(Py_TYPE(left), left, right, call);
+    PyObject *made = as_bit_set(left);
+    if (made && !merge_iterable(made, right, call))
+        Py_CLEAR(made);
     return made;
 }
 

@@ -76,7 +76,12 @@ static PyMemberDef members[] = MEMBERS(BitSet), matrix_members[] = MEMBERS(BitMa
 enum { FLAGS = Py_TPFLAGS_DEFAULT | Py_TPFLAGS_HAVE_VERSION_TAG };
 
 static PyType_Slot set_slots[] = {
-    {Py_tp_doc, "BitSet(members=())\n--\n\nA set of numbers from 0 to MAX_ELEMENT, as a MutableSet."},
+    {Py_tp_doc, "BitSet(members=())\n--\n\nA set of numbers from 0 to MAX_ELEMENT, as a MutableSet.\n\n"
+        "It takes a bit for each number up to its greatest member, and what makes a set writes all bits of that one: a set of\n"
+        "few numbers that are far apart takes more memory and time than one of Python's. The result of & and - has at most the\n"
+        "bits of the shorter operand, or of the first.\n\n"
+        "len counts the members, which reads the set: about 10 microseconds below a million. So do ==, <= and < beside a set\n"
+        "of Python's that has about as many. bool, first and last read no more than they need."},
     {Py_tp_new, set_new},
     {Py_tp_init, set_init},
     {Py_tp_dealloc, set_dealloc},

@@ -165,6 +165,6 @@ PyObject *set_toggle(PyObject *self, PyObject *member)
 
 PyObject *set_clear(PyObject *self, PyObject *Py_UNUSED(none))
 {
-    bit_set_make_empty(set_of(self));
+    bit_set_reset(set_of(self));
     return none_if(true);
 }

@@ -138,7 +138,7 @@ int set_init(PyObject *self, PyObject *arguments, PyObject *named);
 void set_dealloc(PyObject *self);
 
 /* merging.c */
-PyObject *members_among(PyObject *self, PyObject *iterable, size_t *others);
+int is_among(PyObject *self, PyObject *iterable);
 PyObject *set_and(PyObject *left, PyObject *right);
 PyObject *set_difference(PyObject *self, PyObject *others);
 PyObject *set_difference_update(PyObject *self, PyObject *others);
@@ -158,6 +158,7 @@ PyObject *set_xor(PyObject *left, PyObject *right);
 int is_set(PyObject *object);
 
 /* comparing.c */
+bool has_less_members(PyObject *self, PyObject *iterable);
 PyObject *set_compare(PyObject *self, PyObject *other, int operation);
 PyObject *set_difference_count(PyObject *self, PyObject *items);
 PyObject *set_intersection_count(PyObject *self, PyObject *items);
