@@ -2,10 +2,15 @@
 can be imported, beside these too.
 
     PYTHONPATH=MODULE python3 python/speed.py
+    PYTHONPATH=MODULE python3 python/speed.py shapes    the calls that take over five times as long as with `set`, on sets of
+                                                        several shapes
 """
 
 import array
+import copy
+import pickle
 import random
+import sys
 import time
 
 from bit_set import BitSet
@@ -102,9 +107,74 @@ def beside_bitarray(_, halves):
     row("&", lambda: ours[0] & ours[1], lambda: theirs[0] & theirs[1], "bitarray")
 
 
+def shapes(draws):
+    """Pairs of lists, by the names of their shapes."""
+
+    def drawn(count, limit):
+        return draws.sample(range(limit), count)
+
+    return {
+        "empty": ([], []),
+        "few": (drawn(5, 100), drawn(5, 100)),
+        "many": (drawn(LIMIT // 10, LIMIT), drawn(LIMIT // 10, LIMIT)),
+        "sparse": (drawn(1000, LIMIT), drawn(1000, LIMIT)),
+        "one far": ([1, 2, 3, 4, LIMIT], [2, 3, 5, 7, LIMIT]),
+        "dense": (list(range(LIMIT // 10)), list(range(LIMIT // 20, LIMIT // 10 * 2))),
+        "few beside long": (drawn(10, 1000), drawn(LIMIT // 10, LIMIT)),
+        "long beside few": (drawn(LIMIT // 10, LIMIT), drawn(10, 1000)),
+        "equal": (list(range(0, LIMIT, 10)), list(range(0, LIMIT, 10))),
+    }
+
+
+OPERATORS = ("or", "and", "sub", "xor", "eq", "ne", "le", "lt", "ge", "gt")
+METHODS = ("union", "intersection", "difference", "symmetric_difference", "issubset", "issuperset", "isdisjoint")
+# These change a set, so each round has a copy of its own, whose time is in neither column.
+IN_PLACE = ("update", "intersection_update", "difference_update", "symmetric_difference_update", "clear")
+ALONE = (len, bool, list, sorted, repr, copy.copy, pickle.dumps)
+
+
+def calls_of(kind, one, other):
+    """Names of calls, and for each a function that makes it ready."""
+    own, others = kind(one), kind(other)
+    for operand, name in ((others, "its kind"), (set(other), "a set"), (other, "a list")):
+        for method in METHODS if operand is other else [*(f"__{operator}__" for operator in OPERATORS), *METHODS]:
+            yield f"{method} with {name}", lambda method=method, operand=operand: lambda: getattr(own, method)(operand)
+        yield f"made of {name}", lambda operand=operand: lambda: kind(operand)
+    for method in IN_PLACE:
+        operands = () if method == "clear" else (others,)
+        yield method, lambda method=method, operands=operands: lambda made=own.copy(): getattr(made, method)(*operands)
+    for call in ALONE:
+        yield call.__name__, lambda call=call: lambda: call(own)
+
+
+def least_of(make_ready):
+    """The least time of a call in seconds, each time on a copy of its own."""
+    best, spent = float("inf"), 0
+    while spent < 0.01:
+        call = make_ready()
+        start = time.perf_counter()
+        call()
+        taken = time.perf_counter() - start
+        best, spent = min(best, taken), spent + max(taken, 1e-5)
+    return best
+
+
+def slow_calls(draws):
+    """Writes a line for each call above five times that of `set`, and fifty nanoseconds more."""
+    print("| call | shape | ours, us | theirs, us | ratio |\n|---|---|---|---|---|")
+    for shape, lists in shapes(draws).items():
+        for (name, ours), (_, theirs) in zip(calls_of(BitSet, *lists), calls_of(set, *lists)):
+            times = least_of(ours) * 1e6, least_of(theirs) * 1e6
+            if times[0] > 5 * times[1] and times[0] - times[1] > 0.05:
+                print(f"| {name} | {shape} | {times[0]:.2f} | {times[1]:.2f} | {times[0] / times[1]:.0f} |")
+
+
 def main():
     """Writes the table."""
     draws = random.Random(5)
+    if sys.argv[1:] == ["shapes"]:
+        slow_calls(draws)
+        return
     numbers = [draws.randrange(LIMIT) for _ in range(LIMIT)]
     halves = numbers[: LIMIT // 2], numbers[LIMIT // 2 :]
     print("| call | beside | ours, ms | theirs, ms | ratio |\n|---|---|---|---|---|")
