@@ -1,5 +1,5 @@
 -- Numbers read a digit at a time, and what a line's words come to.
-use Rattle.std.proofs.Common.{◌≡◌, ℕ, zero, suc, ◌+◌, ◌-◌, ◌*◌, ◌<◌, Bool, true, false, not, ◌&&◌, List, [], ◌∷◌, ◌++◌, length, take, get_or, ap, sym, ◌∙◌, refl, arith, eqb, nat_lt, ◌⊎◌, inl, inr, Option, None, Some, Result, Ok, Err, nat_le, if◌then◌else◌, MatchResult, IsOkAnd}
+use Rattle.std.proofs.Common.{◌≡◌, ℕ, zero, suc, ◌+◌, ◌-◌, ◌*◌, ◌<◌, Bool, true, false, not, ◌&&◌, List, [], ◌∷◌, ◌++◌, length, take, get_or, ap, sym, ◌∙◌, refl, arith, eqb, nat_lt, ◌⊎◌, inl, inr, Option, None, Some, Result, Ok, Err, nat_le, if◌then◌else◌}
 use Rattle.std.specs.Char.{is_ascii_digit, digit_value, IsAsciiDigit}
 use Rattle.std.specs.Str.{all_ascii_digits}
 use Rattle.std.specs.Str.Parse.{digits_value}
@@ -9,25 +9,16 @@ use Rattle.std.proofs.lemmas.Bool.{and_parts, and_right}
 use Rattle.std.proofs.lemmas.Bool.Decides.{eqb_tells}
 use Rattle.std.proofs.lemmas.List.Folds.{list_all-append}
 use Rattle.std.specs.List.{list_all}
-use Rattle.std.specs.Option.{option_and_then, option_map, option_zip}
+use Rattle.std.specs.Option.{option_and_then, option_zip}
 use Rattle.std.specs.Result.{result_and}
 use Rattle.bit_set_commands.specs.Cuts.{Lacks}
-use Rattle.bit_set_commands.specs.declared.commands.Command.{Command}
-use Rattle.bit_set_commands.specs.declared.verbs.Verb.{Verb}
-use Rattle.bit_set_commands.specs.declared.verbs.Verb.TheVariants.{Name, NameAndNumber, TwoNames, Extend, SplitOff, Rest}
-use Rattle.bit_set_commands.specs.declared.verbs.NameVerb.{NameVerb}
-use Rattle.bit_set_commands.specs.declared.verbs.NameVerb.TheVariants.{Empty}
-use Rattle.bit_set_commands.specs.declared.verbs.NumberVerb.{NumberVerb}
-use Rattle.bit_set_commands.specs.declared.verbs.NumberVerb.TheVariants.{Insert}
-use Rattle.bit_set_commands.specs.declared.verbs.PairVerb.{PairVerb}
-use Rattle.bit_set_commands.specs.declared.verbs.PairVerb.TheVariants.{Copy}
 use Rattle.bit_set_commands.specs.declared.verbs.SetWalk.{SetWalk}
 use Rattle.bit_set_commands.specs.declared.verbs.SetWalk.TheVariants.{One, Two}
 use Rattle.bit_set_commands.specs.declared.reading.BadLine.{BadLine}
 use Rattle.bit_set_commands.specs.declared.reading.BadLine.TheVariants.{BadCommand, BadNumber}
 use Rattle.bit_set_commands.specs.Reading.{alone, command_of, fitting_number, followed, name_alone, name_of, number_alone, number_of, reading, rest_command, rest_of, within_range}
 use Rattle.bit_set_commands.specs.Spelling.{numbers_of}
-use Rattle.bit_set_commands.specs.Verbs.{name_command, number_command, pair_command, verb_of, walk_of}
+use Rattle.bit_set_commands.specs.Verbs.{usage_of, walk_of, Usage, Name}
 use Rattle.bit_blocks.specs.Bounds.{greatest}
 use Rattle.bit_set_commands.specs.Words.{words_of}
 use Rattle.bit_set_commands.proofs.CutLemmas.{parts_at-first, parts_at-one, parts_some}
@@ -156,33 +147,6 @@ abbrev pub told : List ℕ → Bool → Option (List ℕ) → Result (List ℕ) 
 told read large None = Err BadCommand
 told read large (Some ns) = if not large && list_all (λ n. nat_le n greatest) ns then Ok (read ++ ns) else Err BadNumber
 
--- the numbers of a command, by the shape of its words: the first verb represents all
-pub numbers-name_command : (verb : NameVerb) (s : ℕ) → numbers_of (name_command verb s) ≡ []
-numbers-name_command Empty s = refl
-numbers-name_command verb s = refl
-
-pub numbers-number_command : (verb : NumberVerb) (p : ℕ × ℕ) → numbers_of (number_command verb p) ≡ p.1 ∷ []
-numbers-number_command Insert p = refl
-numbers-number_command verb p = refl
-
-pub numbers-pair_command : (verb : PairVerb) (p : ℕ × ℕ) → numbers_of (pair_command verb p) ≡ []
-numbers-pair_command Copy p = refl
-numbers-pair_command verb p = refl
-
-made_by_test : {X : Type 0} {Post : X → Command → Type 0} (fits : Bool) (make : X → Command) (x : X) (read : Result X BadLine) (result : Result Command BadLine) → ((x : X) (command : Command) → Post x command → command ≡ make x) → read ≡ (if fits then Ok x else Err BadNumber) → MatchResult read (λ x. IsOkAnd result (Post x)) (λ e. result ≡ Err e) → result ≡ (if fits then Ok (make x) else Err BadNumber)
-made_by_test true make x (Ok y) (Ok command) makes told made = ap Ok (makes y command made ∙ ap make (cc))
-made_by_test true make x (Ok y) (Err e) makes told made = absurd made
-made_by_test true make x (Err e) result makes told made = cc
-made_by_test false make x (Ok y) result makes told made = cc
-made_by_test false make x (Err e) result makes told made = made ∙ ap Err (cc)
-
--- a command made of the operands that were read, where its numbers are theirs
-pub of_operands : {X : Type 0} {Post : X → Command → Type 0} (make : X → Command) (numbers : X → List ℕ) (operands : Option X) (read : Result X BadLine) (result : Result Command BadLine) → ((x : X) → numbers_of (make x) ≡ numbers x) → read ≡ within_range numbers operands → MatchResult read (λ x. IsOkAnd result (Post x)) (λ e. result ≡ Err e) → ((x : X) (command : Command) → Post x command → command ≡ make x) → result ≡ within_range numbers_of (option_map make operands)
-of_operands make numbers None (Ok x) result same told made makes = cc
-of_operands make numbers None (Err e) result same told made makes = made ∙ ap Err (cc)
-of_operands make numbers (Some x) read result same told made makes =
-    rw (same x) (made_by_test (list_all (λ n. nat_le n greatest) (numbers x)) make x read result makes told made)
-
 -- `rest` and a walk alone
 rest_command-alone : (walk : Option SetWalk) → option_and_then (λ w. rest_command w []) walk ≡ None
 rest_command-alone None = refl
@@ -192,19 +156,15 @@ rest_command-alone (Some (Two merge)) = refl
 pub rest_of-alone : (word : List ℕ) → rest_of (word ∷ []) ≡ None
 rest_of-alone word = rest_command-alone (walk_of word)
 
-verb_alone : (verb : Option Verb) → within_range numbers_of (option_and_then (λ v. command_of v []) verb) ≡ Err BadCommand
-verb_alone None = refl
-verb_alone (Some (Name verb)) = refl
-verb_alone (Some (NameAndNumber verb)) = refl
-verb_alone (Some (TwoNames verb)) = refl
-verb_alone (Some Extend) = refl
-verb_alone (Some SplitOff) = refl
-verb_alone (Some Rest) = refl
+usage_alone : (found : Option Usage) → option_and_then (λ u. command_of u []) found ≡ None
+usage_alone None = refl
+usage_alone (Some (Name make)) = refl
+usage_alone found = refl
 
 -- a line without a space spells nothing, since each verb wants a name
 pub reading-word : (line : List ℕ) → Lacks 32 line → reading line ≡ Err BadCommand
-reading-word line lacks = rw (parts_at-one 32 line lacks) (verb_alone (verb_of line))
+reading-word line lacks = rw (parts_at-one 32 line lacks) (ap (within_range numbers_of) (usage_alone (usage_of line)))
 
 -- a line with one is a verb and the words after the space
-pub reading-words : (word words : List ℕ) → Lacks 32 word → reading (word ++ 32 ∷ words) ≡ within_range numbers_of (option_and_then (λ verb. command_of verb (words_of words)) (verb_of word))
+pub reading-words : (word words : List ℕ) → Lacks 32 word → reading (word ++ 32 ∷ words) ≡ within_range numbers_of (option_and_then (λ u. command_of u (words_of words)) (usage_of word))
 reading-words word words lacks = rw (parts_at-first 32 word words lacks)

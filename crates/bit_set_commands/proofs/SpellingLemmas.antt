@@ -13,24 +13,15 @@ use Rattle.bit_blocks.specs.declared.block.merge.Merge.{Merge}
 use Rattle.bit_blocks.specs.declared.block.merge.Merge.TheVariants.{Union, Intersection, Difference, Symmetric}
 use Rattle.bit_set_commands.specs.declared.commands.Command.{Command}
 use Rattle.bit_set_commands.specs.declared.commands.Command.TheVariants as command
-use Rattle.bit_set_commands.specs.declared.verbs.Verb.{Verb}
-use Rattle.bit_set_commands.specs.declared.verbs.Verb.TheVariants.{Name, NameAndNumber, TwoNames, Extend, SplitOff, Rest}
-use Rattle.bit_set_commands.specs.declared.verbs.NameVerb.{NameVerb}
-use Rattle.bit_set_commands.specs.declared.verbs.NameVerb.TheVariants.{Empty, Reset, Shrink, Count, IsEmpty, Items}
-use Rattle.bit_set_commands.specs.declared.verbs.NumberVerb.{NumberVerb}
-use Rattle.bit_set_commands.specs.declared.verbs.NumberVerb.TheVariants.{Insert, Remove, Contains, Truncate, Reserve, ReserveExact}
-use Rattle.bit_set_commands.specs.declared.verbs.PairVerb.{PairVerb}
-use Rattle.bit_set_commands.specs.declared.verbs.PairVerb.TheVariants.{Copy, InPlace, Append, Walk, Subset, Superset, Disjoint, Equal, Compare}
 use Rattle.bit_set_commands.specs.declared.verbs.SetWalk.{SetWalk}
 use Rattle.bit_set_commands.specs.declared.verbs.SetWalk.TheVariants.{One, Two}
 use Rattle.bit_set_commands.specs.Cuts.{Lacks}
 use Rattle.bit_set_commands.specs.Reading.{all_numbers, command_of, name_of, number_of, reading, rest_command, within_range}
 use Rattle.bit_blocks.specs.Bounds.{greatest}
 use Rattle.bit_set_commands.specs.Spelling.{figures, letter, line_of, numbers_of, CanBeHad}
-use Rattle.bit_set_commands.specs.Verbs.{name_command, number_command, pair_command, verb_of, walk_of}
+use Rattle.bit_set_commands.specs.Verbs.{usage_of, walk_of, Usage, Name, NameAndNumber, TwoNames, NameAndNumbers, NamesAroundNumber, WalkAndItsWords}
 use Rattle.bit_set_commands.specs.Words.{words_of}
 use Rattle.bit_set_commands.proofs.CutLemmas.{lacks_by_test, parts_at-first, parts_at-one}
-use Rattle.bit_set_commands.proofs.ReadingLemmas.{numbers-name_command, numbers-number_command, numbers-pair_command}
 
 own : IsNumeralModel (λ ds. all_ascii_digits ds ≡ true) (digits_value 10)
 own = numerals_by_value (λ ds. all_ascii_digits ds ≡ true) tells_all_ascii_digits
@@ -93,46 +84,46 @@ words_of-line word (s ∷ names) ns lacks below fit =
     ∙ ap (λ ws. word ∷ ws) (words_of-line ((s + 97) ∷ []) names ns (one_byte (s + 97) (λ e. absurd (omega arith))) (All-tail (λ s. s < 16) s names below) fit)
 
 -- A line of each shape is read as the command of its verb.
-verb_line : (verb : Verb) (word names ns : List ℕ) → IsOneWord word → verb_of word ≡ Some verb → AreNames names → AreFit ns → reading (spelled word names ns) ≡ within_range numbers_of (command_of verb (map (λ s. (s + 97) ∷ []) names ++ map decimal ns))
-verb_line verb word names ns plain is below fit = rw (words_of-line word names ns (lacks_by_test 32 word plain) below fit, is)
+verb_line : (usage : Usage) (word names ns : List ℕ) → IsOneWord word → usage_of word ≡ Some usage → AreNames names → AreFit ns → reading (spelled word names ns) ≡ within_range numbers_of (command_of usage (map (λ s. (s + 97) ∷ []) names ++ map decimal ns))
+verb_line usage word names ns plain is below fit = rw (words_of-line word names ns (lacks_by_test 32 word plain) below fit, is)
 
-rest_line : (walk : SetWalk) (verb word names ns : List ℕ) → IsOneWord verb → verb_of verb ≡ Some Rest → IsOneWord word → walk_of word ≡ Some walk → AreNames names → AreFit ns → reading (verb ++ 32 ∷ (spelled word names ns)) ≡ within_range numbers_of (rest_command walk (map (λ s. (s + 97) ∷ []) names ++ map decimal ns))
+rest_line : (walk : SetWalk) (verb word names ns : List ℕ) → IsOneWord verb → usage_of verb ≡ Some WalkAndItsWords → IsOneWord word → walk_of word ≡ Some walk → AreNames names → AreFit ns → reading (verb ++ 32 ∷ (spelled word names ns)) ≡ within_range numbers_of (rest_command walk (map (λ s. (s + 97) ∷ []) names ++ map decimal ns))
 rest_line walk verb word names ns one rest two is below fit =
     rw (parts_at-first 32 verb (spelled word names ns) (lacks_by_test 32 verb one), rest, words_of-line word names ns (lacks_by_test 32 word two) below fit, is)
 
-name_line : (verb : NameVerb) (word : List ℕ) (s : ℕ) → IsOneWord word → verb_of word ≡ Some (Name verb) → AreNames (s ∷ []) → reading (spelled word (s ∷ []) []) ≡ Ok (name_command verb s)
-name_line verb word s plain is below =
-    verb_line (Name verb) word (s ∷ []) [] plain is below (All-nil (λ m. m ≤ greatest))
-    ∙ rw (name_of-letter s (All-head (λ s. s < 16) s [] below), numbers-name_command verb s)
+name_line : (make : ℕ → Command) (word : List ℕ) (s : ℕ) → IsOneWord word → usage_of word ≡ Some (Name make) → numbers_of (make s) ≡ [] → AreNames (s ∷ []) → reading (spelled word (s ∷ []) []) ≡ Ok (make s)
+name_line make word s plain is none below =
+    verb_line (Name make) word (s ∷ []) [] plain is below (All-nil (λ m. m ≤ greatest))
+    ∙ rw (name_of-letter s (All-head (λ s. s < 16) s [] below), none)
 
-number_line : (verb : NumberVerb) (word : List ℕ) (s n : ℕ) → IsOneWord word → verb_of word ≡ Some (NameAndNumber verb) → AreNames (s ∷ []) → AreFit (n ∷ []) → reading (spelled word (s ∷ []) (n ∷ [])) ≡ Ok (number_command verb (s, n))
-number_line verb word s n plain is below fit =
-    verb_line (NameAndNumber verb) word (s ∷ []) (n ∷ []) plain is below fit
-    ∙ rw (name_of-letter s (All-head (λ s. s < 16) s [] below), number_of-decimal n (All-head (λ m. m ≤ greatest) n [] fit), numbers-number_command verb (s, n), all_fit (n ∷ []) fit)
+number_line : (make : ℕ → ℕ → Command) (word : List ℕ) (s n : ℕ) → IsOneWord word → usage_of word ≡ Some (NameAndNumber make) → numbers_of (make s n) ≡ n ∷ [] → AreNames (s ∷ []) → AreFit (n ∷ []) → reading (spelled word (s ∷ []) (n ∷ [])) ≡ Ok (make s n)
+number_line make word s n plain is one below fit =
+    verb_line (NameAndNumber make) word (s ∷ []) (n ∷ []) plain is below fit
+    ∙ rw (name_of-letter s (All-head (λ s. s < 16) s [] below), number_of-decimal n (All-head (λ m. m ≤ greatest) n [] fit), one, all_fit (n ∷ []) fit)
 
-pair_line : (verb : PairVerb) (word : List ℕ) (s t : ℕ) → IsOneWord word → verb_of word ≡ Some (TwoNames verb) → AreNames (s ∷ t ∷ []) → reading (spelled word (s ∷ t ∷ []) []) ≡ Ok (pair_command verb (s, t))
-pair_line verb word s t plain is below =
+pair_line : (make : ℕ → ℕ → Command) (word : List ℕ) (s t : ℕ) → IsOneWord word → usage_of word ≡ Some (TwoNames make) → numbers_of (make s t) ≡ [] → AreNames (s ∷ t ∷ []) → reading (spelled word (s ∷ t ∷ []) []) ≡ Ok (make s t)
+pair_line make word s t plain is none below =
     let second : t < 16 = All-head (λ s. s < 16) t [] (All-tail (λ s. s < 16) s (t ∷ []) below) in
-    verb_line (TwoNames verb) word (s ∷ t ∷ []) [] plain is below (All-nil (λ m. m ≤ greatest))
-    ∙ rw (name_of-letter s (All-head (λ s. s < 16) s (t ∷ []) below), name_of-letter t second, numbers-pair_command verb (s, t))
+    verb_line (TwoNames make) word (s ∷ t ∷ []) [] plain is below (All-nil (λ m. m ≤ greatest))
+    ∙ rw (name_of-letter s (All-head (λ s. s < 16) s (t ∷ []) below), name_of-letter t second, none)
 
-extend_line : (word : List ℕ) (s : ℕ) (ns : List ℕ) → IsOneWord word → verb_of word ≡ Some Extend → AreNames (s ∷ []) → AreFit ns → reading (spelled word (s ∷ []) ns) ≡ Ok (command.Extend s ns)
+extend_line : (word : List ℕ) (s : ℕ) (ns : List ℕ) → IsOneWord word → usage_of word ≡ Some (NameAndNumbers command.Extend) → AreNames (s ∷ []) → AreFit ns → reading (spelled word (s ∷ []) ns) ≡ Ok (command.Extend s ns)
 extend_line word s ns plain is below fit =
-    verb_line Extend word (s ∷ []) ns plain is below fit
+    verb_line (NameAndNumbers command.Extend) word (s ∷ []) ns plain is below fit
     ∙ rw (name_of-letter s (All-head (λ s. s < 16) s [] below), all_numbers-decimal ns fit, all_fit ns fit)
 
-rest_iter_line : (verb word : List ℕ) (s n : ℕ) → IsOneWord verb → verb_of verb ≡ Some Rest → IsOneWord word → walk_of word ≡ Some One → AreNames (s ∷ []) → AreFit (n ∷ []) → reading (verb ++ 32 ∷ (spelled word (s ∷ []) (n ∷ []))) ≡ Ok (command.RestIter s n)
+rest_iter_line : (verb word : List ℕ) (s n : ℕ) → IsOneWord verb → usage_of verb ≡ Some WalkAndItsWords → IsOneWord word → walk_of word ≡ Some One → AreNames (s ∷ []) → AreFit (n ∷ []) → reading (verb ++ 32 ∷ (spelled word (s ∷ []) (n ∷ []))) ≡ Ok (command.RestIter s n)
 rest_iter_line verb word s n one rest two is below fit =
     rest_line One verb word (s ∷ []) (n ∷ []) one rest two is below fit
     ∙ rw (name_of-letter s (All-head (λ s. s < 16) s [] below), number_of-decimal n (All-head (λ m. m ≤ greatest) n [] fit), all_fit (n ∷ []) fit)
 
-rest_two_line : (merge : Merge) (verb word : List ℕ) (s t n : ℕ) → IsOneWord verb → verb_of verb ≡ Some Rest → IsOneWord word → walk_of word ≡ Some (Two merge) → AreNames (s ∷ t ∷ []) → AreFit (n ∷ []) → reading (verb ++ 32 ∷ (spelled word (s ∷ t ∷ []) (n ∷ []))) ≡ Ok (command.RestWalk merge s t n)
+rest_two_line : (merge : Merge) (verb word : List ℕ) (s t n : ℕ) → IsOneWord verb → usage_of verb ≡ Some WalkAndItsWords → IsOneWord word → walk_of word ≡ Some (Two merge) → AreNames (s ∷ t ∷ []) → AreFit (n ∷ []) → reading (verb ++ 32 ∷ (spelled word (s ∷ t ∷ []) (n ∷ []))) ≡ Ok (command.RestWalk merge s t n)
 rest_two_line merge verb word s t n one rest two is below fit =
     let second : t < 16 = All-head (λ s. s < 16) t [] (All-tail (λ s. s < 16) s (t ∷ []) below) in
     rest_line (Two merge) verb word (s ∷ t ∷ []) (n ∷ []) one rest two is below fit
     ∙ rw (name_of-letter s (All-head (λ s. s < 16) s (t ∷ []) below), name_of-letter t second, number_of-decimal n (All-head (λ m. m ≤ greatest) n [] fit), all_fit (n ∷ []) fit)
 
-split_off_line : (word : List ℕ) (s n t : ℕ) → IsOneWord word → verb_of word ≡ Some SplitOff → AreNames (s ∷ t ∷ []) → AreFit (n ∷ []) → reading (word ++ (letter s ++ (figures n ++ letter t))) ≡ Ok (command.SplitOff s n t)
+split_off_line : (word : List ℕ) (s n t : ℕ) → IsOneWord word → usage_of word ≡ Some (NamesAroundNumber command.SplitOff) → AreNames (s ∷ t ∷ []) → AreFit (n ∷ []) → reading (word ++ (letter s ++ (figures n ++ letter t))) ≡ Ok (command.SplitOff s n t)
 split_off_line word s n t plain is below fit =
     let last : t < 16 = All-head (λ s. s < 16) t [] (All-tail (λ s. s < 16) s (t ∷ []) below) in
     rw (
@@ -147,35 +138,35 @@ split_off_line word s n t plain is below fit =
     )
 
 pub reading-line_of : (c : Command) → CanBeHad c → reading (line_of c) ≡ Ok c
-reading-line_of (command.Insert s n) had = number_line Insert (codes "insert") s n refl refl had.names had.numbers
-reading-line_of (command.Remove s n) had = number_line Remove (codes "remove") s n refl refl had.names had.numbers
-reading-line_of (command.Contains s n) had = number_line Contains (codes "contains") s n refl refl had.names had.numbers
+reading-line_of (command.Insert s n) had = number_line command.Insert (codes "insert") s n refl refl refl had.names had.numbers
+reading-line_of (command.Remove s n) had = number_line command.Remove (codes "remove") s n refl refl refl had.names had.numbers
+reading-line_of (command.Contains s n) had = number_line command.Contains (codes "contains") s n refl refl refl had.names had.numbers
 reading-line_of (command.Extend s ns) had = extend_line (codes "extend") s ns refl refl had.names had.numbers
-reading-line_of (command.Truncate s n) had = number_line Truncate (codes "truncate") s n refl refl had.names had.numbers
-reading-line_of (command.Empty s) had = name_line Empty (codes "empty") s refl refl had.names
-reading-line_of (command.Reset s) had = name_line Reset (codes "reset") s refl refl had.names
-reading-line_of (command.Reserve s n) had = number_line Reserve (codes "reserve") s n refl refl had.names had.numbers
-reading-line_of (command.ReserveExact s n) had = number_line ReserveExact (codes "reserve_exact") s n refl refl had.names had.numbers
-reading-line_of (command.Shrink s) had = name_line Shrink (codes "shrink") s refl refl had.names
-reading-line_of (command.Count s) had = name_line Count (codes "count") s refl refl had.names
-reading-line_of (command.IsEmpty s) had = name_line IsEmpty (codes "is_empty") s refl refl had.names
-reading-line_of (command.Items s) had = name_line Items (codes "items") s refl refl had.names
-reading-line_of (command.Copy s t) had = pair_line Copy (codes "copy") s t refl refl had.names
-reading-line_of (command.InPlace Union s t) had = pair_line (InPlace Union) (codes "union_with") s t refl refl had.names
-reading-line_of (command.InPlace Intersection s t) had = pair_line (InPlace Intersection) (codes "intersect_with") s t refl refl had.names
-reading-line_of (command.InPlace Difference s t) had = pair_line (InPlace Difference) (codes "difference_with") s t refl refl had.names
-reading-line_of (command.InPlace Symmetric s t) had = pair_line (InPlace Symmetric) (codes "symmetric_difference_with") s t refl refl had.names
-reading-line_of (command.Append s t) had = pair_line Append (codes "append") s t refl refl had.names
+reading-line_of (command.Truncate s n) had = number_line command.Truncate (codes "truncate") s n refl refl refl had.names had.numbers
+reading-line_of (command.Empty s) had = name_line command.Empty (codes "empty") s refl refl refl had.names
+reading-line_of (command.Reset s) had = name_line command.Reset (codes "reset") s refl refl refl had.names
+reading-line_of (command.Reserve s n) had = number_line command.Reserve (codes "reserve") s n refl refl refl had.names had.numbers
+reading-line_of (command.ReserveExact s n) had = number_line command.ReserveExact (codes "reserve_exact") s n refl refl refl had.names had.numbers
+reading-line_of (command.Shrink s) had = name_line command.Shrink (codes "shrink") s refl refl refl had.names
+reading-line_of (command.Count s) had = name_line command.Count (codes "count") s refl refl refl had.names
+reading-line_of (command.IsEmpty s) had = name_line command.IsEmpty (codes "is_empty") s refl refl refl had.names
+reading-line_of (command.Items s) had = name_line command.Items (codes "items") s refl refl refl had.names
+reading-line_of (command.Copy s t) had = pair_line command.Copy (codes "copy") s t refl refl refl had.names
+reading-line_of (command.InPlace Union s t) had = pair_line (command.InPlace Union) (codes "union_with") s t refl refl refl had.names
+reading-line_of (command.InPlace Intersection s t) had = pair_line (command.InPlace Intersection) (codes "intersect_with") s t refl refl refl had.names
+reading-line_of (command.InPlace Difference s t) had = pair_line (command.InPlace Difference) (codes "difference_with") s t refl refl refl had.names
+reading-line_of (command.InPlace Symmetric s t) had = pair_line (command.InPlace Symmetric) (codes "symmetric_difference_with") s t refl refl refl had.names
+reading-line_of (command.Append s t) had = pair_line command.Append (codes "append") s t refl refl refl had.names
 reading-line_of (command.SplitOff s n t) had = split_off_line (codes "split_off") s n t refl refl had.names had.numbers
-reading-line_of (command.Walk Union s t) had = pair_line (Walk Union) (codes "union") s t refl refl had.names
-reading-line_of (command.Walk Intersection s t) had = pair_line (Walk Intersection) (codes "intersection") s t refl refl had.names
-reading-line_of (command.Walk Difference s t) had = pair_line (Walk Difference) (codes "difference") s t refl refl had.names
-reading-line_of (command.Walk Symmetric s t) had = pair_line (Walk Symmetric) (codes "symmetric_difference") s t refl refl had.names
-reading-line_of (command.Subset s t) had = pair_line Subset (codes "subset") s t refl refl had.names
-reading-line_of (command.Superset s t) had = pair_line Superset (codes "superset") s t refl refl had.names
-reading-line_of (command.Disjoint s t) had = pair_line Disjoint (codes "disjoint") s t refl refl had.names
-reading-line_of (command.Equal s t) had = pair_line Equal (codes "eq") s t refl refl had.names
-reading-line_of (command.Compare s t) had = pair_line Compare (codes "cmp") s t refl refl had.names
+reading-line_of (command.Walk Union s t) had = pair_line (command.Walk Union) (codes "union") s t refl refl refl had.names
+reading-line_of (command.Walk Intersection s t) had = pair_line (command.Walk Intersection) (codes "intersection") s t refl refl refl had.names
+reading-line_of (command.Walk Difference s t) had = pair_line (command.Walk Difference) (codes "difference") s t refl refl refl had.names
+reading-line_of (command.Walk Symmetric s t) had = pair_line (command.Walk Symmetric) (codes "symmetric_difference") s t refl refl refl had.names
+reading-line_of (command.Subset s t) had = pair_line command.Subset (codes "subset") s t refl refl refl had.names
+reading-line_of (command.Superset s t) had = pair_line command.Superset (codes "superset") s t refl refl refl had.names
+reading-line_of (command.Disjoint s t) had = pair_line command.Disjoint (codes "disjoint") s t refl refl refl had.names
+reading-line_of (command.Equal s t) had = pair_line command.Equal (codes "eq") s t refl refl refl had.names
+reading-line_of (command.Compare s t) had = pair_line command.Compare (codes "cmp") s t refl refl refl had.names
 reading-line_of (command.RestIter s n) had = rest_iter_line (codes "rest") (codes "iter") s n refl refl refl refl had.names had.numbers
 reading-line_of (command.RestWalk Union s t n) had = rest_two_line Union (codes "rest") (codes "union") s t n refl refl refl refl had.names had.numbers
 reading-line_of (command.RestWalk Intersection s t n) had = rest_two_line Intersection (codes "rest") (codes "intersection") s t n refl refl refl refl had.names had.numbers

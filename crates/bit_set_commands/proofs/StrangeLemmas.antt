@@ -12,12 +12,10 @@ use Rattle.std.proofs.lemmas.Bool.{and_cases, and_parts, and_right, false_from_n
 use Rattle.std.proofs.lemmas.List.Folds.{list_all_at}
 use Rattle.std.proofs.lemmas.Bool.Decides.{eqb_tells}
 use Rattle.bit_set_commands.specs.declared.reading.BadLine.TheVariants.{BadCommand}
-use Rattle.bit_set_commands.specs.declared.verbs.Verb.{Verb}
-use Rattle.bit_set_commands.specs.declared.verbs.Verb.TheVariants.{Name, NameAndNumber, TwoNames, Extend, SplitOff, Rest}
 use Rattle.bit_set_commands.specs.declared.verbs.SetWalk.{SetWalk}
 use Rattle.bit_set_commands.specs.declared.verbs.SetWalk.TheVariants.{One, Two}
 use Rattle.bit_set_commands.specs.Reading.{all_numbers, alone, command_in_words, command_of, followed, is_plain, name_alone, name_and_number, name_of, number_alone, number_and_name, number_of, reading, rest_command, rest_of}
-use Rattle.bit_set_commands.specs.Verbs.{verb_of, verbs, walk_of, walks}
+use Rattle.bit_set_commands.specs.Verbs.{usage_of, verbs, walk_of, walks, Usage, Name, NameAndNumber, TwoNames, NameAndNumbers, NamesAroundNumber, WalkAndItsWords}
 use Rattle.bit_set_commands.specs.Words.{words_of}
 use Rattle.bit_set_commands.proofs.ReadingLemmas.{nothing}
 
@@ -109,22 +107,22 @@ rest_of-unfit [] unfit = refl
 rest_of-unfit (word ∷ words) unfit =
     ⊎_elim (λ e. rw (lookup-unfit walks word refl e)) (rest_command-unfit (walk_of word) words) (and_cases (is_fit word) (list_all is_fit words) unfit)
 
-command_of-unfit : (verb : Verb) → Refused (command_of verb)
-command_of-unfit (Name verb) words unfit = rw (name_alone-unfit words unfit)
-command_of-unfit (NameAndNumber verb) words unfit = rw (name_and_number-unfit words unfit)
-command_of-unfit (TwoNames verb) words unfit = rw (followed-unfit name_alone name_alone name_alone-unfit name_alone-unfit words unfit)
-command_of-unfit Extend words unfit = rw (followed-unfit name_alone all_numbers name_alone-unfit all_numbers-unfit words unfit)
-command_of-unfit SplitOff words unfit = rw (followed-unfit name_alone number_and_name name_alone-unfit (followed-unfit number_alone name_alone number_alone-unfit name_alone-unfit) words unfit)
-command_of-unfit Rest words unfit = rest_of-unfit words unfit
+command_of-unfit : (usage : Usage) → Refused (command_of usage)
+command_of-unfit (Name make) words unfit = rw (name_alone-unfit words unfit)
+command_of-unfit (NameAndNumber make) words unfit = rw (name_and_number-unfit words unfit)
+command_of-unfit (TwoNames make) words unfit = rw (followed-unfit name_alone name_alone name_alone-unfit name_alone-unfit words unfit)
+command_of-unfit (NameAndNumbers make) words unfit = rw (followed-unfit name_alone all_numbers name_alone-unfit all_numbers-unfit words unfit)
+command_of-unfit (NamesAroundNumber make) words unfit = rw (followed-unfit name_alone number_and_name name_alone-unfit (followed-unfit number_alone name_alone number_alone-unfit name_alone-unfit) words unfit)
+command_of-unfit WalkAndItsWords words unfit = rest_of-unfit words unfit
 
-arguments_unfit : (v : Option Verb) → Refused (λ words. option_and_then (λ w. command_of w words) v)
+arguments_unfit : (found : Option Usage) → Refused (λ words. option_and_then (λ u. command_of u words) found)
 arguments_unfit None words unfit = refl
-arguments_unfit (Some v) words unfit = command_of-unfit v words unfit
+arguments_unfit (Some u) words unfit = command_of-unfit u words unfit
 
 command_in_words-unfit : Refused command_in_words
 command_in_words-unfit [] unfit = refl
 command_in_words-unfit (word ∷ words) unfit =
-    ⊎_elim (λ e. rw (lookup-unfit verbs word refl e)) (arguments_unfit (verb_of word) words) (and_cases (is_fit word) (list_all is_fit words) unfit)
+    ⊎_elim (λ e. rw (lookup-unfit verbs word refl e)) (arguments_unfit (usage_of word) words) (and_cases (is_fit word) (list_all is_fit words) unfit)
 
 reading-unfit : (line : List ℕ) → list_all is_fit (words_of line) ≡ false → reading line ≡ Err BadCommand
 reading-unfit line unfit = rw (command_in_words-unfit (words_of line) unfit)

@@ -10,13 +10,11 @@ use Rattle.bit_set_commands.specs.declared.commands.Command.{Command}
 use Rattle.bit_set_commands.specs.declared.commands.Command.TheVariants as command
 use Rattle.bit_set_commands.specs.declared.reading.BadLine.{BadLine}
 use Rattle.bit_set_commands.specs.declared.reading.BadLine.TheVariants.{BadCommand, BadNumber}
-use Rattle.bit_set_commands.specs.declared.verbs.Verb.{Verb}
-use Rattle.bit_set_commands.specs.declared.verbs.Verb.TheVariants.{Name, NameAndNumber, TwoNames, Extend, SplitOff, Rest}
 use Rattle.bit_set_commands.specs.declared.verbs.SetWalk.{SetWalk}
 use Rattle.bit_set_commands.specs.declared.verbs.SetWalk.TheVariants.{One, Two}
 use Rattle.bit_blocks.specs.Bounds.{greatest}
 use Rattle.bit_set_commands.specs.Spelling.{numbers_of}
-use Rattle.bit_set_commands.specs.Verbs.{name_command, number_command, pair_command, verb_of, walk_of}
+use Rattle.bit_set_commands.specs.Verbs.{usage_of, walk_of, Usage, Name, NameAndNumber, TwoNames, NameAndNumbers, NamesAroundNumber, WalkAndItsWords}
 use Rattle.bit_set_commands.specs.Words.{words_of}
 
 -- the place of the set that a word names: one letter from `a`, the first, to `p`
@@ -83,19 +81,19 @@ abbrev pub rest_of : List (List ℕ) → Option Command
 rest_of [] = None
 rest_of (word ∷ words) = option_and_then (λ walk. rest_command walk words) (walk_of word)
 
--- the command that a verb and the words after it spell, however large its numbers
-abbrev pub command_of : Verb → List (List ℕ) → Option Command
-command_of (Name verb) words = option_map (name_command verb) (name_alone words)
-command_of (NameAndNumber verb) words = option_map (number_command verb) (name_and_number words)
-command_of (TwoNames verb) words = option_map (pair_command verb) (two_names words)
-command_of Extend words = option_map (λ (s, ns). command.Extend s ns) (name_and_numbers words)
-command_of SplitOff words = option_map (λ (s, p). command.SplitOff s p.0 p.1) (names_around_number words)
-command_of Rest words = rest_of words
+-- the command that a verb of this usage and the words after it spell, however large its numbers
+abbrev pub command_of : Usage → List (List ℕ) → Option Command
+command_of (Name make) words = option_map make (name_alone words)
+command_of (NameAndNumber make) words = option_map (λ (s, n). make s n) (name_and_number words)
+command_of (TwoNames make) words = option_map (λ (s, t). make s t) (two_names words)
+command_of (NameAndNumbers make) words = option_map (λ (s, ns). make s ns) (name_and_numbers words)
+command_of (NamesAroundNumber make) words = option_map (λ (s, p). make s p.0 p.1) (names_around_number words)
+command_of WalkAndItsWords words = rest_of words
 
 -- the command that some words spell, the first of them its verb
 abbrev pub command_in_words : List (List ℕ) → Option Command
 command_in_words [] = None
-command_in_words (word ∷ words) = option_and_then (λ verb. command_of verb words) (verb_of word)
+command_in_words (word ∷ words) = option_and_then (λ usage. command_of usage words) (usage_of word)
 
 -- what was spelled, where its numbers are none of them too large
 abbrev pub within_range : {X : Type 0} → (X → List ℕ) → Option X → Result X BadLine

@@ -1,28 +1,31 @@
--- The first words of commands, by what comes after them.
+-- The verbs of commands: what comes after each, and the command that it makes of that.
 use Rattle.std.specs.Prelude.{ℕ, List, [], ◌∷◌, codes, Option}
 use Rattle.std.specs.Map.{lookup}
 use Rattle.std.specs.Str.{bytes_eq}
 use Rattle.bit_blocks.specs.declared.block.merge.Merge.TheVariants.{Union, Intersection, Difference, Symmetric}
 use Rattle.bit_set_commands.specs.declared.commands.Command.{Command}
-use Rattle.bit_set_commands.specs.declared.commands.Command.TheVariants as command
-use Rattle.bit_set_commands.specs.declared.verbs.Verb.{Verb}
-use Rattle.bit_set_commands.specs.declared.verbs.Verb.TheVariants.{Name, NameAndNumber, TwoNames, Extend, SplitOff, Rest}
-use Rattle.bit_set_commands.specs.declared.verbs.NameVerb.{NameVerb}
-use Rattle.bit_set_commands.specs.declared.verbs.NameVerb.TheVariants.{Empty, Reset, Shrink, Count, IsEmpty, Items}
-use Rattle.bit_set_commands.specs.declared.verbs.NumberVerb.{NumberVerb}
-use Rattle.bit_set_commands.specs.declared.verbs.NumberVerb.TheVariants.{Insert, Remove, Contains, Truncate, Reserve, ReserveExact}
-use Rattle.bit_set_commands.specs.declared.verbs.PairVerb.{PairVerb}
-use Rattle.bit_set_commands.specs.declared.verbs.PairVerb.TheVariants.{Copy, InPlace, Append, Walk, Subset, Superset, Disjoint, Equal, Compare}
+use Rattle.bit_set_commands.specs.declared.commands.Command.TheVariants.{Insert, Remove, Contains, Extend, Truncate, Empty, Reset, Reserve, ReserveExact, Shrink, Count, IsEmpty, Items, Copy, InPlace, Append, SplitOff, Walk, Subset, Superset, Disjoint, Equal, Compare}
 use Rattle.bit_set_commands.specs.declared.verbs.SetWalk.{SetWalk}
 use Rattle.bit_set_commands.specs.declared.verbs.SetWalk.TheVariants.{One, Two}
+use Rattle.bit_set_commands.specs.declared.verbs.Verb.{Verb}
+use Rattle.bit_set_commands.specs.declared.verbs.Verb.TheVariants as verb
 
--- the verbs and their words
-abbrev pub verbs : List (List ℕ × Verb)
+-- what comes after a verb, with the command that is made of it
+pub data Usage : Type 0 where
+  Name : (ℕ → Command) → Usage
+  NameAndNumber : (ℕ → ℕ → Command) → Usage
+  TwoNames : (ℕ → ℕ → Command) → Usage
+  NameAndNumbers : (ℕ → List ℕ → Command) → Usage
+  NamesAroundNumber : (ℕ → ℕ → ℕ → Command) → Usage
+  WalkAndItsWords : Usage
+
+-- the verbs
+abbrev pub verbs : List (List ℕ × Usage)
 verbs =
     (codes "insert", NameAndNumber Insert) ∷
     (codes "remove", NameAndNumber Remove) ∷
     (codes "contains", NameAndNumber Contains) ∷
-    (codes "extend", Extend) ∷
+    (codes "extend", NameAndNumbers Extend) ∷
     (codes "truncate", NameAndNumber Truncate) ∷
     (codes "empty", Name Empty) ∷
     (codes "reset", Name Reset) ∷
@@ -38,7 +41,7 @@ verbs =
     (codes "difference_with", TwoNames (InPlace Difference)) ∷
     (codes "symmetric_difference_with", TwoNames (InPlace Symmetric)) ∷
     (codes "append", TwoNames Append) ∷
-    (codes "split_off", SplitOff) ∷
+    (codes "split_off", NamesAroundNumber SplitOff) ∷
     (codes "union", TwoNames (Walk Union)) ∷
     (codes "intersection", TwoNames (Walk Intersection)) ∷
     (codes "difference", TwoNames (Walk Difference)) ∷
@@ -48,12 +51,12 @@ verbs =
     (codes "disjoint", TwoNames Disjoint) ∷
     (codes "eq", TwoNames Equal) ∷
     (codes "cmp", TwoNames Compare) ∷
-    (codes "rest", Rest) ∷
+    (codes "rest", WalkAndItsWords) ∷
     []
 
--- the verb that a word is
-abbrev pub verb_of : List ℕ → Option Verb
-verb_of word = lookup (bytes_eq word) verbs
+-- the usage of the verb that a word is
+abbrev pub usage_of : List ℕ → Option Usage
+usage_of word = lookup (bytes_eq word) verbs
 
 -- the walks that `rest` takes, and their words
 abbrev pub walks : List (List ℕ × SetWalk)
@@ -69,32 +72,29 @@ walks =
 abbrev pub walk_of : List ℕ → Option SetWalk
 walk_of word = lookup (bytes_eq word) walks
 
--- the command of a verb with a set's name
-abbrev pub name_command : NameVerb → ℕ → Command
-name_command Empty s = command.Empty s
-name_command Reset s = command.Reset s
-name_command Shrink s = command.Shrink s
-name_command Count s = command.Count s
-name_command IsEmpty s = command.IsEmpty s
-name_command Items s = command.Items s
-
--- the command of a verb with a set's name and a number
-abbrev pub number_command : NumberVerb → ℕ × ℕ → Command
-number_command Insert (s, n) = command.Insert s n
-number_command Remove (s, n) = command.Remove s n
-number_command Contains (s, n) = command.Contains s n
-number_command Truncate (s, n) = command.Truncate s n
-number_command Reserve (s, n) = command.Reserve s n
-number_command ReserveExact (s, n) = command.ReserveExact s n
-
--- the command of a verb with two sets' names
-abbrev pub pair_command : PairVerb → ℕ × ℕ → Command
-pair_command Copy (s, t) = command.Copy s t
-pair_command (InPlace merge) (s, t) = command.InPlace merge s t
-pair_command Append (s, t) = command.Append s t
-pair_command (Walk merge) (s, t) = command.Walk merge s t
-pair_command Subset (s, t) = command.Subset s t
-pair_command Superset (s, t) = command.Superset s t
-pair_command Disjoint (s, t) = command.Disjoint s t
-pair_command Equal (s, t) = command.Equal s t
-pair_command Compare (s, t) = command.Compare s t
+-- The usage of a verb that was found. No public clause cites this.
+abbrev pub usage : Verb → Usage
+usage verb.Insert = NameAndNumber Insert
+usage verb.Remove = NameAndNumber Remove
+usage verb.Contains = NameAndNumber Contains
+usage verb.Extend = NameAndNumbers Extend
+usage verb.Truncate = NameAndNumber Truncate
+usage verb.Empty = Name Empty
+usage verb.Reset = Name Reset
+usage verb.Reserve = NameAndNumber Reserve
+usage verb.ReserveExact = NameAndNumber ReserveExact
+usage verb.Shrink = Name Shrink
+usage verb.Count = Name Count
+usage verb.IsEmpty = Name IsEmpty
+usage verb.Items = Name Items
+usage verb.Copy = TwoNames Copy
+usage (verb.InPlace merge) = TwoNames (InPlace merge)
+usage verb.Append = TwoNames Append
+usage verb.SplitOff = NamesAroundNumber SplitOff
+usage (verb.Walk merge) = TwoNames (Walk merge)
+usage verb.Subset = TwoNames Subset
+usage verb.Superset = TwoNames Superset
+usage verb.Disjoint = TwoNames Disjoint
+usage verb.Equal = TwoNames Equal
+usage verb.Compare = TwoNames Compare
+usage verb.Rest = WalkAndItsWords

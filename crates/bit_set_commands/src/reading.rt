@@ -1,11 +1,12 @@
 //! A line read as a command.
 
-ghost use Rattle.std.specs.Prelude.{◌≡◌, refl, ℕ, ◌+◌, ◌-◌, ◌*◌, List, [], ◌∷◌, ◌++◌, Option, None, IfOk, OnErr, slice_get};
+ghost use Rattle.std.specs.Prelude.{◌≡◌, refl, ℕ, ◌+◌, ◌-◌, ◌*◌, List, [], ◌∷◌, ◌++◌, Option, None, Err, IfOk, IsOkAnd, MatchResult, OnErr, slice_get};
 ghost use Rattle.std.specs.Char.{IsAsciiDigit};
 ghost use Rattle.std.specs.Option.{option_and_then};
-ghost use Rattle.bit_set_commands.specs.Reading.{all_numbers, command_of, fitting_number, followed, name_alone, name_of, number_alone, number_of, reading, rest_of, within_range};
+ghost use Rattle.bit_set_commands.specs.declared.commands.Command.TheVariants.{Extend};
+ghost use Rattle.bit_set_commands.specs.Reading.{all_numbers, command_of, fitting_number, followed, name_alone, name_of, number_alone, number_of, reading, rest_command, rest_of, within_range};
 ghost use Rattle.bit_set_commands.specs.Spelling.{numbers_of};
-ghost use Rattle.bit_set_commands.specs.Verbs.{verb_of};
+ghost use Rattle.bit_set_commands.specs.Verbs.{usage, usage_of, NameAndNumbers};
 ghost use Rattle.bit_set_commands.specs.Words.{words_left, words_of};
 
 use crate::cutting::{first_word, split_once};
@@ -26,7 +27,8 @@ pub enum BadLine {
 /// large, wherever in the line they are. One pass. Memory is taken for the numbers of an `extend` alone.
 pub fn read_line(alloc: Global, line: &[u8]) -> Result<Result<Command, BadLine>, AllocError>
     ensures read { IfOk result (λ read. read ≡ reading line.now) }
-    ensures memory { OnErr result (option_and_then verb_of (slice_get (words_of line.now) 0) ≡ Some Verb.Extend) }
+    ensures memory { OnErr result
+        (option_and_then usage_of (slice_get (words_of line.now) 0) ≡ Some (NameAndNumbers Extend)) }
 {
     let Some((word, words)) = split_once(line, b' ') else {
         return Ok(Err(BadLine::BadCommand));
@@ -43,22 +45,35 @@ fn read_command(
     verb: Verb,
     words: &[u8],
 ) -> Result<Result<Command, BadLine>, AllocError>
-    ensures read { IfOk result (λ read. read ≡ within_range numbers_of (command_of verb (words_of words.now))) }
+    ensures read { IfOk result (λ read. read ≡ within_range numbers_of (command_of (usage verb) (words_of words.now))) }
     ensures memory { OnErr result (verb ≡ Verb.Extend) }
 {
     match verb {
-        Verb::Name(verb) => Ok(SetName::read(words).map(|name| verb.command(name))),
-        Verb::NameAndNumber(verb) => {
-            Ok(<(SetName, usize)>::read(words).map(|(name, number)| verb.command(name, number)))
-        }
-        Verb::TwoNames(verb) => {
-            Ok(<(SetName, SetName)>::read(words).map(|(first, second)| verb.command(first, second)))
-        }
+        Verb::Insert => Ok(read(words, |(s, n)| Command::Insert(s, n))),
+        Verb::Remove => Ok(read(words, |(s, n)| Command::Remove(s, n))),
+        Verb::Contains => Ok(read(words, |(s, n)| Command::Contains(s, n))),
         Verb::Extend => read_extend(alloc, words),
-        Verb::SplitOff => Ok(<(SetName, (usize, SetName))>::read(words).map(|(
-            first,
-            (number, second),
-        )| Command::SplitOff(first, number, second))),
+        Verb::Truncate => Ok(read(words, |(s, n)| Command::Truncate(s, n))),
+        Verb::Empty => Ok(read(words, Command::Empty)),
+        Verb::Reset => Ok(read(words, Command::Reset)),
+        Verb::Reserve => Ok(read(words, |(s, n)| Command::Reserve(s, n))),
+        Verb::ReserveExact => Ok(read(words, |(s, n)| Command::ReserveExact(s, n))),
+        Verb::Shrink => Ok(read(words, Command::Shrink)),
+        Verb::Count => Ok(read(words, Command::Count)),
+        Verb::IsEmpty => Ok(read(words, Command::IsEmpty)),
+        Verb::Items => Ok(read(words, Command::Items)),
+        Verb::Copy => Ok(read(words, |(s, t)| Command::Copy(s, t))),
+        Verb::InPlace(merge) => Ok(read(words, |(s, t)| Command::InPlace(merge, s, t))),
+        Verb::Append => Ok(read(words, |(s, t)| Command::Append(s, t))),
+        Verb::SplitOff => Ok(read(words, |(first, (number, second))| {
+            Command::SplitOff(first, number, second)
+        })),
+        Verb::Walk(merge) => Ok(read(words, |(s, t)| Command::Walk(merge, s, t))),
+        Verb::Subset => Ok(read(words, |(s, t)| Command::Subset(s, t))),
+        Verb::Superset => Ok(read(words, |(s, t)| Command::Superset(s, t))),
+        Verb::Disjoint => Ok(read(words, |(s, t)| Command::Disjoint(s, t))),
+        Verb::Equal => Ok(read(words, |(s, t)| Command::Equal(s, t))),
+        Verb::Compare => Ok(read(words, |(s, t)| Command::Compare(s, t))),
         Verb::Rest => Ok(read_rest(words)),
     }
 }
@@ -71,20 +86,37 @@ fn read_rest(words: &[u8]) -> Result<Command, BadLine>
         return Err(BadLine::BadCommand);
     };
     match walk_of(walk) {
-        Some(SetWalk::One) => {
-            <(SetName, usize)>::read(words).map(|(name, number)| Command::RestIter(name, number))
-        }
-        Some(SetWalk::Two(merge)) => <(SetName, (SetName, usize))>::read(words).map(|(
-            first,
-            (second, number),
-        )| Command::RestWalk(merge, first, second, number)),
+        Some(walk) => read_walk(walk, words),
         None => Err(BadLine::BadCommand),
     }
 }
 
+// What the walk and the words after it spell.
+fn read_walk(walk: SetWalk, words: &[u8]) -> Result<Command, BadLine>
+    ensures { result ≡ within_range numbers_of (rest_command walk (words_of words.now)) }
+{
+    match walk {
+        SetWalk::One => read(words, |(s, n)| Command::RestIter(s, n)),
+        SetWalk::Two(merge) => {
+            let (s, (t, n)) = <(SetName, (SetName, usize))>::read(words)?;
+            Ok(Command::RestWalk(merge, s, t, n))
+        }
+    }
+}
+
+// The command that is made of what the words spell.
+fn read<T: Operands, F: FnOnce(T) -> Command>(words: &[u8], make: F) -> Result<Command, BadLine>
+    requires { F.IsAlwaysCallable make }
+    ensures { MatchResult (within_range T.numbers (T.spelled (words_of words.now)))
+        (λ operands. IsOkAnd result (F.post make operands)) (λ bad. result ≡ Err bad) }
+{
+    Ok(make(T::read(words)?))
+}
+
 // A set's name and the numbers to put into it.
 fn read_extend(alloc: Global, words: &[u8]) -> Result<Result<Command, BadLine>, AllocError>
-    ensures { IfOk result (λ read. read ≡ within_range numbers_of (command_of Verb.Extend (words_of words.now))) }
+    ensures { IfOk result (λ read. read
+        ≡ within_range numbers_of (command_of (NameAndNumbers Extend) (words_of words.now))) }
 {
     let (name, numbers) = first_word(words);
     let name = match read_name(name) {
