@@ -1,6 +1,6 @@
 #!/usr/bin/env -S bash -p
-# Runs `add` in empty repositories, and looks at what it leaves there and at what it refuses. With --prove it also
-# makes README's first example there, with the texts that README has, and proves and runs it, which takes minutes.
+# Runs `add` in empty repositories, and looks at what it leaves there and at what it rejects. With --prove it also follows
+# README's lines for Rattle, which make an example and prove and run it: this takes minutes.
 # The last line is 'N passed, M failed'.
 case $- in *p*) ;; *) exec bash -p "$0" "$@" ;; esac
 set -uo pipefail
@@ -39,10 +39,11 @@ start() {
 from="$room/from"
 mkdir "$from"
 libraries=(bit_blocks bit_words bit_set bit_matrix graph_walks dataflow automata free_slots roaring)
-(cd "$top" && tar cf - --exclude=out add tools crates.txt LICENSE-* "${libraries[@]/#/crates/}") | tar xf - -C "$from"
+(cd "$top" && tar cf - --exclude=out add tools crates.txt LICENSE-* crates/evens "${libraries[@]/#/crates/}") | tar xf - -C "$from"
 for library in "${libraries[@]}"; do
     mkdir -p "$from/crates/$library/out/rlib"
     echo "$library" > "$from/crates/$library/out/rlib/proved"
+    touch "$from/crates/$library/out/rlib/stamp"
 done
 
 # shellcheck disable=SC2120  # the words are those of `expect` and `not`
@@ -55,7 +56,16 @@ texts() { find . \( -name out -o -name .git \) -prune -o -type f -print0 | LC_AL
 refuses() {
     local before
     before="$(texts)"
-    ! add && [ "$(texts)" = "$before" ]
+    ! add "$@" && [ "$(texts)" = "$before" ]
+}
+
+# Whether `add` says something.
+# shellcheck disable=SC2120
+says() {
+    local wanted="$1" said
+    shift
+    said="$(add "$@" 2>&1)"
+    [[ "$said" = *"$wanted"* ]]
 }
 
 # Whether each link of the copied documents leads to a file.
@@ -172,25 +182,87 @@ try_theirs() {
     expect 'add runs outside a repository' refuses
 }
 
-# README's blocks, and the lines around the function, as files of the crate `mine`.
-write_example() {
-    python3 - "$top/README.md" << 'END'
-import re, sys
-text = open(sys.argv[1], encoding="utf-8").read()
-part = text[text.index("## Use the library") : text.index("## Use the program")]
-function, invariants = re.findall(r"```\w+\n(.*?)```", part, re.S)
-around = [block for block in re.findall(r"(?:^    .*\n|^\n)+", part, re.M) if "// the function" in block][0]
-around = re.sub(r"^    ", "", around, flags=re.M).strip() + "\n"
-open("src/main.rt", "w", encoding="utf-8").write(around.replace("// the function\n", function))
-open("proofs/evens/Invariants.antt", "w", encoding="utf-8").write(invariants.split("\n", 1)[1])
-END
+# Moves a repository's copies of what is proved away for one command.
+without_proofs() {
+    local library status=0
+    for library in "${libraries[@]}"; do
+        mv "$from/crates/$library/out" "$from/crates/$library/out.away"
+    done
+    "$@" || status=$?
+    for library in "${libraries[@]}"; do
+        mv "$from/crates/$library/out.away" "$from/crates/$library/out"
+    done
+    return "$status"
 }
 
-# README's commands, its example, and what `rt` says of it.
-prove_example() {
-    sed -n '/^    git init/,/^$/p' "$top/README.md" | sed 's/^    //' | BIT_SET="$top" bash -e
-    mkdir -p crates/mine/proofs/evens
-    (cd crates/mine && write_example && rt fmt && rt check && rt run) > said 2>&1
+# What `rt ci` leaves has no stamp, and no use for another repository.
+without_stamp() {
+    local status=0
+    mv "$from/crates/$1/out/rlib/stamp" "$room/stamp"
+    shift
+    "$@" || status=$?
+    mv "$room/stamp" "$from/crates/bit_set/out/rlib/stamp"
+    return "$status"
+}
+
+try_unproved() {
+    local lib
+    printf -v lib '(cd %q && rt lib)' "$from/crates/bit_set"
+    start unproved
+    expect 'add does not say that rt lib comes first' without_proofs says "$lib"
+    expect 'add copies what is proved where nothing is' [ ! -e crates/bit_set/out ]
+    expect 'add does not copy later what is proved then' add
+    expect 'a library is not there' is_copy bit_set
+    start unstamped
+    expect 'add takes a library without a stamp for a proved one' without_stamp bit_set says "$lib"
+    expect 'add copies a library without a stamp' [ ! -e crates/bit_set/out ]
+    start proved
+    expect 'add asks for rt lib where all is proved' not says 'rt lib'
+    start changed
+    touch -d '1 minute' "$from/crates/bit_set/src/lib.rt"
+    expect 'add does not say that a file changed after rt lib' says "$lib"
+    touch -r "$top/crates/bit_set/src/lib.rt" "$from/crates/bit_set/src/lib.rt"
+}
+
+# Whether a folder has the example under a name, and crates.txt its line.
+is_example() {
+    local name="${1##*/}"
+    diff -r "$1/src" "$top/crates/evens/src" && cmp "$1/stdout" "$top/crates/evens/stdout" || return 1
+    grep -qx "use Rattle.$name.proofs.evens.Given as goal" "$1/proofs/evens/Invariants.antt" || return 1
+    ! grep -r 'Rattle\.evens' "$1" || return 1
+    grep -qx "$name: bit_set" crates.txt
+}
+
+try_example() {
+    start example
+    expect 'add fails with an example' add --example crates/mine
+    expect 'the example is not the one that is proved' is_example crates/mine
+    expect 'add does not copy the libraries beside an example' copied bit_blocks bit_words bit_set mine
+    expect 'add writes over an example' refuses --example crates/mine
+    expect 'add writes the example under the name of a library' refuses --example crates/bit_words
+    expect 'add writes the example where rt does not look' refuses --example elsewhere/mine
+    expect 'add writes an example at the top beside crates/' refuses --example other
+    expect 'add takes what is no name of a crate' refuses --example crates/My-Set
+    expect 'add takes an empty name' not add --example ''
+    expect 'add takes no name' not add --example
+    echo 'theirs: std' >> crates.txt
+    expect 'add takes the name of a line of crates.txt' refuses --example crates/theirs
+    mkdir crates/empty
+    expect 'add takes a folder that exists' refuses --example crates/empty
+    expect 'add fails with a second example' add --example ./crates/second/ free_slots
+    expect 'the second example is another' is_example crates/second
+    expect 'the first example changed' is_example crates/mine
+    start top
+    echo 'own:' > crates.txt
+    expect 'add fails with an example at the top' add --example mine
+    expect 'the example at the top is another' is_example mine
+}
+
+# README's lines for Rattle, and what they print.
+follow_readme() {
+    sed -n '/^### Rattle/,/^### /{s/^    //p}' "$top/README.md" > lines
+    grep -q -- --example lines || return 1
+    BIT_SET="$top" bash -e lines > said 2>&1
     local status=$?
     tail -n 3 said >&2
     [ "$status" -eq 0 ] && grep -qF '{0, 2, 4, 6, 8}' said
@@ -204,9 +276,11 @@ try_all() {
     try_older
     try_mine
     try_theirs
+    try_unproved
+    try_example
     if [ "${1:-}" = --prove ]; then
-        start example
-        expect "README's example is not proved" prove_example
+        start readme
+        expect "README's lines for Rattle prove no example" follow_readme
     fi
     echo "$passed passed, $failed failed"
     [ "$failed" -eq 0 ]

@@ -24,19 +24,6 @@ pub mod reading;
 pub mod selecting;
 pub mod worklists;
 
-/// The even numbers below `n`.
-pub fn evens(alloc: Global, n: usize) -> Result<BitSet, SetError>
-    ensures { IfOk result (λ set. (x : ℕ) → has (elements set.values) x ≡ (nat_lt x n && x % 2 == 0)) }
-{
-    let mut set = BitSet::new(alloc);
-    for number in 0..n {
-        if number % 2 == 0 {
-            set.insert(number)?;
-        }
-    }
-    Ok(set)
-}
-
 /// The even numbers below `n`, by a chain.
 pub fn evens_by_chain<B: BitBlock>(alloc: Global, n: usize) -> Result<BitSet<B>, SetError>
     ensures { IfOk result (λ set. (x : ℕ) → has (elements set.values) x ≡ (nat_lt x n && x % 2 == 0)) }

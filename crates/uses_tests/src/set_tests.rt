@@ -4,13 +4,12 @@ use crate::sets::{has_members, set_of};
 use bit_set::BitSet;
 use std::collections::BTreeMap;
 use uses::chains::copy_over;
-use uses::{evens, evens_by_chain, exchange, keep_under, lists_of_members, members, toggle};
+use uses::{evens_by_chain, exchange, keep_under, lists_of_members, members, toggle};
 
 const EVENS: &[usize] = &[0, 2, 4, 6, 8];
 
 #[test]
 fn sets_are_made(rt: HostRuntime) {
-    has_members(&rt, &ok(&rt, evens(rt.alloc(), 9)), EVENS);
     has_members(&rt, &ok(&rt, evens_by_chain::<u64>(rt.alloc(), 9)), EVENS);
 }
 
