@@ -10,10 +10,10 @@ example_of() {
     awk -v first="\`\`\`$1" '$0 == "```" { inside = 0 } inside; $0 == first && !seen++ { inside = 1 }' "$readme"
 }
 
-# The lines of shell between these words in bold and the example.
+# The lines of shell between this heading and the example.
 commands_of() {
     echo "$sudo"
-    awk -v words="**$1**" 'index($0, words) == 1 { inside = 1 } /^```/ { inside = 0 } inside && sub(/^    /, "")' "$readme"
+    awk -v heading="### $1" '$0 == heading { inside = 1 } /^```/ { inside = 0 } inside && sub(/^    /, "")' "$readme"
 }
 
 # The line of shell that installs Debian's packages.
