@@ -4,8 +4,8 @@
 
 - Each paragraph of a ```rust block of README.md and of a crate's CALLING.md is in one source, line for line but for the
   indentation, and what it imports is imported there. So a whole block is code that the gate proves.
-- A ```antt block begins with the name of a file, and the rest of it is in a file of that name. README's crate `mine` is
-  `uses` here.
+- A ```antt block begins with the name of a file, and the rest of it is in a file of that name. Where a document calls the
+  caller's crate `mine`, it is the crate here that has the file.
 - Each clause that a CALLING.md quotes below a line 'fn ..' is a clause of that function.
 - A CALLING.md with a heading 'All calls' has each public function of its crate there, but the laws. One with `_general` at the
   end of its name goes by the name before that.
@@ -135,6 +135,12 @@ def is_example_of(block, source):
     return True
 
 
+def has_proof(path, lines, crate):
+    """Whether a file of a crate has these lines, in which the crate may be called `mine`."""
+    file = lines_of(path.read_text(encoding="utf-8"))
+    return all(is_in(part, file) for part in paragraphs(line.replace("Rattle.mine.", f"Rattle.{crate}.") for line in lines))
+
+
 def check_examples(check, root, document, sources):
     """The examples of a document."""
     lines = lines_of(document.read_text(encoding="utf-8"))
@@ -143,9 +149,7 @@ def check_examples(check, root, document, sources):
         check.expect(agrees, f"{document.relative_to(root)}:{start}", "no source has this example")
     for start, block in fences(lines, "antt"):
         name = block[0].removeprefix("-- ")
-        files = [lines_of(path.read_text(encoding="utf-8")) for path in root.glob(f"crates/*/{name}")]
-        wanted = paragraphs(line.replace("Rattle.mine.", "Rattle.uses.") for line in block[1:])
-        agrees = any(all(is_in(part, file) for part in wanted) for file in files)
+        agrees = any(has_proof(path, block[1:], path.relative_to(root).parts[1]) for path in root.glob(f"crates/*/{name}"))
         check.expect(agrees, f"{document.relative_to(root)}:{start}", f"no {name} has this")
 
 
