@@ -7,8 +7,8 @@ use std::fmt;
 
 pub(crate) mod ranges;
 
-/// The elements in decimal and ascending order, joined by a comma and a space, between braces. Takes
-/// no memory of its own, and fails only where the formatter fails.
+/// The elements in decimal and ascending order, joined by a comma and a space, between braces. Allocates nothing
+/// itself, and fails only if the formatter fails.
 impl<B: BitBlock> fmt::Display for BitSet<B> {
     ghost output = { λ s. Some (items_text (elements s.values)) };
 
@@ -23,8 +23,8 @@ impl<B: BitBlock> fmt::Display for BitSet<B> {
     }
 }
 
-/// `BitSet { bit_vec: .. }`, with the text of the bit vector. Takes no memory of its own, and fails only
-/// where the formatter fails.
+/// `BitSet { bit_vec: .. }`, with the text of the bit vector. Allocates nothing itself, and fails only if the
+/// formatter fails.
 impl<B: BitBlock> fmt::Debug for BitSet<B> {
     fn fmt<W: fmt::Write>(&self, f: &mut fmt::Formatter<W>) -> fmt::Result {
         f.write_str("BitSet { bit_vec: ")?;

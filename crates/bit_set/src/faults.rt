@@ -5,17 +5,17 @@ use crate::bit_vec::BitsError;
 use std::alloc::{AllocError, AllocFailed};
 use thiserror::Error;
 
-/// Why a set did not take something in.
+/// Why a set did not accept something.
 #[derive(Clone, Copy, Debug, PartialEq, Eq, Error)]
 pub enum SetError {
-    /// The number is `usize::MAX`, or would be that or more: a length is above each element, and none is above
+    /// The number is `usize::MAX`, or would become that or more. The length exceeds each element, and cannot exceed
     /// `usize::MAX`.
     #[error("the element does not fit")]
     Element,
-    /// The bytes have more bits than a `usize` counts.
+    /// The bytes have more bits than a `usize` can count.
     #[error("too many bits")]
     Length,
-    /// Memory ran out, at a growth or at a new set.
+    /// Memory ran out, for a growth or for a new set.
     #[error("memory refused")]
     Memory(AllocError),
 }

@@ -1,11 +1,11 @@
-//! The hash of a set: that of its elements alone.
+//! The hash of a set, which depends only on its elements.
 ghost use Rattle.std.{specs.Cmp.Lexicographic.bytes_decides, proofs.Common.ap};
 ghost use Rattle.sets.specs.{Sets.elements, Order.fed_of_set};
 
 use crate::{BitBlock, BitSet};
 use std::hash::{Hash, Hasher};
 
-/// Feeds each element as a `usize`, in ascending order, with nothing before it and nothing after.
+/// Feeds each element as a `usize`, in ascending order, and nothing else.
 impl<B: BitBlock> Hash for BitSet<B> {
     ghost hash_input = { λ s. fed_of_set (elements s.values) };
 

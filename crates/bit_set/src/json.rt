@@ -1,5 +1,5 @@
-//! The JSON form of sets: an object with the one member `bit_vec`, an object with the members
-//! `storage`, the numbers of the blocks, and `nbits`, the length.
+//! The JSON form of sets: an object with one member, `bit_vec`, which is an object with the members `storage`, the
+//! numbers of the blocks, and `nbits`, the length.
 ghost use Rattle.std.specs.Prelude.{◌≡◌, Bool, List, [], alloc_error, IfErr, IfOk, IsErrOf, IsOk, length};
 ghost use Rattle.bit_blocks.specs.Bits.{blocks_for, blocks_of, capacity_of};
 ghost use Rattle.serde_json.specs.View.{view};
@@ -21,20 +21,19 @@ use checking::entries_and_len;
 use growing::bits_of_entries;
 use writing::{form, numbers};
 
-/// Why a value gave no set.
+/// Why a value is not the JSON form of a set.
 #[derive(Clone, Copy, Debug, PartialEq, Eq, Error)]
 pub enum JsonError {
-    /// A member is missing or one too many, or there is no object or no array where one must be.
+    /// A member is missing or unexpected, or something else stands where an object or an array must be.
     #[error("not the form of a bit set")]
     Shape,
-    /// `nbits` or an entry of `storage` is no number that `as_u64` gives, or the entry is no number of
-    /// a block.
+    /// `nbits` or an entry of `storage` is not a number that `as_u64` returns, or the entry does not fit a block.
     #[error("a number out of range")]
     Number,
-    /// The length asks for another number of blocks.
+    /// The length requires another number of blocks.
     #[error("a wrong number of blocks")]
     Blocks,
-    /// The last block has a bit 1 that is for an index at or past the length.
+    /// The last block has a 1 at an index at or past the length.
     #[error("a bit past the length")]
     Unclean,
     /// Memory for the set ran out.
@@ -64,9 +63,9 @@ impl<T: Drop> From<AllocFailed<T>> for JsonError {
 }
 
 impl<B: JsonBlock> BitSet<B> {
-    /// The value that spells the blocks and the length: an object with the one member `bit_vec`, an
-    /// object with the members `storage`, the numbers of the blocks, and `nbits`, the length. One step a
-    /// block. Fails only where memory runs out.
+    /// The value that represents the blocks and the length: an object with one member, `bit_vec`, which is an
+    /// object with the members `storage`, the numbers of the blocks, and `nbits`, the length. One step for each
+    /// block. Fails only if memory runs out.
     ///
     /// The set {0, 2}, of length 3, gives `{"bit_vec": {"storage": [5], "nbits": 3}}`.
     pub fn to_json(&self, alloc: Global) -> Result<Value, AllocError>
@@ -78,9 +77,9 @@ impl<B: JsonBlock> BitSet<B> {
         form(alloc, storage, bits.len())
     }
 
-    /// The set that a value spells. One step a block and one an element. The capacity is that of its blocks.
-    /// The tests come first, and the first fault in the order of [`JsonError`] is returned. `Memory` comes
-    /// only where the value spells a set, and never where that has length 0.
+    /// The set that a value represents. One step for each block and each element. The capacity is that of its
+    /// blocks. The value is checked first, and the first fault in the order of [`JsonError`] is returned. `Memory`
+    /// is returned only if the value represents a set, and never if that has length 0.
     pub fn from_json(alloc: Global, value: &Value) -> Result<Self, JsonError>
         ensures ok { IfOk result (λ set. Spells B.width (view value.now) (blocks_of B.width set.values)
             (length set.values)) }

@@ -1,5 +1,5 @@
-//! Laws of sets of numbers, as the contracts of functions that do nothing; one of them is in a body too,
-//! which proves it and does nothing else. A set is the list of its members in strictly ascending order.
+//! Laws of sets of numbers, stated as the contracts of functions that do nothing; one of them has a body that does
+//! nothing else than prove it. A set is the list of its members in strictly ascending order.
 ghost use Rattle.std.specs.Prelude.{◌≡◌, ◌≢◌, ℕ, ◌+◌, ◌-◌, ◌*◌, ◌/◌, ◌<◌, ◌≤◌, ◌↔◌, ◌++◌, ◌∷◌, ◌==◌, ◌&&◌, ◌||◌, max, min, not, nat_lt, nat_le, if◌then◌else◌, Bool, true, All, IsTrue, Some, None};
 ghost use Rattle.std.specs.Prelude.{Option, List, [], length, map, slice_get, MatchOption, filter, false, ◌⊎◌};
 ghost use Rattle.std.specs.{Cmp.{IsEquivalence, IsTotalOrder}, Ordering.nat_cmp, Iterator.{YieldsThen, Drains}, List.{find, last_or, list_all, list_any, position_or_len, reduce}};
@@ -40,8 +40,8 @@ pub use sets::laws::{
     sizes_of_sets, steps_of_walks, tests_of_members,
 };
 
-/// What `from_iter` collects of a whole walk over what two sets become is what the operation in place
-/// leaves. The items of a set, put into the empty set one by one, are that set.
+/// What `from_iter` collects from complete iteration over a merge of two sets is what the operation in place
+/// leaves. The members of a set, inserted into the empty set one by one, are that set.
 pub fn collected_walks<B: BitBlock + 'static>()
     ensures set { (s : List ℕ) → IsAscending s → put_all [] s ≡ s }
     ensures union { (a b c : List Bool) (s : TwoSetWalk) (items : List ℕ) → s.left ≡ union (elements a) (elements b)
@@ -61,12 +61,12 @@ pub fn collected_walks<B: BitBlock + 'static>()
         → elements c ≡ symmetric_difference (elements a) (elements b) }
 {}
 
-/// What whole walks give. From any point on, the calls of `next` up to the first `None` give just the
-/// elements that are left, in their order, and pull at most once more than there are blocks past the
-/// block in hand. After it there are `None`s alone. After an item the block in hand is the one that has
-/// it, which fixes the blocks that `size_hint` counts. From the making on there is at most one pull more
-/// than there are blocks, and two where there is none. However `next` is called, it is these calls, so the
-/// number of items that generic code counts is the number of elements left.
+/// What complete iteration yields. From any point on, the calls of `next` up to the first `None` yield exactly the
+/// elements that are left, in order, and make at most one pull more than there are blocks after the block in hand.
+/// After that there is only `None`. After an item the block in hand is the one that has it, which determines the
+/// blocks that `size_hint` counts. From the start there is at most one pull more than there are blocks, and two
+/// pulls if there is no block. Generic code makes these same calls of `next`, so the number of items that it counts
+/// is the number of elements left.
 pub fn whole_walks<B: BitBlock + 'static>()
     ensures rest { (s t : Walk) (items : List ℕ) → YieldsThen ⟦<Iter<'static, B> as Iterator>⟧.next_gives s items None t
         → IsWalkedOut s items t }
@@ -82,13 +82,12 @@ pub fn whole_walks<B: BitBlock + 'static>()
         → length items ≡ length s.left }
 {}
 
-/// How often whole walks over a set pull. From any point up to the first `None` there is just one pull more
-/// than there are nonzero blocks that are not yet pulled, which are no more than lie past the block in hand; from the
-/// making on, when block 0 is in hand, zero or not, there are two more than lie past it; so it is where a walk begins at
-/// any number, of the blocks past that of this number.
-/// The blocks of the summary are pulled once each, and once more at the end.
-/// The nonzero blocks past block `k` are the blocks past it that an element which is left lies in, each once
-/// and in ascending order.
+/// How many pulls complete iteration over a set makes. From any point up to the first `None` there is exactly one
+/// pull more than there are nonzero blocks not yet pulled, all of which lie after the block in hand. From the
+/// start, when block 0 is in hand, zero or not, there are two pulls more than there are nonzero blocks after it;
+/// likewise for an iterator that starts at any number, counting the blocks after the one with that number. Each
+/// block of the summary is pulled once, and there is one more pull at the end. The nonzero blocks after block `k`
+/// are the blocks after it that have an element which is left, each once and in ascending order.
 pub fn sparse_walks<B: BitBlock + 'static>()
     ensures rest { (s t : Walk) (items : List ℕ) → YieldsThen ⟦<Iter<'static, B> as Iterator>⟧.next_gives s items None t
         → t.pulls ≡ s.pulls + s.nonzero_left + 1 }
@@ -109,10 +108,10 @@ pub fn sparse_walks<B: BitBlock + 'static>()
     ensures ascend { (k : ℕ) (numbers : List ℕ) → IsAscending (blocks_past B.width k numbers) }
 {}
 
-/// What a walk over a set gives from both ends, by calls of `next` and `next_back` in any mixture up to the first `None`:
-/// those from the front, and after them those from the back, the last one first, are all that was left. There is just one
-/// pull more than there are nonzero blocks that are not yet pulled, whichever end took them; from the making on there are
-/// two more than nonzero blocks past block 0.
+/// What an iterator over a set yields from both ends, by calls of `next` and `next_back` in any mixture up to the
+/// first `None`: the items from the front, followed by those from the back in reverse, are all that was left. There
+/// is exactly one pull more than there are nonzero blocks not yet pulled, from whichever end; from the start there
+/// are two more than there are nonzero blocks after block 0.
 pub fn walks_from_both_ends<B: BitBlock + 'static>()
     ensures rest { (s t u : Walk) (calls : List (Bool × ℕ)) (front : Bool) → GivesFromEnds B.width s calls t
         → CallsEnd B.width front t None u
@@ -124,9 +123,9 @@ pub fn walks_from_both_ends<B: BitBlock + 'static>()
         → (r ≡ None) × (t.left ≡ []) }
 {}
 
-/// What whole walks over two sets give, for each of the four. As above, but the pulls are exact: from any
-/// point up to the first `None` there is just one more than there are blocks past the block in hand, and
-/// from the making on one more than the set with more blocks has, and two where both have none.
+/// What complete iteration over two sets yields, for each of the four operations. As above, but the number of pulls
+/// is exact: from any point up to the first `None` there is one more than there are blocks after the block in hand;
+/// from the start one more than the set with more blocks has, and two if both have none.
 pub fn whole_walks_over_two_sets<B: BitBlock + 'static>()
     ensures union { WalksOverTwo B.width Merge.Union (λ walk. walk) ⟦<Union<'static, B> as Iterator>⟧.next_gives }
     ensures intersection { WalksOverTwo B.width Merge.Intersection
@@ -137,7 +136,7 @@ pub fn whole_walks_over_two_sets<B: BitBlock + 'static>()
         (λ walk. walk) ⟦<SymmetricDifference<'static, B> as Iterator>⟧.next_gives }
 {}
 
-/// What each of the five walks gives up to the first `None` is strictly ascending.
+/// What each of the five iterators yields up to the first `None` is strictly ascending.
 pub fn whole_walks_ascend<B: BitBlock + 'static>()
     ensures iter { (a : List Bool) (s t : Walk) (items : List ℕ) → s.left ≡ elements a
         → YieldsThen ⟦<Iter<'static, B> as Iterator>⟧.next_gives s items None t → IsAscending items }
@@ -154,11 +153,11 @@ pub fn whole_walks_ascend<B: BitBlock + 'static>()
         → YieldsThen ⟦<SymmetricDifference<'static, B> as Iterator>⟧.next_gives s items None t → IsAscending items }
 {}
 
-/// Capacity that is there is enough. Where a set has capacity for `capacity` values, as after
-/// `reserve_len(capacity)`, any run of calls that need no more never fails, and the capacity stays: that of
-/// insertions below `capacity`, of removals, of `truncate`, `make_empty` and `reset`, of reservations of at most
-/// `capacity`, and of `clone_from`, `append` and operations in place with sets no longer than `capacity`. The
-/// clause `grows` or `capacity` of each call says what it does to the capacity.
+/// Capacity that a set has suffices. If it has capacity for `capacity` values, as after `reserve_len(capacity)`, no
+/// sequence of calls that need no more can fail, and the capacity stays: insertions below `capacity`, removals,
+/// `truncate`, `make_empty` and `reset`, reservations of at most `capacity`, and `clone_from`, `append` and
+/// operations in place with sets no longer than `capacity`. The clause `grows` or `capacity` of each call says what
+/// it does to the capacity.
 pub fn runs_within_capacity()
     ensures each { (capacity old new : ℕ) (calls : List (ℕ × Bool)) → capacity ≤ old
         → All (λ call. call.0 ≤ capacity) calls → Run old calls new → All (λ call. IsTrue call.1) calls }
@@ -166,8 +165,8 @@ pub fn runs_within_capacity()
         → All (λ call. call.0 ≤ capacity) calls → Run old calls new → new ≡ old }
 {}
 
-/// How long a shrunk set is. A list of truth values is true up to the bound of its elements, and as many
-/// blocks of `w` as `blocks_for` says are enough for `n` values, and fewer are not.
+/// How long a shrunk set is. The last true value of a list is just below the bound of its elements, and
+/// `blocks_for` is the least number of blocks of `w` bits that hold `n` values.
 #[tactic(auto, using(crate::proofs::CapacityLemmas::shrunk_lengths))]
 pub fn shrunk_lengths()
     ensures ends { (values : List Bool) → true_end values ≡ bound_of (elements values) }
@@ -175,9 +174,9 @@ pub fn shrunk_lengths()
     ensures least { (w n blocks : ℕ) → 0 < w → n ≤ blocks * w → blocks_for w n ≤ blocks }
 {}
 
-/// What a value spells in JSON, in blocks of `w` bits. It has one reading: the blocks, the length, and so
-/// the list of truth values and its elements. What is written of a set and read again is that set. Where
-/// a value spells a set it has no fault, and else one at most is the first.
+/// What a JSON value represents, in blocks of `w` bits. It has one reading: the blocks, the length, and so the list
+/// of truth values and its elements. A set that is written and read again is the same set. A value that represents
+/// a set has no fault, and any other has at most one first fault.
 pub fn values_have_one_reading()
     ensures reading { (w : ℕ) (value : Data) (ms ns : List ℕ) (m n : ℕ) → Spells w value ms m → Spells w value ns n
         → (ms ≡ ns) × (m ≡ n) }
@@ -189,11 +188,11 @@ pub fn values_have_one_reading()
         → a ≡ b }
 {}
 
-/// What calls make of a set, one after another, where each finds memory. The elements are those of set
-/// algebra, and so is how each call returns: no block, length or capacity decides. So two sets of the same
-/// elements, over any two block types, have the same elements after the same calls, which return the same.
-/// The clause `changes` of each call says what it does; `extend` is given the items that went in, those of
-/// its `TakesIn`.
+/// What calls make of a set, one after another, if every allocation succeeds. The elements are those of set
+/// algebra, and so is the result of each call: no block, length or capacity matters. So two sets with the same
+/// elements, over any two block types, have the same elements after the same calls, which return the same. The
+/// clause `changes` of each call says what it does; for `extend`, the items are those that were inserted, in its
+/// `TakesIn`.
 #[tactic(auto, using(crate::proofs::ChangeLemmas::happens_found, crate::proofs::ChangeLemmas::happens_agree), unfolding(crate::specs::Changes::Changes))]
 pub fn calls_are_set_algebra()
     ensures elements { (old new : List Bool) (events : List Event) → All (λ e. e.outcome ≢ NoMemory) events
@@ -210,9 +209,9 @@ pub fn calls_are_set_algebra()
         → Changes (Change.Extend items) old Done new }
 {}
 
-/// No test sees blocks, lengths or capacities. Over any two block types, where `a` has the elements of `b`
-/// and `s` those of `t`, each test returns of `a` and `s` what it returns of `b` and `t`, as the body proves;
-/// a hasher is fed the same, and Display writes the same.
+/// No test depends on blocks, lengths or capacities. Over any two block types, if `a` has the elements of `b` and
+/// `s` those of `t`, each test returns for `a` and `s` what it returns for `b` and `t`, as the body proves; a
+/// hasher is fed the same, and Display writes the same.
 pub fn tests_agree<A: BitBlock, B: BitBlock>(
     a: &BitSet<A>,
     s: &BitSet<A>,
@@ -237,10 +236,10 @@ pub fn tests_agree<A: BitBlock, B: BitBlock>(
     prove!(a.partial_cmp(s) == b.partial_cmp(t));
 }
 
-/// No walk gives away blocks, lengths or capacities by its items. Over any two block types, two walks of a
-/// kind that have the same elements left give the same from there on, step by step and up to the first
-/// `None`. They have so where they were made of sets of the same elements, after as many items, and where
-/// one is a `clone`; and `count` is the number of elements left.
+/// The items of an iterator do not depend on blocks, lengths or capacities. Over any two block types, two iterators
+/// of a kind with the same elements left yield the same from there on, step by step and up to the first `None`.
+/// They have the same elements left if they were made from sets of the same elements and have yielded equally many
+/// items, or if one is a `clone` of the other; and `count` is the number of elements left.
 pub fn walks_agree<A: BitBlock + 'static, B: BitBlock + 'static>()
     ensures iter { WalksAgree (λ walk. walk.left) ⟦<Iter<'static, A> as Iterator>⟧.next_gives
         (λ walk. walk.left) ⟦<Iter<'static, B> as Iterator>⟧.next_gives }
@@ -255,8 +254,8 @@ pub fn walks_agree<A: BitBlock + 'static, B: BitBlock + 'static>()
         (λ walk. walk.left) ⟦<SymmetricDifference<'static, B> as Iterator>⟧.next_gives }
 {}
 
-/// How often a full walk pulls, from its making up to its first `None`: at most two more than there are
-/// blocks, over two sets of the one that has more.
+/// How many pulls complete iteration makes, from the start up to the first `None`: at most two more than there are
+/// blocks; over two sets, blocks of the one that has more.
 pub fn full_walks<B: BitBlock + 'static>()
     ensures iter { (a : List Bool) (s t : Walk) (items : List ℕ) → IsAtStart B.width a s
         → YieldsThen ⟦<Iter<'static, B> as Iterator>⟧.next_gives s items None t

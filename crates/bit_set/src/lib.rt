@@ -1,4 +1,4 @@
-//! Sets of whole numbers, each kept as the true indexes of a bit vector.
+//! Sets of whole numbers, each stored as the true indexes of a bit vector.
 #![tactic(auto)]
 
 mod display;
@@ -11,9 +11,9 @@ mod range_texts;
 mod set;
 mod walk;
 
-/// Bit vectors: what a set is kept in, and what can be made a set.
+/// Bit vectors: what a set is stored in, and what can be converted to a set.
 pub use bit_words::bit_vec;
-/// What a type of blocks has to be.
+/// What a block type must provide.
 pub use bit_words::bit_vec::BitBlock;
 pub use display::ranges::Ranges;
 pub use faults::SetError;

@@ -1,5 +1,4 @@
-//! Equality and order of sets: those of the lists of their elements in ascending order, found block
-//! by block.
+//! Equality and order of sets: those of the ascending lists of their elements, determined block by block.
 ghost use Rattle.std.specs.Prelude.{◌≡◌, ℕ, ◌≤◌, ◌↔◌, IsTrue, MatchOption, Some, get_or, true, false};
 ghost use Rattle.std.specs.Cmp.{on_equiv, on_per, on_po, on_total, partial_equiv_from_equiv, Lexicographic.nat_list_cmp_total};
 ghost use Rattle.std.{specs.{Cmp.Lexicographic.{nat_list_eq_equiv, texts_po, texts_ties}, Ordering.MatchOrdering}, proofs.Common.refl};
@@ -12,8 +11,8 @@ use crate::bit_vec::{
 use crate::{BitBlock, BitSet};
 use std::cmp::Ordering;
 
-/// Sets are equal where they have the same elements, whatever their lengths and capacities. Compares the blocks
-/// up to the first that differs; of long sets the summaries first, and then the blocks alone that are not zero.
+/// Sets are equal if they have the same elements, whatever their lengths and capacities. Compares the blocks up to
+/// the first that differs; for long sets the summaries first, and then only the nonzero blocks.
 impl<B: BitBlock> PartialEq for BitSet<B> {
     ghost eq = { λ s t. same_sets (elements s.values) (elements t.values) };
 
@@ -43,9 +42,8 @@ impl<B: BitBlock> PartialOrd for BitSet<B> {
     }
 }
 
-/// The order of the lists of elements, from the first that differs. It is not the order of subsets.
-/// Compares the blocks up to the first that differs, of long sets those alone that are not zero, and looks for one element past
-/// it.
+/// The order of the ascending lists of elements, by the first difference. It is not the order of subsets. Compares
+/// the blocks up to the first that differs, for long sets only the nonzero ones, and looks for one element past it.
 ///
 /// ```
 /// // {0, 1} comes before {1}: 0 is the first number that just one of them has.

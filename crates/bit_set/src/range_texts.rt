@@ -10,10 +10,10 @@ use std::alloc::{AllocError, Global};
 use std::ops::Range;
 use thiserror::Error;
 
-/// Why a text was not read as ranges.
+/// Why a text could not be read as ranges.
 #[derive(Clone, Copy, Debug, PartialEq, Eq, Error)]
 pub enum RangesError {
-    /// An item is not a number, nor two with a hyphen between them of which the second is not less.
+    /// An item is neither a number nor two ascending or equal numbers with a hyphen between them.
     #[error("not a list of ranges")]
     Text,
     /// A number is `usize::MAX` or above.
@@ -25,12 +25,12 @@ pub enum RangesError {
 }
 
 impl<B: BitBlock> BitSet<B> {
-    /// The set that a text lists as Linux lists processors, `0-3, 5, 9-12`: numbers, and ranges from a first to a last
-    /// number, with a comma between them and one space behind it or none. They may be in any order and overlap; numbers
-    /// may have leading zeros. The empty text is the empty set. The length is one more than the greatest number, and
-    /// the capacity that of its blocks. Two passes over the text, and one write of each block of a range. Fails at the
-    /// first item that is not so, whatever memory there is. A text without such an item fails only where memory for
-    /// the blocks runs out, and the empty one never does.
+    /// The set that a text lists in the form in which Linux lists processors, `0-3, 5, 9-12`: numbers, and ranges
+    /// from a first to a last number, separated by a comma and at most one space. They may be in any order and
+    /// overlap; numbers may have leading zeros. The empty text is the empty set. The length is one more than the
+    /// greatest number, and the capacity that of its blocks. Two passes over the text, and one write of each block
+    /// of a range. Fails at the first malformed item, however much memory there is. A text with no such item fails
+    /// only if memory for the blocks runs out, and the empty one never does.
     ///
     /// ```
     /// let set: BitSet = BitSet::from_ranges(alloc, "0-3, 5,9-10")?;

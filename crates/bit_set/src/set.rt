@@ -29,11 +29,11 @@ mod searching;
 mod shifting;
 mod splitting;
 
-/// A set of whole numbers below `usize::MAX`, kept as a bit vector: a number is an element exactly
-/// where the vector is true at it.
+/// A set of whole numbers below `usize::MAX`, stored as a bit vector: a number is an element exactly if the vector
+/// is true at that index.
 ///
-/// Contracts see the bit vector, as its list of truth values and its capacity. The elements of the list and its
-/// length fix it.
+/// Contracts see the bit vector, as its list of truth values and its capacity. The list is determined by its
+/// elements and its length.
 ///
 /// ```
 /// let mut set = BitSet::new(alloc);
@@ -67,8 +67,8 @@ impl<B: BitBlock> BitSet<B> {
         self.bits.get(value).unwrap_or(false)
     }
 
-    /// How many elements there are. Adds up the ones of each block, and passes over as many blocks as a
-    /// block has bits at once where they are all zero.
+    /// How many elements there are. Adds up the ones of each block, and skips as many blocks at once as a block has
+    /// bits, if they are all zero.
     #[tactic(auto, using(sets::proofs::MemberLemmas::reads))]
     #[inline]
     pub fn count(&self) -> usize
@@ -88,8 +88,9 @@ impl<B: BitBlock> BitSet<B> {
         self.count()
     }
 
-    /// Whether there is no element. Of many blocks it reads the summary alone, which says of as many as a block
-    /// has bits at once whether they are all zero; of few it reads each, up to the first that is not zero.
+    /// Whether there is no element. If there are many blocks, it reads only the summary, each block of which says
+    /// whether as many blocks as it has bits are all zero; if there are few, it reads each, up to the first that is
+    /// not zero.
     #[inline]
     pub fn is_empty(&self) -> bool
         ensures elements { IsTrue result ↔ (elements self.now.values ≡ []) }
@@ -98,8 +99,8 @@ impl<B: BitBlock> BitSet<B> {
         self.bits.none()
     }
 
-    /// Below which number an element goes in without memory: a whole number of blocks, or `usize::MAX`.
-    /// Constant time.
+    /// The number below which inserting an element allocates nothing: that of a whole number of blocks, or
+    /// `usize::MAX`. Constant time.
     #[inline]
     pub fn capacity(&self) -> usize
         ensures value { result ≡ self.now.capacity }
@@ -109,7 +110,7 @@ impl<B: BitBlock> BitSet<B> {
         self.bits.capacity()
     }
 
-    /// The bit vector that keeps the set. Constant time.
+    /// The bit vector that stores the set. Constant time.
     #[inline]
     pub fn get_ref(&self) -> &BitVec<B>
         ensures { result.now ≡ self.now }

@@ -1,4 +1,4 @@
-//! The walks over a set's elements, and over what two sets make.
+//! The iterators over a set's elements, and over the results of operations on two sets.
 ghost use Rattle.std.specs.{Prelude.{◌≡◌, IfSome, MatchOption, length}, Iterator.{UpTo, item_count, Runs.YieldsInOrder, SizeHint.IsWithinCount}};
 ghost use Rattle.sets.specs.{Choices.{IsFirstOf, IsLeast}, Members.HasNone, Sets.elements};
 ghost use Rattle.bit_set.specs.Walk.{Advances, IsAtStart, bound_on_rest};
@@ -19,8 +19,8 @@ mod two_sets;
 pub use intersection::Intersection;
 pub use two_sets::{Difference, SymmetricDifference, TwoSets, Union};
 
-/// The elements of a set in ascending order, each once, from both ends. Looks at no block of the set that is zero, but
-/// at the first; where the set has few blocks and stores no summary, at each.
+/// The elements of a set in ascending order, each once, from both ends. Reads no zero block of the set except the
+/// first; if the set has few blocks and stores no summary, it reads each.
 #[derive(Drop)]
 pub struct Iter<'a, B: BitBlock> {
     nonzero: Nonzero<'a, B>,
@@ -62,15 +62,15 @@ impl<'a, B: BitBlock> Iter<'a, B> {
         }
     }
 
-    /// How many elements are left. Adds up the ones of the blocks that are left, and passes over as many as a
-    /// block has bits at once where they are all zero.
+    /// How many elements are left. Adds up the ones of the remaining blocks, and skips as many at once as a block
+    /// has bits, if they are all zero.
     pub fn count(self) -> usize
         ensures { result ≡ length self.entry.left }
     {
         self.block.count_ones() + self.nonzero.count_ones() + self.back.count_ones()
     }
 
-    /// The least element that is left. It is one call of [`next`](Iterator::next).
+    /// The least element that is left: one call of [`next`](Iterator::next).
     #[inline]
     pub fn min(mut self) -> Option<usize>
         ensures first { IsFirstOf self.entry.left result }
@@ -79,7 +79,7 @@ impl<'a, B: BitBlock> Iter<'a, B> {
         self.next()
     }
 
-    /// Another walk over what is left. It counts its pulls on from this one's. Constant time.
+    /// Another iterator over what is left, whose count of pulls continues from this one's. Constant time.
     #[inline]
     pub fn clone(&self) -> Self
         ensures { result ≡ self.now }
@@ -101,8 +101,8 @@ impl<'a, B: BitBlock> Iterator for Iter<'a, B> {
 
     ghost remaining = { item_count (λ walk. walk.left) };
 
-    /// The least element that is left, and from the end on `None` for good. Goes on to the next block that
-    /// is not zero by the summary; constant time within a block.
+    /// The least element that is left, and `None` for good once there is none. Moves to the next nonzero block by
+    /// the summary; constant time within a block.
     #[inline]
     fn next(&mut self) -> Option<usize> {
         let back_index = self.back_index;
@@ -116,9 +116,9 @@ impl<'a, B: BitBlock> Iterator for Iter<'a, B> {
         Some(self.index + take_lowest_one(&mut self.block))
     }
 
-    /// From 0 up to the bits of the blocks from the one in hand at the front to the one at the back, or to no bound
-    /// where a `usize` is too small for that. There is always a block in hand, one of zeros at the end and over a
-    /// set of length 0: so its bits count, of such a set too. Constant time.
+    /// From 0 up to the number of bits of the blocks from the one in hand at the front to the one at the back, or
+    /// without a bound if a `usize` is too small for that. There is always a block in hand, one of zeros at the end
+    /// and for a set of length 0, so its bits count even then. Constant time.
     #[inline]
     fn size_hint(&self) -> (usize, Option<usize>)
         ensures exact { result ≡ (0, bound_on_rest B.width self.now.blocks) }
@@ -130,7 +130,7 @@ impl<'a, B: BitBlock> Iterator for Iter<'a, B> {
 }
 
 impl<B: BitBlock> BitSet<B> {
-    /// A walk over the elements, in ascending order. Constant time.
+    /// An iterator over the elements, in ascending order. Constant time.
     // Where it is a call, the walk that it returns goes through memory.
     #[inline(always)]
     pub fn iter(&self) -> Iter<'_, B>
@@ -142,7 +142,7 @@ impl<B: BitBlock> BitSet<B> {
     }
 }
 
-/// A set by reference is the walk over its elements.
+/// A reference to a set iterates over its elements.
 impl<'a, B: BitBlock> IntoIterator for &'a BitSet<B> {
     type Item = usize;
 

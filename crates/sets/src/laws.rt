@@ -1,5 +1,5 @@
-//! Laws above the definitions of `specs/`, as the contracts of functions that do nothing. A set is the list of its members
-//! in strictly ascending order.
+//! Laws above the definitions of `specs/`, stated as the contracts of functions that do nothing. A set is the list of
+//! its members in strictly ascending order.
 ghost use Rattle.std.specs.Prelude.{◌≡◌, ℕ, ◌+◌, ◌-◌, ◌<◌, ◌≤◌, ◌↔◌, ◌++◌, ◌∷◌, ◌==◌, ◌&&◌, ◌||◌, max, min, not, nat_lt, nat_le, if◌then◌else◌, Bool, true, IsTrue, Some};
 ghost use Rattle.std.specs.Prelude.{Option, List, [], length, map, slice_get, MatchOption, filter, false, None, ◌⊎◌};
 ghost use Rattle.std.specs.{Cmp.{IsEquivalence, IsTotalOrder}, Ordering.nat_cmp, List.{find, last_or, list_all, list_any, position_or_len, reduce}, declared.ops.Range.Range};
@@ -24,9 +24,9 @@ pub fn members_of_sets()
         ↔ (slice_get values m ≡ Some true) }
 {}
 
-/// The numbers of a range: they are those from `a` on and below `b`, in ascending order, and none where `b` is at most
-/// `a`. What is left of a set without them is its difference with them, those of the set that are among them are the
-/// intersection, and a range that is toggled twice leaves the elements as they were.
+/// The numbers of a range: those at or above `a` and below `b`, in ascending order, and none if `b` is at most `a`.
+/// A set without them is its difference with them, the members among them are the intersection, and toggling a
+/// range twice leaves the elements unchanged.
 #[tactic(auto, using(crate::proofs::RangeLemmas::numbers_of_ranges))]
 pub fn numbers_of_ranges()
     ensures members { (a b n : ℕ) → has (span a b) n ≡ (nat_le a n && nat_lt n b) }
@@ -39,9 +39,9 @@ pub fn numbers_of_ranges()
     ensures twice { (s t : List ℕ) → IsAscending s → symmetric_difference (symmetric_difference s t) t ≡ s }
 {}
 
-/// How many members each operation leaves, of a set whose list ascends. Of items that are put in one by
-/// one, `those_new` lists those that are new: they are what is in some item and not in the set. The
-/// elements of a list of truth values are no more than it is long.
+/// How many members each operation leaves in a set whose list ascends. When items are inserted one by one,
+/// `those_new` lists the new ones: the items that the set does not have. A list of truth values has at most as many
+/// elements as its length.
 #[tactic(auto, using(crate::proofs::SizeLemmas::sizes_of_sets))]
 pub fn sizes_of_sets()
     ensures put { (s : List ℕ) (n : ℕ) → IsAscending s
@@ -55,21 +55,21 @@ pub fn sizes_of_sets()
     ensures elements { (values : List Bool) → length (elements values) ≤ length values }
 {}
 
-/// Items that are put in one by one, in two parts: first those of one list, then those of the other.
+/// Items inserted one by one in two parts: first those of one list, then those of the other.
 #[tactic(auto, using(crate::proofs::SizeLemmas::items_in_two_parts))]
 pub fn items_in_two_parts()
     ensures put_all { (s xs ys : List ℕ) → put_all s (xs ++ ys) ≡ put_all (put_all s xs) ys }
     ensures those_new { (s xs ys : List ℕ) → those_new s (xs ++ ys) ≡ those_new s xs ++ those_new (put_all s xs) ys }
 {}
 
-/// The first of a set whose list ascends is the least, and the others are the set without it.
+/// In a set whose list ascends the first member is the least, and the others are the set without it.
 pub fn first_of_a_set()
     ensures taken { (s t : List ℕ) (x : ℕ) → IsAscending s → s ≡ x ∷ t → TakesLeast s x t }
     ensures rest { (s t : List ℕ) (x : ℕ) → IsAscending s → s ≡ x ∷ t → without s x ≡ t }
 {}
 
-/// What each operation gives is strictly ascending. A test says what `without`, `those_below`, `intersection` and
-/// `difference` keep, and `union` puts all in.
+/// The result of each operation is strictly ascending. `without`, `those_below`, `intersection` and `difference`
+/// keep what passes a test, and `union` inserts all items.
 #[tactic(auto, using(crate::proofs::AlgebraLemmas::sets_ascend))]
 pub fn sets_ascend()
     ensures put { (s : List ℕ) (n : ℕ) → IsAscending s → IsAscending (put s n) }
@@ -80,8 +80,8 @@ pub fn sets_ascend()
     ensures elements { (values : List Bool) → IsAscending (elements values) }
 {}
 
-/// What fixes a set: its members. What fixes a list of truth values: the set that it keeps and its
-/// length. `bound_of` is the least number above all of some numbers.
+/// A set is determined by its members, and a list of truth values by its set and its length. `bound_of` is the
+/// least number above all numbers of a list.
 #[tactic(auto, using(crate::proofs::SetLaws::sets_are_their_members))]
 pub fn sets_are_their_members()
     ensures set { (s t : List ℕ) → IsAscending s → IsAscending t → ((n : ℕ) → has s n ≡ has t n) → s ≡ t }
@@ -91,8 +91,8 @@ pub fn sets_are_their_members()
         → bound_of numbers ≤ bound }
 {}
 
-/// The operations are those of finite sets. `those_below` and `those_from` are each what a test keeps;
-/// `put_all` is `union`, of which `merged_sets_are_finite_sets` says the same.
+/// The operations are those of finite sets. `those_below` and `those_from` each keep what passes a test; `put_all`
+/// is `union`, for which see `merged_sets_are_finite_sets`.
 #[tactic(auto, using(crate::proofs::SetLaws::sets_are_finite_sets))]
 pub fn sets_are_finite_sets()
     ensures contains { (s : List ℕ) (n : ℕ) → set.contains (set.from_list {R = nat_cmp} s) n ≡ has s n }
@@ -103,7 +103,7 @@ pub fn sets_are_finite_sets()
     ensures len { (s : List ℕ) → IsAscending s → set.len (set.from_list {R = nat_cmp} s) ≡ length s }
 {}
 
-/// The members of what two sets become.
+/// The members of the merge of two sets.
 #[tactic(auto, using(crate::proofs::AlgebraLemmas::members_of_merged_sets))]
 pub fn members_of_merged_sets()
     ensures union { (s t : List ℕ) (n : ℕ) → has (union s t) n ≡ (has s n || has t n) }
@@ -115,8 +115,8 @@ pub fn members_of_merged_sets()
         → has (merge_of_sets merge s t) n ≡ merge_of_values merge (has s n) (has t n) }
 {}
 
-/// What two sets become is what two finite sets become. What is in just one of them is what the first
-/// has alone, and what the second has alone.
+/// A merge of two sets is that of two finite sets. The symmetric difference is what only the first has, and what
+/// only the second has.
 #[tactic(auto, using(crate::proofs::AlgebraLemmas::merged_sets_are_finite_sets))]
 pub fn merged_sets_are_finite_sets()
     ensures union { (s t : List ℕ) → set.from_list {R = nat_cmp} (union s t)
@@ -130,8 +130,8 @@ pub fn merged_sets_are_finite_sets()
         (set.difference (set.from_list t) (set.from_list s)) }
 {}
 
-/// Where two lists of truth values become one value by value, the shorter one going on with false, the
-/// sets that they keep become one.
+/// If two lists of truth values are merged value by value, the shorter one extended by false, their sets are merged
+/// in the same way.
 #[tactic(auto, using(crate::proofs::AlgebraLemmas::merged_lists_keep_merged_sets))]
 pub fn merged_lists_keep_merged_sets()
     ensures merged { (merge : Merge) (a b : List Bool)
@@ -139,7 +139,7 @@ pub fn merged_lists_keep_merged_sets()
     ensures length { (merge : Merge) (a b : List Bool) → length (merge_of merge a b) ≡ max (length a) (length b) }
 {}
 
-/// When a set is in another, and when two have nothing in common.
+/// When a set is a subset of another, and when two have nothing in common.
 #[tactic(auto, using(crate::proofs::MemberLemmas::sets_in_one_another))]
 pub fn sets_in_one_another()
     ensures subset { (s t : List ℕ) → IsTrue (is_subset s t) ↔ ((n : ℕ) → IsTrue (has s n) → IsTrue (has t n)) }
@@ -152,10 +152,9 @@ pub fn sets_in_one_another()
         (set.from_list t) }
 {}
 
-/// What a set in two parts is, as `split_off` parts one: its members below a number, and the others. Each of the
-/// first is below each of the second, so that they have nothing in common, and together they are the set. So `append`
-/// of the part that was returned leaves the list of truth values as it was before: the old elements, and the old
-/// length.
+/// The two parts into which `split_off` divides a set: its members below a number, and the others. Each of the
+/// first is below each of the second, so they have nothing in common, and together they are the set. So `append` of
+/// the returned part restores the list of truth values: the old elements, and the old length.
 #[tactic(auto, using(crate::proofs::SplitLemmas::joined, crate::proofs::SplitLemmas::apart, crate::proofs::SplitLemmas::rejoined))]
 pub fn parted_sets()
     ensures joined { (s : List ℕ) (at : ℕ) → IsAscending s → union (those_below s at) (those_from s at) ≡ s }
@@ -169,10 +168,10 @@ pub fn parted_sets()
         → new ≡ old }
 {}
 
-/// How sets compare. Sets are the same where their lists are one list. The order is total, and gives `Equal` for
-/// the same sets alone. The first number that just one set has decides: that set is less where the other goes on
-/// past the number, and greater where the other ends. So it is not the order of subsets. The same sets feed a
-/// hasher the same.
+/// How sets compare. Sets are the same if their lists are equal. The order is total, and is `Equal` only for the
+/// same sets. The first number that exactly one set has decides: that set is less if the other has a greater
+/// member, and greater if it has none. So it is not the order of subsets. The same sets feed a hasher the same
+/// input.
 pub fn sets_compare()
     ensures same { (s t : List ℕ) → IsTrue (same_sets s t) ↔ (s ≡ t) }
     ensures equivalence { IsEquivalence same_sets }
@@ -185,7 +184,7 @@ pub fn sets_compare()
     ensures fed { (s t : List ℕ) → IsTrue (same_sets s t) → fed_of_set s ≡ fed_of_set t }
 {}
 
-/// What tests of all members say of the members: a test that each passes, and `==`, whose word in std's contracts is
+/// What tests of all members say about the members: a test that each passes, and `==`, which std's contracts call
 /// `same_sets`.
 #[tactic(auto, using(crate::proofs::MemberLemmas::tests_of_members))]
 pub fn tests_of_members()
@@ -195,8 +194,8 @@ pub fn tests_of_members()
         ↔ IsSameSet (elements a) (elements b) }
 {}
 
-/// What searches say of the members: whether one passes a test, and of a list that ascends the least that does, and
-/// how many are below it.
+/// What searches say about the members: whether one passes a test, and in a list that ascends the least that does,
+/// and how many are below it.
 #[tactic(auto, using(crate::proofs::TestLemmas::searches_of_members))]
 pub fn searches_of_members()
     ensures any { (p : ℕ → Bool) (s : List ℕ) → IsTrue (list_any p s)
@@ -207,15 +206,15 @@ pub fn searches_of_members()
         (position_or_len p s ≡ length s) (λ m. position_or_len p s ≡ length (those_below s m)) }
 {}
 
-/// The greatest and the least member, as `max`, `min` and `last` of a walk return them.
+/// The greatest and the least member, as `max`, `min` and `last` of an iterator return them.
 pub fn ends_of_sets()
     ensures greatest { (s : List ℕ) → MatchOption (reduce max s) (HasNone s) (IsGreatest s) }
     ensures least { (s : List ℕ) → MatchOption (reduce min s) (HasNone s) (IsLeast s) }
     ensures last { (s : List ℕ) → IsAscending s → last_or None s ≡ reduce max s }
 {}
 
-/// The members of what a chain makes of a set: those that pass a test, and what a function gives of each. `put` says
-/// the same of what is put into the empty set.
+/// The members of what a chain makes of a set: those that pass a test, and the results of a function. `put` says
+/// the same for items inserted into the empty set.
 #[tactic(auto, using(crate::proofs::TestLemmas::members_of_chains))]
 pub fn members_of_chains()
     ensures filtered { (p : ℕ → Bool) (s : List ℕ) (x : ℕ) → has (filter p s) x ≡ (has s x && p x) }
@@ -232,8 +231,8 @@ pub fn members_are_below_lengths()
     ensures past { (values : List Bool) (x : ℕ) → length values ≤ x → has (elements values) x ≡ false }
 {}
 
-/// What a step of a walk does to the members that are left, by the clause `first` of `Advances`: x is the item, and s
-/// and t are what was left before it and after it.
+/// What a step of an iterator does to the members that are left, by the clause `first` of `Advances`: `x` is the
+/// item, and `s` and `t` are what was left before it and after it.
 #[tactic(auto, using(std::proofs::lemmas::Bool::Decides::nat_tests))]
 pub fn steps_of_walks()
     ensures before { (s t : List ℕ) (x y : ℕ) → TakesLeast s x t → IsTrue (has t y) → IsTrue (has s y) }
@@ -242,8 +241,8 @@ pub fn steps_of_walks()
     ensures below { (s t : List ℕ) (x y : ℕ) → TakesLeast s x t → y < x → has s y ≡ false }
 {}
 
-/// The runs of a set: their numbers are just its members, they ascend, and between each and the next there is a number that
-/// is no member; so none can be longer. There is no other list of ranges of which this holds.
+/// The runs of a set: their numbers are exactly its members, they ascend, and between each and the next there is a
+/// number that is not a member, so none can be longer. This holds for no other list of ranges.
 #[tactic(auto, using(crate::proofs::RunLemmas::runs_of_sets))]
 pub fn runs_of_sets()
     ensures runs { (s : List ℕ) → IsAscending s → AreRuns s (runs_of s) }

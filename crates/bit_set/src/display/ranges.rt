@@ -8,8 +8,8 @@ use std::fmt;
 use std::marker::Model;
 use std::ops::Range;
 
-/// A set whose text is that of the runs of its elements, as Linux lists processors: `0-3, 5, 9-12`. The text of the empty
-/// set is empty.
+/// A set that displays as the runs of its elements, in the form in which Linux lists processors: `0-3, 5, 9-12`.
+/// The text of the empty set is empty.
 #[derive(Drop)]
 pub struct Ranges<'a, B: BitBlock> {
     set: &'a BitSet<B>,
@@ -25,7 +25,7 @@ impl<'a, B: BitBlock> Model for Ranges<'a, B> {
 }
 
 impl<B: BitBlock> BitSet<B> {
-    /// The set as the runs of its elements, to be written: `write!(f, "{}", set.ranges())`. Constant time.
+    /// The set as the runs of its elements, for formatting: `write!(f, "{}", set.ranges())`. Constant time.
     ///
     /// ```
     /// // The set is {0, 1, 2, 3, 5, 9, 10}.
@@ -40,8 +40,8 @@ impl<B: BitBlock> BitSet<B> {
     }
 }
 
-/// The runs in ascending order, joined by a comma and a space: each as its number, or as its first and its last one with a
-/// hyphen between them. Takes no memory of its own, and fails only where the formatter fails.
+/// The runs in ascending order, joined by a comma and a space: each as its one number, or as its first and last
+/// number with a hyphen between them. Allocates nothing itself, and fails only if the formatter fails.
 impl<'a, B: BitBlock> fmt::Display for Ranges<'a, B> {
     ghost output = { λ s. Some (ranges_text (runs_of s)) };
 

@@ -3,14 +3,14 @@ ghost use Rattle.std.specs.Prelude.{◌≡◌, ◌^◌, ◌≤◌, MatchOption};
 
 use crate::BitBlock;
 
-/// A block whose number is a `u64`, as numbers in JSON are.
+/// A block whose value fits a `u64`, as numbers in JSON do.
 pub trait JsonBlock: BitBlock {
     /// The number of the block.
     fn to_number(self) -> u64
         requires { Self.is_block self }
         ensures { result ≡ Self.number self };
 
-    /// The block of a number, where it has one: where the number is below `2 ^ bits()`.
+    /// The block of a number, or `None` if the number is not below `2 ^ bits()`.
     fn from_number(number: u64) -> Option<Self>
         ensures { MatchOption result (2 ^ Self.width ≤ number)
             (λ block. Self.is_block block × (Self.number block ≡ number)) };

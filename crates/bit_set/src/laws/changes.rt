@@ -3,9 +3,10 @@ ghost use Rattle.std.specs.Prelude.{◌≡◌, ◌↔◌, ℕ, List, [], true};
 ghost use Rattle.sets.specs.Order.{same_sets};
 ghost use Rattle.sets.specs.Sets.{IsAscending, difference, intersection, is_disjoint, is_subset, symmetric_difference, union};
 
-/// When an operation in place leaves a set as it is, which `union_changes` and the calls like it tell: a union where the
-/// other set is in this one, an intersection where this one is in the other, a difference where they have nothing in
-/// common, and a symmetric difference where the other is empty. `union_with_difference` is a union with a difference.
+/// When an operation in place leaves a set unchanged, which `union_changes` and the calls like it return: a union
+/// if the other set is a subset of this one, an intersection if this one is a subset of the other, a difference if
+/// they have nothing in common, and a symmetric difference if the other is empty. `union_with_difference` is a
+/// union with a difference.
 #[tactic(auto, using(crate::proofs::ReportedLemmas::merges_that_keep))]
 pub fn merges_that_keep_sets()
     ensures union { (s t : List ℕ) → IsAscending s → same_sets s (union s t) ≡ is_subset t s }

@@ -3,8 +3,8 @@ ghost use Rattle.std.specs.{Prelude.{◌≡◌, ◌<◌, ℕ, List, IsTrue, Ok}}
 ghost use Rattle.sets.specs.{Runs.runs_of, Sets.{IsAscending, has}};
 ghost use Rattle.bit_set.specs.{RangeReading.ranges_in, RangeTexts.ranges_text};
 
-/// The text that `ranges` writes of a set reads as just the runs of that set, so that `from_ranges` makes the same set of
-/// it where it finds memory.
+/// The text that `ranges` writes for a set reads as exactly the runs of that set, so `from_ranges` makes the same
+/// set of it if memory suffices.
 #[tactic(auto, using(crate::proofs::RangeTextLaws::text_of_runs))]
 pub fn texts_of_ranges()
     ensures { (s : List ℕ) → IsAscending s → ((n : ℕ) → IsTrue (has s n) → n < usize.MAX)

@@ -8,9 +8,9 @@ ghost use Rattle.bit_set.specs.Walk.{CallsEnd, GivesFromEnds, IsAtStartOfPart, W
 
 use crate::{BitBlock, Iter, Missing};
 
-/// A range in two parts, what is in a set and what is not: they have nothing in common, and together they are its numbers.
-/// From 0 on, what is in a range is what is below its end; so `count_in_range(0..n)` is the rank of `n`, and what
-/// `missing(0..n)` gives and the members below `n` are the numbers below `n`.
+/// A set divides a range into the numbers present and those absent: these have nothing in common, and together they
+/// are the range. In a range from 0, the members are those below its end; so `count_in_range(0..n)` is the rank of
+/// `n`, and the items of `missing(0..n)` together with the members below `n` are the numbers below `n`.
 pub fn parts_of_ranges()
     ensures joined { (s : List ℕ) (a b : ℕ) → IsAscending s
         → union (difference (span a b) s) (those_in_range s a b) ≡ span a b }
@@ -20,8 +20,8 @@ pub fn parts_of_ranges()
         → length (difference (span a b) s) + length (those_in_range s a b) ≡ length (span a b) }
 {}
 
-/// What searches find, in a set whose list ascends: `first` the least member and `last` the greatest, `next` the least
-/// from a number on, and `previous` the greatest below it; `None` where there is none.
+/// What searches find in a set whose list ascends: `first` the least member, `last` the greatest, `next` the least
+/// at or above a number, and `previous` the greatest below it; `None` if there is none.
 pub fn ends_of_searches()
     ensures first { (s : List ℕ) (r : Option ℕ) → IsAscending s
         → IsFirstOf s r ↔ MatchOption r (HasNone s) (IsLeast s) }
@@ -33,9 +33,9 @@ pub fn ends_of_searches()
         → FindsBefore (has s) n r ↔ IsLastOf (those_below s n) r }
 {}
 
-/// What whole walks over the missing numbers of a range give: from any point, up to the first `None`, just what is left,
-/// in order, and after it `None`s alone; from the making on, the numbers of the range that are not in.
-/// Two walks that have the same left give the same from there on, whatever their block types.
+/// What complete iteration over the missing numbers of a range yields: from any point up to the first `None`,
+/// exactly what is left, in order, and after that only `None`; from the start, the absent numbers of the range. Two
+/// iterators with the same numbers left yield the same from there on, whatever their block types.
 pub fn walks_over_missing<A: BitBlock + 'static, B: BitBlock + 'static>()
     ensures rest { (s t : MissingWalk) (items : List ℕ)
         → YieldsThen ⟦<Missing<'static, B> as Iterator>⟧.next_gives s items None t → (items ≡ s.left) × (t.left ≡ []) }
@@ -51,9 +51,10 @@ pub fn walks_over_missing<A: BitBlock + 'static, B: BitBlock + 'static>()
         (λ walk. walk.left) ⟦<Missing<'static, B> as Iterator>⟧.next_gives }
 {}
 
-/// What a walk over the elements of a range gives from its making on, by calls of `next` up to the first `None`, or by
-/// calls of `next` and `next_back` in any mixture: those of the range, in order. It pulls twice more than there are blocks
-/// past its first that have an element of the range. With those below the range and those past it they are the set.
+/// What an iterator over the elements of a range yields from its start, by calls of `next` up to the first `None`,
+/// or by calls of `next` and `next_back` in any mixture: the elements of the range, in order. It makes two pulls
+/// more than there are blocks after its first that have an element of the range. Together with the elements below
+/// the range and those past it, they are the set.
 pub fn walks_over_parts<B: BitBlock + 'static>()
     ensures joined { (s : List ℕ) (a b : ℕ) → IsAscending s → a ≤ b
         → those_below s a ++ (those_in_range s a b ++ those_from s b) ≡ s }
@@ -67,8 +68,9 @@ pub fn walks_over_parts<B: BitBlock + 'static>()
         × (u.pulls ≡ length (blocks_past B.width (s.index / B.width) (those_in_range (elements values) a b)) + 2) }
 {}
 
-/// The rank of a member and what is selected by it: of a set whose list ascends, `x` is the member that `k` others come
-/// before exactly where it is in and `k` are below it, as `count_in_range(0..x)` counts them.
+/// The rank of a member, and selection by rank: in a set whose list ascends, `x` is the member with exactly `k`
+/// others before it if and only if it is present and `k` members are below it, as `count_in_range(0..x)` counts
+/// them.
 pub fn ranks_of_members()
     ensures selected { (s : List ℕ) (k x : ℕ) → IsAscending s → (slice_get s k ≡ Some x)
         ↔ (IsTrue (has s x) × (length (those_in_range s 0 x) ≡ k)) }

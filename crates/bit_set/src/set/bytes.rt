@@ -8,8 +8,8 @@ use crate::{BitBlock, BitSet, SetError};
 use std::alloc::{AllocError, Global};
 
 impl<B: BitBlock> BitSet<B> {
-    /// The set of the bits that are 1, those of each byte counted from the highest. One step a byte.
-    /// Fails at [`SetError::Length`] before it asks for memory, or where memory runs out.
+    /// The set of the bits that are 1, those of each byte counted from the highest. One step for each byte. Fails
+    /// with [`SetError::Length`] before it allocates, or if memory runs out.
     ///
     /// ```
     /// let set = BitSet::from_bytes(alloc, &[0b0100_1010])?;
@@ -31,9 +31,9 @@ impl<B: BitBlock> BitSet<B> {
         Ok(BitSet { bits })
     }
 
-    /// The set as bytes, a bit for each number below the length, the first at the highest bit; the bits of the last byte
-    /// past the length are 0. [`BitSet::from_bytes`] of them gives the same elements. Reads each block once. Fails only
-    /// where memory runs out, and never for a set of length 0.
+    /// The set as bytes, a bit for each number below the length, the first at the highest bit; the bits of the last
+    /// byte past the length are 0. [`BitSet::from_bytes`] makes a set of the same elements from them. Reads each
+    /// block once. Fails only if memory runs out, and never for a set of length 0.
     ///
     /// ```
     /// let set = BitSet::from_bytes(alloc, &[0b0100_1010])?;
@@ -49,9 +49,9 @@ impl<B: BitBlock> BitSet<B> {
         self.bits.to_bytes(alloc)
     }
 
-    /// The set of the bits that are 1, those of each byte counted from the lowest: `n` is in where bit `n % 8` from the
-    /// lowest of byte `n / 8` is 1, as in Java's `BitSet.valueOf`, in Arrow and in NumPy's little order. A block takes
-    /// its bytes in one step each. Fails as [`BitSet::from_bytes`] does.
+    /// The set of the bits that are 1, those of each byte counted from the lowest: `n` is present if bit `n % 8` of
+    /// byte `n / 8`, counted from the lowest, is 1, as in Java's `BitSet.valueOf`, in Arrow and in NumPy's little
+    /// order. One step for each byte. Fails as [`BitSet::from_bytes`] does.
     ///
     /// ```
     /// let set = BitSet::from_bytes_lsb(alloc, &[0b0101_0010])?;
@@ -73,9 +73,9 @@ impl<B: BitBlock> BitSet<B> {
         Ok(BitSet { bits })
     }
 
-    /// The set as bytes, a bit for each number below the length, the first at the lowest bit; the bits of the last byte
-    /// past the length are 0. [`BitSet::from_bytes_lsb`] of them gives the same elements. Reads each block once. Fails
-    /// only where memory runs out, and never for a set of length 0.
+    /// The set as bytes, a bit for each number below the length, the first at the lowest bit; the bits of the last
+    /// byte past the length are 0. [`BitSet::from_bytes_lsb`] makes a set of the same elements from them. Reads
+    /// each block once. Fails only if memory runs out, and never for a set of length 0.
     ///
     /// ```
     /// let set = BitSet::from_bytes_lsb(alloc, &[0b0101_0010])?;

@@ -10,9 +10,8 @@ use crate::{BitBlock, BitSet};
 use std::alloc::AllocError;
 
 impl<B: BitBlock> BitSet<B> {
-    /// Reserves capacity for elements below `len`; no element, and not the length, changes. Where the capacity
-    /// was missing it asks for twice the old at least, and may move the blocks. Fails only there, and the
-    /// capacity then stays.
+    /// Reserves capacity for elements below `len`; elements and length stay. If the capacity was less, it requests
+    /// at least twice the old one, and may move the blocks. Fails only then, and the capacity is unchanged.
     ///
     /// ```
     /// set.reserve_len(100)?;
@@ -27,9 +26,8 @@ impl<B: BitBlock> BitSet<B> {
         self.bits.reserve(missing)
     }
 
-    /// Reserves capacity for elements below `len`; no element, and not the length, changes. Where the capacity
-    /// was missing the capacity becomes that of the blocks of `len`; this may move the blocks. Fails only there,
-    /// and the capacity then stays.
+    /// Reserves capacity for elements below `len`; elements and length stay. If the capacity was less, it becomes
+    /// that of the blocks for `len`, which may move the blocks. Fails only then, and the capacity is unchanged.
     pub fn reserve_len_exact(&mut self, len: usize) -> Result<(), AllocError>
         ensures values { self.new.values ≡ self.old.values }
         ensures grows { Grows len result self.old self.new }
@@ -42,10 +40,10 @@ impl<B: BitBlock> BitSet<B> {
         self.bits.reserve_exact(missing)
     }
 
-    /// Makes the length that of the blocks up to the one with the greatest element, so that it can become greater
-    /// too, and gives back the capacity that these blocks do not take; may move them. The elements stay. Fails
-    /// just where the capacity is still greater than that of these blocks, since there was no memory to move to;
-    /// the length is the new one then too.
+    /// Sets the length to the end of the last nonempty block, which may also lengthen it, and gives back the
+    /// capacity that these blocks do not need; may move them. The elements stay. Fails exactly if the capacity is
+    /// still greater than that of these blocks, since there was no memory to move to; the length has changed then
+    /// too.
     ///
     /// ```
     /// // The set is {3, 400}, over blocks of 32 bits.
@@ -74,8 +72,7 @@ impl<B: BitBlock> BitSet<B> {
         self.bits.shrink_to_fit()
     }
 
-    /// The bit vector, to write to: what it is when the borrow ends is the set from then on. Constant
-    /// time.
+    /// The bit vector, for writing: its value when the borrow ends is the set from then on. Constant time.
     #[inline]
     pub fn get_mut(&mut self) -> &mut BitVec<B>
         ensures* writes_back { sem 𝓛 (lends_bits B.row B.BitBlock self.entry result) }
@@ -86,7 +83,7 @@ impl<B: BitBlock> BitSet<B> {
         &mut self.bits
     }
 
-    /// The bit vector that keeps the set. Constant time.
+    /// The bit vector that stores the set. Constant time.
     #[inline]
     pub fn into_bit_vec(self) -> BitVec<B>
         ensures { result ≡ self }

@@ -19,9 +19,9 @@ const LEAST_GROWN: usize = 64;
 const MOST_AHEAD: usize = 1 << 19;
 
 impl<B: BitBlock> BitSet<B> {
-    /// Puts `value` in, and returns whether it is new. Constant time, but for a growth at or past the length.
-    /// Fails at `usize::MAX`, and where a growth past the capacity fails; elements, length and capacity then
-    /// stay.
+    /// Inserts `value`, and returns whether it is new. Constant time, except for a growth at or past the length.
+    /// Fails for `usize::MAX`, and if a growth past the capacity fails; elements, length and capacity are then
+    /// unchanged.
     #[inline]
     pub fn insert(&mut self, value: usize) -> Result<bool, SetError>
         ensures returned { IfOk result (λ new. new ≡ not (has (elements self.old.values) value)) }
@@ -69,9 +69,9 @@ impl<B: BitBlock> BitSet<B> {
         Ok(())
     }
 
-    /// Puts the items in, one by one, up to the end of the iterator: it has to end. Constant time an item, but
-    /// for growths. It stops at the first item at which [`BitSet::insert`] fails: the items before it stay in,
-    /// and the rest is dropped.
+    /// Inserts the items, one by one, up to the end of the iterator, which must end. Constant time for each item,
+    /// except for growths. It stops at the first item for which [`BitSet::insert`] fails: the items before it stay
+    /// in the set, and the rest are dropped.
     pub fn extend<I: Iterator<Item = usize> + Drop>(&mut self, iter: I) -> Result<(), SetError>
         requires can { I.can_next iter }
         requires ends { IsFinite (I.remaining iter) }
@@ -194,7 +194,7 @@ impl<B: BitBlock> BitSet<B> {
         self.bits.truncate(len);
     }
 
-    /// Takes `value` out, and returns whether it was in. Constant time.
+    /// Removes `value`, and returns whether it was present. Constant time.
     #[inline]
     pub fn remove(&mut self, value: usize) -> bool
         ensures returned { result ≡ has (elements self.old.values) value }
@@ -213,9 +213,9 @@ impl<B: BitBlock> BitSet<B> {
         self.bits.replace(value, false)
     }
 
-    /// Takes `value` out where it is in, and puts it in where not; returns whether it is in now. Constant time, but for
-    /// a growth at or past the length. Fails as [`BitSet::insert`] does, and only where `value` is not in; elements,
-    /// length and capacity then stay.
+    /// Removes `value` if it is present, and inserts it if not; returns whether it is present now. Constant time,
+    /// except for a growth at or past the length. Fails as [`BitSet::insert`] does, and only if `value` is absent;
+    /// elements, length and capacity are then unchanged.
     ///
     /// ```
     /// // The set is {1, 4}.
@@ -243,9 +243,9 @@ impl<B: BitBlock> BitSet<B> {
         self.insert(value)
     }
 
-    /// Puts `value` in where `bit` is true, and takes it out where not; returns whether that changed the set. Constant
-    /// time, but for a growth at or past the length. Fails as [`BitSet::insert`] does, and only where `bit` is true;
-    /// elements, length and capacity then stay.
+    /// Inserts `value` if `bit` is true, and removes it if not; returns whether that changed the set. Constant
+    /// time, except for a growth at or past the length. Fails as [`BitSet::insert`] does, and only if `bit` is
+    /// true; elements, length and capacity are then unchanged.
     ///
     /// ```
     /// // The set is {1, 4}.
@@ -275,7 +275,7 @@ impl<B: BitBlock> BitSet<B> {
         }
     }
 
-    /// Keeps the elements below `len`, and shortens the length to it. Writes one block at most.
+    /// Keeps the elements below `len`, and shortens the length to it. Writes at most one block.
     pub fn truncate(&mut self, len: usize)
         ensures elements { elements self.new.values ≡ those_below (elements self.old.values) len }
         ensures members { KeepsBelow (elements self.old.values) (elements self.new.values) len }
@@ -286,8 +286,8 @@ impl<B: BitBlock> BitSet<B> {
         self.bits.truncate(len);
     }
 
-    /// Takes every element out; the length stays. Writes each block at most once: of many blocks it may pass over those that are
-    /// zero.
+    /// Removes every element; the length stays. Writes each block at most once: if there are many, it may skip
+    /// those that are zero.
     pub fn make_empty(&mut self)
         ensures whole { self.new ≡ record {
           values = replicate (length self.old.values) false;
@@ -300,7 +300,7 @@ impl<B: BitBlock> BitSet<B> {
         self.bits.fill(false);
     }
 
-    /// Takes every element out: the older name of [`BitSet::make_empty`].
+    /// Removes every element: the older name of [`BitSet::make_empty`].
     #[inline]
     pub fn clear(&mut self)
         ensures whole { self.new ≡ record {
@@ -314,7 +314,7 @@ impl<B: BitBlock> BitSet<B> {
         self.make_empty();
     }
 
-    /// Takes every element out and makes the length 0. The capacity stays. Constant time.
+    /// Removes every element and sets the length to 0. The capacity stays. Constant time.
     pub fn reset(&mut self)
         ensures whole { self.new ≡ record { values = []; capacity = self.old.capacity } }
         ensures changes { Changes Change.Reset self.old.values Done self.new.values }
@@ -322,8 +322,8 @@ impl<B: BitBlock> BitSet<B> {
         self.bits.remove_all();
     }
 
-    /// Becomes equal to `other`, in one pass over its blocks. Where the capacity was missing the capacity becomes
-    /// that of the blocks of `other`. Fails only there, and then nothing changed.
+    /// Becomes equal to `other`, in one pass over its blocks. If the capacity was too small, it becomes that of the
+    /// blocks of `other`. Fails only then, and changes nothing.
     pub fn clone_from(&mut self, other: &Self) -> Result<(), AllocError>
         ensures ok { OnOk result (self.new.values ≡ other.now.values) }
         ensures members { OnOk result (IsSameSet (elements self.new.values) (elements other.now.values)) }

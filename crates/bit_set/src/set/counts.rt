@@ -14,9 +14,9 @@ impl<B: BitBlock> BitSet<B> {
         self.bits.count_merged(&other.bits, merge)
     }
 
-    /// How many elements are in this set or in `other`: as many as [`BitSet::union`] gives. Adds up the ones of each pair
-    /// of blocks. Where a summary is stored it passes over as many blocks as a block has bits at once, where they are
-    /// zero in both sets.
+    /// How many elements are in this set or in `other`: as many as [`BitSet::union`] yields. Adds up the ones of
+    /// each pair of blocks. If a summary is stored, it skips as many blocks at once as a block has bits, if they
+    /// are zero in both sets.
     ///
     /// ```
     /// // The sets are {1, 4} and {4, 5, 6}.
@@ -28,8 +28,8 @@ impl<B: BitBlock> BitSet<B> {
         self.merged_count(other, Merge::Union)
     }
 
-    /// How many elements are in both sets: as many as [`BitSet::intersection`] gives. Reads blocks as
-    /// [`BitSet::union_count`] does, and passes over those that are zero in either set.
+    /// How many elements are in both sets: as many as [`BitSet::intersection`] yields. Reads blocks as
+    /// [`BitSet::union_count`] does, and skips those that are zero in either set.
     ///
     /// ```
     /// // The sets are {1, 4} and {4, 5, 6}.
@@ -41,8 +41,8 @@ impl<B: BitBlock> BitSet<B> {
         self.merged_count(other, Merge::Intersection)
     }
 
-    /// How many elements are in this set and not in `other`: as many as [`BitSet::difference`] gives. Reads blocks as
-    /// [`BitSet::union_count`] does, and passes over those that are zero in this set.
+    /// How many elements are in this set and not in `other`: as many as [`BitSet::difference`] yields. Reads blocks
+    /// as [`BitSet::union_count`] does, and skips those that are zero in this set.
     ///
     /// ```
     /// // The sets are {1, 4} and {4, 5, 6}.
@@ -54,8 +54,8 @@ impl<B: BitBlock> BitSet<B> {
         self.merged_count(other, Merge::Difference)
     }
 
-    /// How many elements are in just one of both sets: as many as [`BitSet::symmetric_difference`] gives. Reads blocks as
-    /// [`BitSet::union_count`] does.
+    /// How many elements are in exactly one of the two sets: as many as [`BitSet::symmetric_difference`] yields.
+    /// Reads blocks as [`BitSet::union_count`] does.
     ///
     /// ```
     /// // The sets are {1, 4} and {4, 5, 6}.

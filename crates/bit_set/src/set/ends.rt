@@ -6,11 +6,11 @@ ghost use Rattle.bit_set.specs.Changes.{Change, Changes, Outcome.Gave};
 use crate::{BitBlock, BitSet};
 
 impl<B: BitBlock> BitSet<B> {
-    /// Takes the least element out, and returns it; nothing of the empty set. The length stays. Of many blocks it reads
-    /// the summary from where the last call left off, or from a lesser number that was put in since, and one block of
-    /// the set: the calls that take out all elements pass over the summary once. An operation in place, a shift and a
-    /// change of a range may put the search back to the first block. A set of few blocks stores no summary, and then
-    /// each block up to that of the element is read.
+    /// Removes the least element and returns it; `None` if the set is empty. The length stays. If there are many
+    /// blocks, it reads the summary from where the last call left off, or from a lesser number inserted since, and
+    /// one block of the set: removing all elements in this way goes through the summary once. An operation in
+    /// place, a shift or a change of a range may restart the search at the first block. A set of few blocks stores
+    /// no summary, and each block up to that of the element is read.
     ///
     /// ```
     /// let mut set = BitSet::from_bytes(alloc, &[0b0100_1010])?;
@@ -30,7 +30,7 @@ impl<B: BitBlock> BitSet<B> {
         self.bits.take_first_one()
     }
 
-    /// Takes the greatest element out, and returns it; nothing of the empty set. The length stays. It is
+    /// Removes the greatest element and returns it; `None` if the set is empty. The length stays. Takes as long as
     /// [`BitSet::last`], and then constant time.
     ///
     /// ```

@@ -12,10 +12,10 @@ use crate::{BitBlock, BitSet};
 use std::alloc::AllocError;
 
 impl<B: BitBlock> BitSet<B> {
-    /// Puts in what is both in `other` and in `also`, and returns whether some of it was not in. The length becomes the
-    /// greater of the set's own and that of `other`. One pass over the blocks of all three sets, and no memory within the
-    /// capacity. Fails only where the length of `other` passes the capacity and no memory is found; elements, length and
-    /// capacity then stay.
+    /// Inserts the elements that `other` and `also` have in common, and returns whether any of them was absent. The
+    /// length becomes the greater of the set's own and that of `other`. One pass over the blocks of all three sets;
+    /// allocates nothing within the capacity. Fails only if the length of `other` exceeds the capacity and memory
+    /// runs out; elements, length and capacity are then unchanged.
     ///
     /// ```
     /// // Of what is wanted, what is at hand is found too.
@@ -48,10 +48,11 @@ impl<B: BitBlock> BitSet<B> {
         Ok(changed)
     }
 
-    /// Makes the elements those of `other` that are not in `except`, and returns whether they were others before. The
-    /// length becomes the greater of the set's own and that of `other`. Its time is by the blocks of all three sets, or by those
-    /// that have elements where they are few of many. Takes no memory within the capacity. Fails only where the length of
-    /// `other` passes the capacity and no memory is found; elements, length and capacity then stay.
+    /// Sets the elements to those of `other` that are not in `except`, and returns whether that changed them. The
+    /// length becomes the greater of the set's own and that of `other`. Takes time for the blocks of all three
+    /// sets, or only for those that have elements, if these are few among many. Allocates nothing within the
+    /// capacity. Fails only if the length of `other` exceeds the capacity and memory runs out; elements, length and
+    /// capacity are then unchanged.
     ///
     /// ```
     /// // What is asked for and was not given yet.

@@ -6,10 +6,10 @@ ghost use Rattle.sets.specs.{Gaps.{FindsGap, is_gap}, Sets.elements};
 use crate::{BitBlock, BitSet};
 
 impl<B: BitBlock> BitSet<B> {
-    /// The least number from `from` on at which `count` missing numbers in a row begin, so that `insert_range` of them puts
-    /// in `count` new elements; `from` itself where `count` is 0. `None` where the numbers below `usize::MAX` do not
-    /// suffice. Searches in turn for the next missing number and the next element, up to the element past the last of
-    /// those that are returned: one pass.
+    /// The least number at or above `from` at which `count` missing numbers in a row begin, so that `insert_range`
+    /// of them inserts `count` new elements; `from` itself if `count` is 0. `None` if there is no such place below
+    /// `usize::MAX`. Searches alternately for the next missing number and the next element, up to the element after
+    /// the gap: one pass.
     ///
     /// ```
     /// // The set is {1, 4, 5}.

@@ -41,9 +41,9 @@ impl<B: BitBlock> BitSet<B> {
         Ok(())
     }
 
-    /// Puts in what is in `other`. The length becomes the greater of both. One pass over the blocks.
-    /// Fails only where the length of `other` passes the capacity and no memory is found; elements, length
-    /// and capacity then stay.
+    /// Inserts the elements of `other`. The length becomes the greater of the two. One pass over the blocks. Fails
+    /// only if the length of `other` exceeds the capacity and memory runs out; elements, length and capacity are
+    /// then unchanged.
     pub fn union_with(&mut self, other: &Self) -> Result<(), AllocError>
         ensures elements { OnOk result (elements self.new.values
             ≡ union (elements self.old.values) (elements other.now.values)) }
@@ -57,9 +57,9 @@ impl<B: BitBlock> BitSet<B> {
         self.merge_with(other, Merge::Union)
     }
 
-    /// Keeps what is in `other` too. The length becomes the greater of both. One pass over the blocks.
-    /// Fails only where the length of `other` passes the capacity and no memory is found; elements, length
-    /// and capacity then stay.
+    /// Keeps the elements that `other` has too, and removes the others. The length becomes the greater of the two.
+    /// One pass over the blocks. Fails only if the length of `other` exceeds the capacity and memory runs out;
+    /// elements, length and capacity are then unchanged.
     #[inline]
     pub fn intersect_with(&mut self, other: &Self) -> Result<(), AllocError>
         ensures elements { OnOk result (elements self.new.values
@@ -74,9 +74,9 @@ impl<B: BitBlock> BitSet<B> {
         self.merge_with(other, Merge::Intersection)
     }
 
-    /// Takes out what is in `other`. The length becomes the greater of both. One pass over the blocks.
-    /// Fails only where the length of `other` passes the capacity and no memory is found; elements, length
-    /// and capacity then stay.
+    /// Removes the elements of `other`. The length becomes the greater of the two. One pass over the blocks. Fails
+    /// only if the length of `other` exceeds the capacity and memory runs out; elements, length and capacity are
+    /// then unchanged.
     pub fn difference_with(&mut self, other: &Self) -> Result<(), AllocError>
         ensures elements { OnOk result (elements self.new.values
             ≡ difference (elements self.old.values) (elements other.now.values)) }
@@ -90,9 +90,9 @@ impl<B: BitBlock> BitSet<B> {
         self.merge_with(other, Merge::Difference)
     }
 
-    /// Takes out what is in `other` too, and puts in the rest of it: what is in just one stays. The
-    /// length becomes the greater of both. One pass over the blocks. Fails only where the length of
-    /// `other` passes the capacity and no memory is found; elements, length and capacity then stay.
+    /// Removes the elements that `other` has too, and inserts its others: what is in exactly one of the two
+    /// remains. The length becomes the greater of the two. One pass over the blocks. Fails only if the length of
+    /// `other` exceeds the capacity and memory runs out; elements, length and capacity are then unchanged.
     pub fn symmetric_difference_with(&mut self, other: &Self) -> Result<(), AllocError>
         ensures elements { OnOk result (elements self.new.values
             ≡ symmetric_difference (elements self.old.values) (elements other.now.values)) }

@@ -10,7 +10,7 @@ use crate::{BitBlock, BitSet, SetError};
 use std::alloc::{AllocError, Global};
 
 impl<B: BitBlock> BitSet<B> {
-    /// The empty set of length 0. Constant time; it takes no memory.
+    /// The empty set of length 0. Constant time; allocates nothing.
     #[inline]
     pub fn new_general(alloc: Global) -> Self
         ensures values { result.values ≡ [] }
@@ -22,8 +22,8 @@ impl<B: BitBlock> BitSet<B> {
         }
     }
 
-    /// The empty set of length `len`, so that elements below `len` go in without memory. Fails only
-    /// where memory runs out. Writes `len` bits.
+    /// The empty set of length `len`, so that inserting elements below `len` allocates nothing. Fails only if
+    /// memory runs out. Writes `len` bits.
     pub fn with_capacity_general(alloc: Global, len: usize) -> Result<Self, AllocError>
         ensures elements { IfOk result (λ set. elements set.values ≡ []) }
         ensures members { IfOk result (λ set. HasNone (elements set.values)) }
@@ -36,7 +36,7 @@ impl<B: BitBlock> BitSet<B> {
         Ok(BitSet { bits })
     }
 
-    /// The set that the bit vector keeps: the indexes at which it is true. Constant time.
+    /// The set of the indexes at which the bit vector is true. Constant time.
     #[tactic(auto, using(sets::proofs::MemberLemmas::reads))]
     #[inline]
     pub fn from_bit_vec_general(bit_vec: BitVec<B>) -> Self
@@ -46,10 +46,10 @@ impl<B: BitBlock> BitSet<B> {
         BitSet { bits: bit_vec }
     }
 
-    /// The set of the items, as long as its greatest element asks; of no items its capacity is 0. The
-    /// iterator has to end. Constant time an item, but for growths. Fails at the first item that is
-    /// `usize::MAX`, or for which memory runs out: one past the blocks of all items before it. The rest
-    /// of the items is dropped.
+    /// The set of the items, with the least length that its greatest element allows; with no items the capacity is
+    /// 0. The iterator must end. Constant time for each item, except for growths. Fails at the first item that is
+    /// `usize::MAX`, or for which memory runs out: one past the blocks of all items before it. The remaining items
+    /// are dropped.
     pub fn from_iter<I: Iterator<Item = usize> + Drop>(
         alloc: Global,
         iter: I,
@@ -73,8 +73,8 @@ impl<B: BitBlock> BitSet<B> {
         Ok(set)
     }
 
-    /// A set of its own over the same list. Copies each block once. Its capacity is that of its blocks.
-    /// Fails only where no memory is found.
+    /// A separate set with the same list. Copies each block once. Its capacity is that of its blocks. Fails only if
+    /// memory runs out.
     pub fn clone(&self, alloc: Global) -> Result<Self, AllocError>
         ensures values { IfOk result (λ set. set.values ≡ self.now.values) }
         ensures members { IfOk result (λ set. IsSameSet (elements set.values) (elements self.now.values)) }

@@ -9,10 +9,11 @@ use crate::{BitBlock, BitSet};
 use std::alloc::{AllocError, Global};
 
 impl<B: BitBlock> BitSet<B> {
-    /// The set of what is in some of the sets. It is as long as the longest of them, and of no sets the empty set of
-    /// length 0. Writes zeros, and then makes one pass: as many blocks as a block has bits are merged with those of
-    /// each set before the next ones. So each block of the sets is read once, and those of the new set are at hand
-    /// meanwhile. The capacity is that of the blocks. Fails only where memory runs out, and never for the length 0.
+    /// The set of what is in at least one of the sets. It is as long as the longest of them; for no input sets, the
+    /// result is the empty set of length 0. Writes zeros, and then makes one pass: as many blocks as a block has
+    /// bits are merged with those of each set before the next ones. So each block of the sets is read once, while
+    /// those of the new set stay in the cache. The capacity is that of the blocks. Fails only if memory runs out,
+    /// and never for the length 0.
     ///
     /// ```
     /// // The sets are {1, 4}, {4, 70} and {}.
@@ -34,10 +35,10 @@ impl<B: BitBlock> BitSet<B> {
         Ok(BitSet { bits })
     }
 
-    /// The set of what is in each of the sets. It is as long as the shortest of them. Of no sets it is the empty set of
-    /// length 0, since a set of all numbers would have no end. Made as by [`BitSet::union_of`], from ones: it reads
-    /// no block past the shortest set. The capacity is that of the blocks. Fails only where memory runs out, and never
-    /// for the length 0.
+    /// The set of what is in each of the sets. It is as long as the shortest of them. For no input sets, the result
+    /// is the empty set of length 0, since a set of all numbers would have no end. Made as [`BitSet::union_of`]
+    /// makes its result, but from ones: it reads no block past the shortest set. The capacity is that of the
+    /// blocks. Fails only if memory runs out, and never for the length 0.
     ///
     /// ```
     /// // The sets are {1, 4, 70} and {4, 70, 200}.

@@ -8,8 +8,8 @@ use crate::{BitBlock, BitSet};
 use bit_blocks::packed::inclusion::difference_is_zero;
 
 impl<B: BitBlock> BitSet<B> {
-    /// Whether every element is one of `other`, and `other` has one more at least. Compares the blocks up to the first
-    /// that differs, and goes on from there as [`BitSet::is_subset`] does: one pass.
+    /// Whether every element is in `other`, and `other` has at least one more. Compares the blocks up to the first
+    /// that differs, and continues from there as [`BitSet::is_subset`] does: one pass.
     ///
     /// ```
     /// // The sets are {1, 4} and {1, 4, 6}.

@@ -52,10 +52,10 @@ impl<B: BitBlock> BitSet<B> {
         Ok(())
     }
 
-    /// Puts each number of the range in. The length becomes at least `range.end`; nothing changes where the range is
-    /// empty. Writes each block of the range once, and those before it that the growth adds. Fails only where
-    /// `range.end` passes the capacity and no memory is found; elements, length and capacity then stay. Each number of
-    /// a range is below `usize::MAX`, so that `Element` never comes.
+    /// Inserts each number of the range. The length becomes at least `range.end`; nothing changes if the range is
+    /// empty. Writes each block of the range once, and those before it that the growth adds. Fails only if
+    /// `range.end` exceeds the capacity and memory runs out; elements, length and capacity are then unchanged. Each
+    /// number of a range is below `usize::MAX`, so it never fails with `Element`.
     ///
     /// ```
     /// // The set is {1, 4}.
@@ -84,8 +84,8 @@ impl<B: BitBlock> BitSet<B> {
         Ok(())
     }
 
-    /// Takes each number of the range out. The length stays. Writes each block of the range once at most: in long sets
-    /// it passes over those that are zero.
+    /// Removes each number of the range. The length stays. Writes each block of the range at most once: in long
+    /// sets it skips those that are zero.
     pub fn remove_range(&mut self, range: Range<usize>)
         ensures elements { elements self.new.values ≡ those_below (elements self.old.values) range.start
             ++ those_from (elements self.old.values) (max range.start range.end) }
@@ -102,10 +102,10 @@ impl<B: BitBlock> BitSet<B> {
         self.bits.fill_range(range.start..end, false);
     }
 
-    /// Takes each number of the range out that is in, and puts each other in: of `0..n` it makes the complement below
-    /// `n`. The length becomes at least `range.end`; nothing changes where the range is empty. Writes each block of the
-    /// range once. Fails only where `range.end` passes the capacity and no memory is found; elements, length and
-    /// capacity then stay. `Element` never comes.
+    /// Removes each number of the range that is present, and inserts each other: with `0..n` it makes the
+    /// complement below `n`. The length becomes at least `range.end`; nothing changes if the range is empty. Writes
+    /// each block of the range once. Fails only if `range.end` exceeds the capacity and memory runs out; elements,
+    /// length and capacity are then unchanged. It never fails with `Element`.
     ///
     /// ```
     /// // The set is {1, 4}.
@@ -131,8 +131,8 @@ impl<B: BitBlock> BitSet<B> {
         Ok(())
     }
 
-    /// Whether every number of the range is in, and so whether the range is empty. Reads blocks of the range up to the
-    /// first that lacks one.
+    /// Whether every number of the range is present; true if the range is empty. Reads blocks of the range up to
+    /// the first that lacks one.
     pub fn contains_all_in_range(&self, range: Range<usize>) -> bool
         ensures returned { result ≡ is_subset (span range.start range.end) (elements self.now.values) }
         ensures members { IsTrue result ↔ ((n : ℕ) → range.start ≤ n → n < range.end
@@ -141,8 +141,8 @@ impl<B: BitBlock> BitSet<B> {
         self.bits.all_in_range(range)
     }
 
-    /// Whether a number of the range is in. Reads blocks of the range up to the first that has one; of a long range it passes
-    /// over zero blocks by the summary.
+    /// Whether any number of the range is present. Reads blocks of the range up to the first that has one; in a
+    /// long range it skips zero blocks by the summary.
     pub fn contains_any_in_range(&self, range: Range<usize>) -> bool
         ensures returned { result ≡ not (is_disjoint (span range.start range.end) (elements self.now.values)) }
         ensures members { (result ≡ false) ↔ ((n : ℕ) → range.start ≤ n → n < range.end
@@ -151,8 +151,8 @@ impl<B: BitBlock> BitSet<B> {
         self.bits.any_in_range(range)
     }
 
-    /// How many numbers of the range are in: of `0..n`, the rank of `n`. Reads each block of the range at most
-    /// once, and no other; of a long range it passes over zero blocks by the summary.
+    /// How many numbers of the range are present: for `0..n`, the rank of `n`. Reads each block of the range at
+    /// most once, and no other; in a long range it skips zero blocks by the summary.
     ///
     /// ```
     /// // The set is {1, 3, 4, 5}.

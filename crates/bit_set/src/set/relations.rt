@@ -6,8 +6,8 @@ use crate::bit_vec::Steps;
 use crate::{BitBlock, BitSet};
 
 impl<B: BitBlock> BitSet<B> {
-    /// Whether every element is one of `other`, whichever is longer. Reads each block once at most, and
-    /// stops at the one with the first element that `other` lacks.
+    /// Whether every element is in `other`, whichever set is longer. Reads each block at most once, and stops at
+    /// the one with the first element that `other` lacks.
     #[inline]
     pub fn is_subset(&self, other: &Self) -> bool
         ensures returned { result ≡ is_subset (elements self.now.values) (elements other.now.values) }
@@ -16,7 +16,7 @@ impl<B: BitBlock> BitSet<B> {
         self.bits.is_subset_of(&other.bits, &mut Steps::new())
     }
 
-    /// Whether every element of `other` is one of this set: [`BitSet::is_subset`], asked of `other`.
+    /// Whether every element of `other` is in this set: [`BitSet::is_subset`] with the sets exchanged.
     #[inline]
     pub fn is_superset(&self, other: &Self) -> bool
         ensures returned { result ≡ is_subset (elements other.now.values) (elements self.now.values) }
@@ -25,8 +25,8 @@ impl<B: BitBlock> BitSet<B> {
         other.is_subset(self)
     }
 
-    /// Whether no element is one of `other`. Reads each block once at most, and stops at the first in
-    /// which both have a common one.
+    /// Whether no element is in `other`. Reads each block at most once, and stops at the first in which the sets
+    /// have one in common.
     #[inline]
     pub fn is_disjoint(&self, other: &Self) -> bool
         ensures returned { result ≡ is_disjoint (elements self.now.values) (elements other.now.values) }

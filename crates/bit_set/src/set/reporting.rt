@@ -36,9 +36,9 @@ impl<B: BitBlock> BitSet<B> {
         Ok(changed)
     }
 
-    /// Puts in what is in `other`, as [`BitSet::union_with`] does, and returns whether some of it was not in. The length
-    /// becomes the greater of both. One pass over the blocks. Fails only where the length of `other` passes the capacity
-    /// and no memory is found; elements, length and capacity then stay.
+    /// Inserts the elements of `other`, as [`BitSet::union_with`] does, and returns whether any of them was absent.
+    /// The length becomes the greater of the two. One pass over the blocks. Fails only if the length of `other`
+    /// exceeds the capacity and memory runs out; elements, length and capacity are then unchanged.
     ///
     /// ```
     /// assert!(set.union_changes(&other)?);
@@ -66,9 +66,9 @@ impl<B: BitBlock> BitSet<B> {
         self.merge_changes(other, Merge::Union)
     }
 
-    /// Keeps what is in `other` too, as [`BitSet::intersect_with`] does, and returns whether something was not. The length
-    /// becomes the greater of both. One pass over the blocks. Fails only where the length of `other` passes the capacity
-    /// and no memory is found; elements, length and capacity then stay.
+    /// Keeps the elements that `other` has too, as [`BitSet::intersect_with`] does, and returns whether it removed
+    /// any. The length becomes the greater of the two. One pass over the blocks. Fails only if the length of
+    /// `other` exceeds the capacity and memory runs out; elements, length and capacity are then unchanged.
     pub fn intersection_changes(&mut self, other: &Self) -> Result<bool, AllocError>
         ensures elements { OnOk result (elements self.new.values
             ≡ intersection (elements self.old.values) (elements other.now.values)) }
@@ -88,9 +88,9 @@ impl<B: BitBlock> BitSet<B> {
         self.merge_changes(other, Merge::Intersection)
     }
 
-    /// Takes out what is in `other`, as [`BitSet::difference_with`] does, and returns whether some of it was in. The
-    /// length becomes the greater of both. One pass over the blocks. Fails only where the length of `other` passes the
-    /// capacity and no memory is found; elements, length and capacity then stay.
+    /// Removes the elements of `other`, as [`BitSet::difference_with`] does, and returns whether any of them was
+    /// present. The length becomes the greater of the two. One pass over the blocks. Fails only if the length of
+    /// `other` exceeds the capacity and memory runs out; elements, length and capacity are then unchanged.
     pub fn difference_changes(&mut self, other: &Self) -> Result<bool, AllocError>
         ensures elements { OnOk result (elements self.new.values
             ≡ difference (elements self.old.values) (elements other.now.values)) }
@@ -110,10 +110,10 @@ impl<B: BitBlock> BitSet<B> {
         self.merge_changes(other, Merge::Difference)
     }
 
-    /// Takes out what is in `other` too, and puts in the rest of it, as [`BitSet::symmetric_difference_with`] does, and
-    /// returns whether that changed the set, which is so unless `other` is empty. The length becomes the greater of
-    /// both. One pass over the blocks. Fails only where the length of `other` passes the capacity and no memory is found;
-    /// elements, length and capacity then stay.
+    /// Removes the elements that `other` has too, and inserts its others, as [`BitSet::symmetric_difference_with`]
+    /// does. Returns whether that changed the set, which is true unless `other` is empty. The length becomes the
+    /// greater of the two. One pass over the blocks. Fails only if the length of `other` exceeds the capacity and
+    /// memory runs out; elements, length and capacity are then unchanged.
     pub fn symmetric_difference_changes(&mut self, other: &Self) -> Result<bool, AllocError>
         ensures elements { OnOk result (elements self.new.values
             ≡ symmetric_difference (elements self.old.values) (elements other.now.values)) }
@@ -131,10 +131,10 @@ impl<B: BitBlock> BitSet<B> {
         self.merge_changes(other, Merge::Symmetric)
     }
 
-    /// Puts in what is in `other` and not in `except`, and returns whether some of it was not in. The length becomes the
-    /// greater of the set's own and that of `other`. One pass over the blocks of all three sets, and no memory within the
-    /// capacity. Fails only where the length of `other` passes the capacity and no memory is found; elements, length and
-    /// capacity then stay.
+    /// Inserts the elements of `other` that are not in `except`, and returns whether any of them was absent. The
+    /// length becomes the greater of the set's own and that of `other`. One pass over the blocks of all three sets;
+    /// allocates nothing within the capacity. Fails only if the length of `other` exceeds the capacity and memory
+    /// runs out; elements, length and capacity are then unchanged.
     ///
     /// ```
     /// // What flows into a block of code from one after it, in an analysis that goes backward.

@@ -30,8 +30,8 @@ fn kept_ones<B: BitBlock, F: FnMut(usize) -> bool>(block: B, index: usize, keep:
 }
 
 impl<B: BitBlock> BitSet<B> {
-    /// Keeps the elements at which `keep` returns true. It is called once for each, in ascending order. The length stays.
-    /// One search for the next block that is not zero each, and one write of it; constant time within a block.
+    /// Keeps the elements for which `keep` returns true. It is called once for each element, in ascending order.
+    /// The length stays. One search for each nonzero block, and one write of it; constant time within a block.
     ///
     /// ```
     /// let mut set = BitSet::from_bytes(alloc, &[0b0100_1010])?;

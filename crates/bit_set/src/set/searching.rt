@@ -6,8 +6,9 @@ ghost use Rattle.sets.specs.{Choices.{IsFirstOf, IsGreatest, IsLastOf, IsLeast},
 use crate::{BitBlock, BitSet};
 
 impl<B: BitBlock> BitSet<B> {
-    /// The least element from `n` on, or `None`. Reads the block of `n`, the summary from there up to the next block that
-    /// is not zero, and that block; a set of few blocks stores no summary, and then each block up to there.
+    /// The least element at or above `n`, or `None`. Reads the block of `n`, the summary from there up to the next
+    /// nonzero block, and that block; a set of few blocks stores no summary, and then it reads each block up to
+    /// there.
     ///
     /// ```
     /// let set = BitSet::from_bytes(alloc, &[0b0100_1010])?;
@@ -23,8 +24,9 @@ impl<B: BitBlock> BitSet<B> {
         self.bits.first_one_from(n)
     }
 
-    /// The greatest element below `n`, or `None`. Reads the block of `n`, the summary from there down to the next block
-    /// that is not zero, and that block; a set of few blocks stores no summary, and then each block down to there.
+    /// The greatest element below `n`, or `None`. Reads the block of `n`, the summary from there down to the next
+    /// nonzero block, and that block; a set of few blocks stores no summary, and then it reads each block down to
+    /// there.
     ///
     /// ```
     /// let set = BitSet::from_bytes(alloc, &[0b0100_1010])?;
@@ -40,8 +42,8 @@ impl<B: BitBlock> BitSet<B> {
         self.bits.last_one_before(n)
     }
 
-    /// The least number from `n` on that is no element. There is one, since `usize::MAX` is none. Reads each block from
-    /// that of `n` up to that of the number.
+    /// The least number at or above `n` that is not an element. There always is one, since `usize::MAX` is not an
+    /// element. Reads each block from that of `n` up to that of the result.
     ///
     /// ```
     /// let set = BitSet::from_bytes(alloc, &[0b0111_0000])?;
@@ -55,9 +57,9 @@ impl<B: BitBlock> BitSet<B> {
         self.bits.first_zero_from(n)
     }
 
-    /// The least element, or `None` of the empty set. Reads the summary from where [`BitSet::pop_first`] left off, or from
-    /// a lesser number that was put in since, up to the first block that is not zero, and that block; a set of few blocks
-    /// stores no summary, and then each block up to there.
+    /// The least element, or `None` if the set is empty. Reads the summary from where [`BitSet::pop_first`] left
+    /// off, or from a lesser number inserted since, up to the first nonzero block, and that block; a set of few
+    /// blocks stores no summary, and then it reads each block up to there.
     pub fn first(&self) -> Option<usize>
         ensures elements { IsFirstOf (elements self.now.values) result }
         ensures members { MatchOption result (HasNone (elements self.now.values)) (IsLeast (elements self.now.values)) }
@@ -67,8 +69,9 @@ impl<B: BitBlock> BitSet<B> {
         self.bits.first_one()
     }
 
-    /// The greatest element, or `None` of the empty set. Reads the last block, the summary down to the last block that is
-    /// not zero, and that block; a set of few blocks stores no summary, and then each block down to there.
+    /// The greatest element, or `None` if the set is empty. Reads the last block, the summary down to the last
+    /// nonzero block, and that block; a set of few blocks stores no summary, and then it reads each block down to
+    /// there.
     pub fn last(&self) -> Option<usize>
         ensures elements { IsLastOf (elements self.now.values) result }
         ensures members { MatchOption result

@@ -11,10 +11,10 @@ use std::alloc::{AllocError, Global};
 use std::ops::Range;
 
 impl<B: BitBlock> BitSet<B> {
-    /// Moves each element up by `distance`: `n` becomes `n + distance`. The length becomes at least one more than the
-    /// greatest of them. One pass over the blocks, each of which is made of two, besides a growth. Fails where an element
-    /// would become `usize::MAX` or more, and where a growth past the capacity finds no memory; elements, length and
-    /// capacity then stay.
+    /// Moves each element up by `distance`: `n` becomes `n + distance`. The length becomes at least one more than
+    /// the greatest of them. One pass over the blocks, each computed from two, besides a growth. Fails if an
+    /// element would become `usize::MAX` or more, and if memory runs out in a growth past the capacity; elements,
+    /// length and capacity are then unchanged.
     ///
     /// ```
     /// // The set is {1, 4}.
@@ -57,8 +57,8 @@ impl<B: BitBlock> BitSet<B> {
         Ok(top + 1)
     }
 
-    /// Moves each element down by `distance`: `n` becomes `n - distance`, and those below `distance` go. The length stays.
-    /// One pass over the blocks, each of which is made of two.
+    /// Moves each element down by `distance`: `n` becomes `n - distance`, and those below `distance` are removed.
+    /// The length stays. One pass over the blocks, each computed from two.
     ///
     /// ```
     /// // The set is {1, 34}.
@@ -75,9 +75,10 @@ impl<B: BitBlock> BitSet<B> {
         self.bits.shift_down(distance);
     }
 
-    /// A new set of the elements of the range. It is as long as the range reaches into the length, and empty of length 0
-    /// where it does not. Copies each block of the range once, and writes a zero for each before it; the capacity is that
-    /// of these blocks. Fails only where memory runs out, and never where the range is empty or past the length.
+    /// A new set of the elements of the range. Its length is the end of the range, or this set's length if that is
+    /// less; if the range is empty or starts past the length, it is 0. Copies each block of the range once, and
+    /// writes a zero for each before it; the capacity is that of these blocks. Fails only if memory runs out, and
+    /// never if the range is empty or past the length.
     ///
     /// ```
     /// // The set is {1, 4, 34}.

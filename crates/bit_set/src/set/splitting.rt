@@ -10,10 +10,10 @@ use std::alloc::{AllocError, Global};
 use std::mem::replace;
 
 impl<B: BitBlock> BitSet<B> {
-    /// Moves what is in `other` into the set. The length becomes the greater of both; `other` is empty then, and
-    /// keeps its length and capacity. One pass over the blocks of the set, and one over those of `other`. Fails
-    /// only where the length of `other` passes the capacity and no memory is found; elements, lengths and
-    /// capacities of both then stay.
+    /// Moves the elements of `other` into the set. The length becomes the greater of the two; `other` becomes
+    /// empty, and keeps its length and capacity. One pass over the blocks of the set, and one over those of
+    /// `other`. Fails only if the length of `other` exceeds the capacity and memory runs out; elements, lengths and
+    /// capacities of both are then unchanged.
     ///
     /// ```
     /// // The sets are {2, 6} and {1, 3, 6}.
@@ -41,13 +41,13 @@ impl<B: BitBlock> BitSet<B> {
         Ok(())
     }
 
-    /// Parts the set at `at`: the elements below it stay, and the others are returned. The returned set keeps the
-    /// length, and the length of this one becomes `at`. Copies the blocks from that of `at` on, each once, and
+    /// Splits the set at `at`: the elements below it stay, and the others are returned. The returned set has the
+    /// old length, and the length of this one becomes `at`. Copies the blocks from that of `at` on, each once, and
     /// writes a zero for each before it; the capacity is that of these blocks.
     ///
-    /// Where `at` is at or past the length nothing changes, and an empty set of length 0 is returned. Where it is
-    /// 0 all is returned, the capacity too, and an empty set of length 0 stays. Both take no memory, and constant
-    /// time. Fails only between them where memory runs out; then nothing changed.
+    /// If `at` is at or past the length, nothing changes, and an empty set of length 0 is returned. If it is 0,
+    /// everything is returned, including the capacity, and an empty set of length 0 stays. Both take constant time
+    /// and allocate nothing. Between them it fails if memory runs out, and then changes nothing.
     ///
     /// ```
     /// // The set is {1, 2, 3, 6}.

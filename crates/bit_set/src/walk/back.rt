@@ -9,7 +9,7 @@ use crate::walk::Iter;
 use std::iter::Rev;
 
 impl<'a, B: BitBlock> Iter<'a, B> {
-    /// The greatest element that is left. It is one call of [`next_back`](DoubleEndedIterator::next_back).
+    /// The greatest element that is left: one call of [`next_back`](DoubleEndedIterator::next_back).
     #[inline]
     pub fn last(mut self) -> Option<usize>
         ensures value { result ≡ last_or None self.entry.left }
@@ -28,7 +28,8 @@ impl<'a, B: BitBlock> Iter<'a, B> {
         self.last()
     }
 
-    /// The elements that are left, from the greatest on: std's `rev`, which chains go on from. Constant time.
+    /// The elements that are left, in descending order: std's `rev`, which other adapters can follow. Constant
+    /// time.
     ///
     /// ```
     /// let set = BitSet::from_bytes(alloc, &[0b0100_1010])?;
@@ -48,9 +49,8 @@ impl<'a, B: BitBlock> Iter<'a, B> {
 impl<'a, B: BitBlock> DoubleEndedIterator for Iter<'a, B> {
     ghost next_back_gives = { AdvancesBack B.width };
 
-    /// The greatest element that is left, and from the end on `None` for good. Both ends take of the same elements. Goes
-    /// on to the last block that is not zero by the summary; constant time within a block
-    /// of the six types.
+    /// The greatest element that is left, and `None` for good once there is none. Both ends draw on the same
+    /// elements. Moves to the last nonzero block by the summary; constant time within a block of the six types.
     // Where it is a call, the walk goes through memory.
     #[inline(always)]
     fn next_back(&mut self) -> Option<usize> {

@@ -8,8 +8,8 @@ use crate::bit_vec::operation;
 use crate::{BitBlock, BitSet};
 use std::marker::Model;
 
-/// What is in both of two sets, in ascending order, each once. Pulls each block of both sets once.
-/// It keeps a bound on the elements that are left.
+/// What two sets have in common, in ascending order, each once. Pulls each block of both sets once. It keeps a
+/// bound on the number of elements left.
 #[derive(Drop)]
 pub struct Intersection<'a, B: BitBlock> {
     walk: TwoSets<'a, B, operation::Intersection>,
@@ -28,14 +28,14 @@ impl<'a, B: BitBlock> Model for Intersection<'a, B> {
 }
 
 impl<'a, B: BitBlock> Intersection<'a, B> {
-    /// How many elements are left. Adds up the ones of each pair of blocks that is left.
+    /// How many elements are left. Adds up the ones of each remaining pair of blocks.
     pub fn count(self) -> usize
         ensures { result ≡ length self.entry.walk.left }
     {
         self.walk.count()
     }
 
-    /// Another walk over what is left. It counts its pulls on from this one's. Constant time.
+    /// Another iterator over what is left, whose count of pulls continues from this one's. Constant time.
     #[inline]
     pub fn clone(&self) -> Self
         ensures { result ≡ self.now }
@@ -54,16 +54,16 @@ impl<'a, B: BitBlock> Iterator for Intersection<'a, B> {
 
     ghost remaining = { item_count (λ it. it.walk.left) };
 
-    /// The least element that is left, and from the end on `None` for good. Pulls each block that it
-    /// passes, of both sets, once; constant time within a block.
+    /// The least element that is left, and `None` for good once there is none. Pulls each block that it passes
+    /// once, in both sets; constant time within a block.
     #[inline]
     fn next(&mut self) -> Option<usize> {
         self.bound = self.bound.saturating_sub(1);
         self.walk.next()
     }
 
-    /// From 0 up to the smaller length of the two sets, less the calls of `next`; 0 at least. So it is 0
-    /// from the start where a set has length 0. Constant time.
+    /// From 0 up to the smaller length of the two sets, less the number of calls of `next`, and at least 0. So it
+    /// is 0 from the start if a set has length 0. Constant time.
     #[inline]
     fn size_hint(&self) -> (usize, Option<usize>)
         ensures exact { result ≡ (0, Some self.now.bound) }
@@ -75,7 +75,7 @@ impl<'a, B: BitBlock> Iterator for Intersection<'a, B> {
 }
 
 impl<B: BitBlock> BitSet<B> {
-    /// A walk over what is in this set and in the other one, in ascending order. Constant time.
+    /// An iterator over what is in this set and in the other one, in ascending order. Constant time.
     #[inline]
     pub fn intersection<'a>(&'a self, other: &'a Self) -> Intersection<'a, B>
         ensures left { result.walk.left ≡ intersection (elements self.now.values) (elements other.now.values) }

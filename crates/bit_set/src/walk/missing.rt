@@ -9,8 +9,8 @@ use crate::{BitBlock, BitSet};
 use std::marker::Model;
 use std::ops::Range;
 
-/// The numbers of a range that are not in a set, in ascending order, each once. Reads each block of the range once, and
-/// none past the length, where all numbers are missing.
+/// The numbers of a range that are absent from a set, in ascending order, each once. Reads each block of the range
+/// once, and none past the length, where all numbers are missing.
 #[derive(Drop)]
 pub struct Missing<'a, B: BitBlock> {
     bits: &'a BitVec<B>,
@@ -53,7 +53,7 @@ impl<'a, B: BitBlock> Missing<'a, B> {
         }
     }
 
-    /// How many numbers are left. Adds up the ones of the blocks of the range that are left.
+    /// How many numbers are left. Adds up the ones of the remaining blocks of the range.
     pub fn count(self) -> usize
         ensures { result ≡ length self.entry.left }
     {
@@ -66,7 +66,7 @@ impl<'a, B: BitBlock> Missing<'a, B> {
         in_hand + (self.end - past - members)
     }
 
-    /// Another walk over what is left. Constant time.
+    /// Another iterator over what is left. Constant time.
     #[inline]
     pub fn clone(&self) -> Self
         ensures { result ≡ self.now }
@@ -87,8 +87,8 @@ impl<'a, B: BitBlock> Iterator for Missing<'a, B> {
 
     ghost remaining = { item_count (λ walk. walk.left) };
 
-    /// The least number that is left, and from the end on `None` for good. Goes on to the next block that lacks one;
-    /// constant time within a block.
+    /// The least number that is left, and `None` for good once there is none. Moves to the next block that lacks
+    /// one; constant time within a block.
     #[inline]
     fn next(&mut self) -> Option<usize> {
         while self.block == B::zero() {
@@ -101,7 +101,7 @@ impl<'a, B: BitBlock> Iterator for Missing<'a, B> {
         Some(self.index + take_lowest_one(&mut self.block))
     }
 
-    /// From 0 up to how far the end of the range is past the first number of the block in hand. Constant time.
+    /// From 0 up to the distance from the first number of the block in hand to the end of the range. Constant time.
     #[inline]
     fn size_hint(&self) -> (usize, Option<usize>)
         ensures exact { result ≡ (0, Some (self.now.end - self.now.index)) }
@@ -113,8 +113,8 @@ impl<'a, B: BitBlock> Iterator for Missing<'a, B> {
 }
 
 impl<B: BitBlock> BitSet<B> {
-    /// A walk over the numbers of the range that are not in, in ascending order; none where the range is empty. Past the
-    /// length all are missing. Constant time.
+    /// An iterator over the absent numbers of the range, in ascending order; there are none if the range is empty.
+    /// Past the length all are missing. Constant time.
     ///
     /// ```
     /// // The set is {1, 4}.

@@ -10,7 +10,7 @@ use crate::{BitBlock, BitSet};
 use std::ops::Range;
 
 impl<B: BitBlock> BitSet<B> {
-    /// A walk over the elements that are `from` or above, in ascending order. Constant time.
+    /// An iterator over the elements that are `from` or above, in ascending order. Constant time.
     ///
     /// ```
     /// let set = BitSet::from_bytes(alloc, &[0b0100_1010])?;
@@ -25,8 +25,8 @@ impl<B: BitBlock> BitSet<B> {
         Iter::over_from(self.get_ref(), from)
     }
 
-    /// A walk over the elements of the range, in ascending order, from both ends; none where the range is empty.
-    /// Constant time.
+    /// A double-ended iterator over the elements of the range, in ascending order; there are none if the range is
+    /// empty. Constant time.
     ///
     /// ```
     /// let set = BitSet::from_bytes(alloc, &[0b0100_1010])?;

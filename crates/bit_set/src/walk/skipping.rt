@@ -7,9 +7,9 @@ use crate::BitBlock;
 use crate::walk::Iter;
 
 impl<'a, B: BitBlock> Iter<'a, B> {
-    /// The element that `n` others of those left come before, which are passed; `None` where there are no more. Passes
-    /// over a block by the count of its ones; where a summary is stored, over as many blocks at once as a block has
-    /// bits, unless few of these are not zero.
+    /// Skips `n` of the elements left and returns the next; `None` if there are no more than `n`. Skips a block by
+    /// the count of its ones; if a summary is stored, as many blocks at once as a block has bits, unless few of
+    /// these are nonzero.
     ///
     /// ```
     /// let set = BitSet::from_bytes(alloc, &[0b0100_1010])?;

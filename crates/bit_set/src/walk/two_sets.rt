@@ -10,7 +10,8 @@ use crate::bit_vec::take_lowest_one;
 use crate::{BitBlock, BitSet};
 use std::marker::Model;
 
-/// What two sets become by an operation, in ascending order, each once. Pulls each block of both sets once.
+/// The result of an operation on two sets, in ascending order, each element once. Pulls each block of both sets
+/// once.
 #[derive(Drop)]
 pub struct TwoSets<'a, B: BitBlock, O: Operation> {
     source: Pairs<'a, B, O>,
@@ -22,13 +23,13 @@ pub struct TwoSets<'a, B: BitBlock, O: Operation> {
     sparse: bool,
 }
 
-/// What is in either of two sets, in ascending order, each once. Pulls each block of both sets once.
+/// What is in at least one of two sets, in ascending order, each once. Pulls each block of both sets once.
 pub type Union<'a, B> = TwoSets<'a, B, operation::Union>;
 
-/// What is in the first of two sets alone, in ascending order, each once. Pulls each block of both sets once.
+/// What only the first of two sets has, in ascending order, each once. Pulls each block of both sets once.
 pub type Difference<'a, B> = TwoSets<'a, B, operation::Difference>;
 
-/// What is in just one of two sets, in ascending order, each once. Pulls each block of both sets once.
+/// What is in exactly one of two sets, in ascending order, each once. Pulls each block of both sets once.
 pub type SymmetricDifference<'a, B> = TwoSets<'a, B, operation::Symmetric>;
 
 impl<'a, B: BitBlock, O: Operation> Model for TwoSets<'a, B, O> {
@@ -78,14 +79,14 @@ impl<'a, B: BitBlock, O: Operation> TwoSets<'a, B, O> {
         }
     }
 
-    /// How many elements are left. Adds up the ones of each pair of blocks that is left.
+    /// How many elements are left. Adds up the ones of each remaining pair of blocks.
     pub fn count(self) -> usize
         ensures { result ≡ length self.entry.left }
     {
         self.block.count_ones() + self.source.count_ones()
     }
 
-    /// Another walk over what is left. It counts its pulls on from this one's. Constant time.
+    /// Another iterator over what is left, whose count of pulls continues from this one's. Constant time.
     #[inline]
     pub fn clone(&self) -> Self
         ensures { result ≡ self.now }
@@ -106,8 +107,8 @@ impl<'a, B: BitBlock, O: Operation> Iterator for TwoSets<'a, B, O> {
 
     ghost remaining = { item_count (λ walk. walk.left) };
 
-    /// The least element that is left, and from the end on `None` for good. Pulls each block that it
-    /// passes, of both sets, once; constant time within a block.
+    /// The least element that is left, and `None` for good once there is none. Pulls each block that it passes
+    /// once, in both sets; constant time within a block.
     #[inline]
     fn next(&mut self) -> Option<usize> {
         if self.sparse {
@@ -122,8 +123,8 @@ impl<'a, B: BitBlock, O: Operation> Iterator for TwoSets<'a, B, O> {
         Some(self.index + take_lowest_one(&mut self.block))
     }
 
-    /// From 0 up to the bits of the block in hand and of the blocks past it, as [`Iter`](crate::Iter) has
-    /// it: those of a whole block where both sets have length 0. Constant time.
+    /// From 0 up to the number of bits of the block in hand and of the blocks after it, as for
+    /// [`Iter`](crate::Iter): those of a whole block if both sets have length 0. Constant time.
     #[inline]
     fn size_hint(&self) -> (usize, Option<usize>)
         ensures exact { result ≡ (0, bound_on_rest B.width self.now.blocks) }
@@ -136,7 +137,7 @@ impl<'a, B: BitBlock, O: Operation> Iterator for TwoSets<'a, B, O> {
 }
 
 impl<B: BitBlock> BitSet<B> {
-    /// A walk over what is in this set or in the other one, in ascending order. Constant time.
+    /// An iterator over what is in this set or in the other one, in ascending order. Constant time.
     #[inline]
     pub fn union<'a>(&'a self, other: &'a Self) -> Union<'a, B>
         ensures left { result.left ≡ union (elements self.now.values) (elements other.now.values) }
@@ -147,7 +148,7 @@ impl<B: BitBlock> BitSet<B> {
         TwoSets::over(self, other)
     }
 
-    /// A walk over what is in this set and not in the other one, in ascending order. Constant time.
+    /// An iterator over what is in this set and not in the other one, in ascending order. Constant time.
     #[inline]
     pub fn difference<'a>(&'a self, other: &'a Self) -> Difference<'a, B>
         ensures left { result.left ≡ difference (elements self.now.values) (elements other.now.values) }
@@ -158,7 +159,7 @@ impl<B: BitBlock> BitSet<B> {
         TwoSets::over(self, other)
     }
 
-    /// A walk over what is in just one of this set and the other one, in ascending order. Constant time.
+    /// An iterator over what is in exactly one of this set and the other one, in ascending order. Constant time.
     ///
     /// ```
     /// // The sets are {1, 2} and {2, 3}.
