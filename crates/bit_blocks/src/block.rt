@@ -1,5 +1,5 @@
-//! What a type of blocks has to be. The types themselves, and what is computed of one or two blocks, are in the
-//! folder; nothing here knows of a list.
+//! What a block type must provide. The types themselves, and what is computed from one or two blocks, are in the
+//! folder; nothing here deals with lists.
 ghost use Rattle.std.specs.{Prelude.{◌≡◌, ℕ, ◌+◌, ◌^◌, ◌<◌, ◌≤◌, ◌↔◌, true}, Int.RustNames.count_ones};
 ghost use Rattle.bit_blocks.specs.{Digits.{IsWidth, IsBoth, IsEither, IsDifferent, IsComplement, IsShiftedLeft, IsShiftedRight}, Highest.IsHighest};
 
@@ -15,10 +15,10 @@ pub mod operators;
 
 /// A block of bits: a value that represents a whole number below `2 ^ bits()`.
 ///
-/// The laws below the functions speak of block values alone, those with `is_block`.
-/// Block values and the numbers below `2 ^ bits()` are in one to one relation, and `==` holds
-/// exactly for equal numbers. `&`, `|`, `^` and `!` act digit by digit, `+` and `-` are those of
-/// numbers where the result is one of a block. The width need not be a power of two.
+/// The laws below the functions speak only of block values, those with `is_block`. Block values and the numbers
+/// below `2 ^ bits()` correspond one to one, and `==` holds exactly for equal numbers. `&`, `|`, `^` and `!` act
+/// digit by digit; `+` and `-` are those of numbers if the result is that of a block. The width need not be a power
+/// of two.
 pub trait BitBlock: Copy
     + Eq
     + BitAnd<Output = Self>
@@ -52,7 +52,7 @@ pub trait BitBlock: Copy
         Self::from_byte(0)
     }
 
-    /// The block with the lowest bit alone.
+    /// The block in which only the lowest bit is 1.
     #[inline]
     fn one() -> Self
         ensures of_block { is_block result }
@@ -71,24 +71,24 @@ pub trait BitBlock: Copy
         ensures of_block { is_block result }
         ensures of_number { number result ≡ byte };
 
-    /// The bits moved to indexes that are higher by `distance`, which is below `bits()`. Those that leave at the
-    /// top are dropped, and zeros come in below.
+    /// The bits moved up by `distance`, which must be below `bits()`. Those that pass the top are dropped, and
+    /// zeros enter at the bottom.
     fn shift_left(self, distance: usize) -> Self
         requires of_block { is_block self }
         requires within { distance < width }
         ensures of_block { is_block result }
         ensures of_digits { IsShiftedLeft width (number self) distance (number result) };
 
-    /// The bits moved to indexes that are lower by `distance`, which is below `bits()`. Those that leave below
-    /// are dropped, and zeros come in at the top.
+    /// The bits moved down by `distance`, which must be below `bits()`. Those that pass the bottom are dropped, and
+    /// zeros enter at the top.
     fn shift_right(self, distance: usize) -> Self
         requires of_block { is_block self }
         requires within { distance < width }
         ensures of_block { is_block result }
         ensures of_digits { IsShiftedRight width (number self) distance (number result) };
 
-    /// The index of the highest bit that is 1, of a block that is not zero. Fills in the digits below it, in as many
-    /// steps as the width has binary digits, and counts them. A type whose processor finds it in one step says so here.
+    /// The index of the highest 1 of a nonzero block. Sets the digits below it to 1, in as many steps as the width
+    /// has binary digits, and counts them. A type for which the processor finds it in one step overrides this.
     #[inline]
     fn highest_one(self) -> usize
         requires of_block { is_block self }

@@ -1,5 +1,6 @@
-//! Bits in a list of blocks, by functions on the blocks and the index of a bit: bit `i` is bit `i % B::bits()` of block
-//! `i / B::bits()`. A list of bits is kept so, and its bits past the length are 0; so is any table of bits.
+//! Bits in a list of blocks, by functions on the blocks and the index of a bit: bit `i` is bit `i % B::bits()` of
+//! block `i / B::bits()`. A list of bits is stored in this way, with zeros past its length, and so is any table of
+//! bits.
 // Nothing here knows of a summary.
 pub mod access;
 pub mod becoming;

@@ -46,11 +46,10 @@ pub use constructors::BitsError;
 pub use first_and_nonzero::FirstAndNonzero;
 pub use nonzero::Nonzero;
 
-/// A list of truth values, kept as bits in a vector of blocks.
+/// A list of truth values, stored as bits in a vector of blocks.
 ///
-/// Contracts see the list, as `values`, and `capacity`, the length up to which it grows without memory.
-/// Value `i` is bit `i % B::bits()` of block `i / B::bits()`; bits of the last block past the
-/// length are 0.
+/// Contracts see the list, as `values`, and `capacity`, the length up to which it grows without allocating. Value
+/// `i` is bit `i % B::bits()` of block `i / B::bits()`; bits of the last block past the length are 0.
 ///
 /// ```
 /// let mut bits = BitVec::from_elem(alloc, 3, false)?;
@@ -105,24 +104,24 @@ impl<B: BitBlock> BitVec<B> {
         Some(get_bit(&self.blocks, i))
     }
 
-    /// Whether no value is true. Of many blocks it reads the summary alone: one block of it for as many as a block has
-    /// bits.
+    /// Whether no value is true. If there are many blocks, it reads only the summary, each block of which covers as
+    /// many blocks as it has bits.
     pub fn none(&self) -> bool
         ensures { IsTrue result ↔ All (λ bit. bit ≡ false) self.now.values }
     {
         are_zero_by_summary(&self.blocks, &self.summary)
     }
 
-    /// How many values are true. Adds up the ones of each block, and passes over as many blocks as a
-    /// block has bits at once where they are all zero.
+    /// How many values are true. Adds up the ones of each block, and skips as many blocks at once as a block has
+    /// bits, if they are all zero.
     pub fn count_ones(&self) -> usize
         ensures { result ≡ count_by (λ value. value) self.now.values }
     {
         ones_by_summary(&self.blocks, &self.summary)
     }
 
-    /// The greatest length for which no memory is missing. Each block that there is capacity for counts for its
-    /// width, as far as a `usize` goes. Constant time.
+    /// The greatest length that needs no further memory: the total width of the blocks that there is capacity for,
+    /// or `usize::MAX` if that is less. Constant time.
     #[inline]
     pub fn capacity(&self) -> usize
         ensures value { result ≡ self.now.capacity }
@@ -134,7 +133,7 @@ impl<B: BitBlock> BitVec<B> {
         count.saturating_mul(B::bits())
     }
 
-    /// The blocks in which the list is kept. Constant time.
+    /// The blocks that store the list. Constant time.
     #[inline]
     pub fn storage(&self) -> &[B]
         ensures numbers { map B.number result.now ≡ blocks_of B.width self.now.values }
@@ -144,7 +143,7 @@ impl<B: BitBlock> BitVec<B> {
         &self.blocks
     }
 
-    /// A walk over these blocks. Constant time.
+    /// An iterator over these blocks. Constant time.
     #[inline]
     pub fn blocks(&self) -> Blocks<'_, B>
         ensures numbers { map B.number result.left ≡ blocks_of B.width self.now.values }
@@ -155,8 +154,8 @@ impl<B: BitBlock> BitVec<B> {
         Blocks::over(self.storage())
     }
 
-    /// What [`nonzero`](Self::nonzero) leaves after one pull: the blocks past the first that are not zero. Constant time,
-    /// and takes no memory.
+    /// What [`nonzero`](Self::nonzero) leaves after one pull: the nonzero blocks past the first. Constant time, and
+    /// allocates nothing.
     #[inline]
     pub fn nonzero_past_first(&self) -> Nonzero<'_, B>
         ensures blocks { map B.number result.blocks ≡ blocks_of B.width self.now.values }
@@ -167,9 +166,9 @@ impl<B: BitBlock> BitVec<B> {
         Nonzero::after(self, 0, Unstored::Each)
     }
 
-    /// A walk over the blocks past the one with this index, or past the last one where there are fewer, that are not
-    /// zero. Takes no memory, and constant time: it looks at as many blocks at once as a block has bits at most, where no
-    /// summary is stored and the first of these is zero.
+    /// An iterator over the nonzero blocks past the one with this index, or past the last one if there are fewer.
+    /// Constant time, and allocates nothing: if no summary is stored and the first of these blocks is zero, it
+    /// looks at no more blocks than a block has bits.
     ///
     /// ```
     /// // Of 100 values, over blocks of 32 bits, those at 70 and 71 are true.

@@ -1,4 +1,4 @@
-//! Laws over plain numbers and lists, as the contracts of functions that do nothing.
+//! Laws over plain numbers and lists, stated as the contracts of functions that do nothing.
 ghost use Rattle.std.specs.{Prelude.{◌≡◌, ℕ, ◌+◌, ◌-◌, ◌*◌, ◌^◌, ◌<◌, ◌≤◌, ◌↔◌, ◌==◌, Bool, true, Some, None, List, length, slice_get, slice_index}, Int.{bit_at, RustNames.count_ones}};
 ghost use Rattle.std.specs.{Iterator.YieldsThen, List.sum_by};
 ghost use Rattle.std.specs.List.{count_by, range_with_len};
@@ -8,8 +8,8 @@ ghost use Rattle.bit_words.specs.Source.{Source};
 use crate::bit_vec::Blocks;
 use bit_blocks::block::BitBlock;
 
-/// What the blocks of a list of truth values are. Block `k` has a 1 at digit `j` exactly where
-/// `k * w + j` is an index at which the list is true, and there are just enough blocks for the list.
+/// What the blocks of a list of truth values are. Block `k` has a 1 at digit `j` exactly if the list is true at
+/// index `k * w + j`, and there are just enough blocks for the list.
 pub fn blocks_of_values()
     ensures digits { (w k j : ℕ) (values : List Bool) → j < w → (bit_at (slice_index (blocks_of w values) k) j ≡ 1)
         ↔ (slice_get values (k * w + j) ≡ Some true) }
@@ -18,22 +18,22 @@ pub fn blocks_of_values()
     ensures least { (w n : ℕ) (values : List Bool) → 0 < w → length values ≤ n * w → length (blocks_of w values) ≤ n }
 {}
 
-/// What the list of some bytes is: eight values a byte, the value of its highest bit first.
+/// The list of some bytes: eight values for each byte, the value of its highest bit first.
 pub fn values_of_each_byte()
     ensures len { (bytes : List ℕ) → length (values_of_bytes bytes) ≡ 8 * length bytes }
     ensures values { (bytes : List ℕ) (i j : ℕ) → i < length bytes → j < 8
         → slice_get (values_of_bytes bytes) (8 * i + j) ≡ Some (bit_at (slice_index bytes i) (7 - j) == 1) }
 {}
 
-/// How far the blocks of a list reach: a bit vector whose capacity is that of whole blocks, as `capacity` says of
-/// each, takes no memory to become as long as the blocks that it has.
+/// The length that the blocks of a list allow: a bit vector whose capacity is that of whole blocks, which
+/// `capacity` ensures of each, can fill its blocks without allocating.
 pub fn capacity_of_whole_blocks()
     ensures { (w n : ℕ) (v : Bits) → IsCapacityOfBlocks w v → n ≤ 2 ^ 64 - 1 → n ≤ blocks_for w (length v.values) * w
         → n ≤ v.capacity }
 {}
 
-/// What a whole walk over blocks gives: the blocks that were left, each once and in order, by one
-/// pull for each and one that finds the end.
+/// What complete iteration over blocks yields: the blocks that were left, each once and in order, by one pull for
+/// each and one that finds the end.
 pub fn walk_of_blocks<B: BitBlock + 'static>()
     ensures items { (s t : Source B) (items : List B)
         → YieldsThen ⟦<Blocks<'static, B> as Iterator>⟧.next_gives s items None t → items ≡ s.left }
@@ -42,17 +42,16 @@ pub fn walk_of_blocks<B: BitBlock + 'static>()
         → t.pulls ≡ s.pulls + length s.left + 1 }
 {}
 
-/// Counting the digits that are 1, block by block, counts the true values of a list. In one number
-/// they are as many as the sum of its digits says.
+/// Counting the digits that are 1, block by block, counts the true values of a list. In one number, the count is
+/// the sum of its digits.
 pub fn ones_of_blocks()
     ensures blocks { (w : ℕ) (values : List Bool) → 0 < w
         → sum_by count_ones (blocks_of w values) ≡ count_by (λ value. value) values }
     ensures digits { (w m : ℕ) → m < 2 ^ w → count_ones m ≡ sum_by (bit_at m) (range_with_len 0 w) }
 {}
 
-/// How a block that is not zero gives up its lowest 1, at every width. `!m + 1` does not wrap, `m & (!m + 1)` is
-/// that 1 alone, the number below it has as many ones as its index says, and `m & (m - 1)` is `m` with that digit
-/// made 0.
+/// How to remove the lowest 1 from a nonzero block, at every width. `!m + 1` does not wrap, `m & (!m + 1)` is only
+/// that 1, one less than it has as many ones as its index, and `m & (m - 1)` is `m` with that digit set to 0.
 pub fn lowest_one()
     ensures { (w m : ℕ) → 0 < m → m < 2 ^ w → (i : ℕ) × LowestIsFound w m i }
 {}

@@ -310,7 +310,7 @@ pub(crate) fn summarize_span<B: BitBlock>(
     }
 }
 
-// A summary of its own for the blocks, empty where they are few. Fails only where memory runs out, and never for few.
+// A summary of its own for the blocks, empty where they are few. Fails only if memory runs out, and never for few.
 pub(crate) fn summary_of<B: BitBlock>(alloc: Global, blocks: &[B]) -> Result<Vec<B>, AllocError>
     requires blocks { All B.is_block blocks.now }
     requires fits { length blocks.now < 2 ^ 64 }

@@ -5,8 +5,8 @@ ghost use Rattle.bit_blocks.specs.{Highest.IsHighest, Lowest.IsCleared};
 use crate::block::BitBlock;
 use crate::block::masks::with_bit;
 
-/// Takes the highest 1 off a block that is not zero, and returns its index, by
-/// [`highest_one`](BitBlock::highest_one): walks from the back find their items by this step.
+/// Removes the highest 1 of a nonzero block, and returns its index, by [`highest_one`](BitBlock::highest_one):
+/// iterators from the back find their items by this step.
 ///
 /// ```
 /// let mut block = 0b0110u8;

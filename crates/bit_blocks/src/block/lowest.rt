@@ -5,8 +5,8 @@ ghost use Rattle.bit_blocks.specs.Lowest.{IsLowest, IsCleared, IsIsolated};
 use crate::block::BitBlock;
 use crate::block::operators::{block_and, block_not, block_sub};
 
-/// Takes the lowest 1 off a block that is not zero, and returns its index. Constant time: all walks find their
-/// items by this step.
+/// Removes the lowest 1 of a nonzero block, and returns its index. Constant time: all iterators find their items by
+/// this step.
 ///
 /// ```
 /// let mut block = 0b0110u8;

@@ -6,7 +6,7 @@ ghost use Rattle.bit_blocks.specs.Digits.{is_one};
 use crate::block::BitBlock;
 use crate::block::operators::{block_and, block_not, block_or, one_at, ones_below};
 
-/// The block with its digit at `index` made `bit`. Constant time.
+/// The block with its digit at `index` set to `bit`. Constant time.
 ///
 /// ```
 /// assert_eq!(with_bit(0b0110u8, 1, false), 0b0100);
@@ -93,7 +93,7 @@ pub(crate) fn with_ones_between<B: BitBlock>(block: B, start: usize, end: usize)
     block_or(block, ones_between(start, end))
 }
 
-/// The bits from `index` on become 0, where the block has that index. [`clear_from`] takes any.
+/// The bits from `index` on become 0; `index` must be below the width. [`clear_from`] takes any index.
 #[inline]
 #[tactic(auto, using(crate::proofs::Masks::masks))]
 pub fn with_zeros_from<B: BitBlock>(block: B, index: usize) -> B
@@ -106,7 +106,7 @@ pub fn with_zeros_from<B: BitBlock>(block: B, index: usize) -> B
     block_and(block, ones_below(index))
 }
 
-/// The bits below `index` become 0, where the block has that index. [`clear_below`] takes any.
+/// The bits below `index` become 0; `index` must be below the width. [`clear_below`] takes any index.
 #[inline]
 #[tactic(auto, using(crate::proofs::Masks::masks))]
 pub fn with_zeros_below<B: BitBlock>(block: B, index: usize) -> B
@@ -119,8 +119,8 @@ pub fn with_zeros_below<B: BitBlock>(block: B, index: usize) -> B
     block_and(block, ones_from(index))
 }
 
-/// A block with its digits below `index` made 0; where it has no others, all of them. Constant time: with this a
-/// walk starts inside a block.
+/// A block with its digits below `index` set to 0: all of them, if it has no others. Constant time: with this an
+/// iterator starts inside a block.
 ///
 /// ```
 /// assert_eq!(clear_below(0b0111u8, 1), 0b0110);
@@ -140,8 +140,8 @@ pub fn clear_below<B: BitBlock>(block: B, index: usize) -> B
     }
 }
 
-/// A block with its digits from `index` on made 0; where it has none there, it stays. Constant time: with this a walk
-/// ends inside a block.
+/// A block with its digits from `index` on set to 0; unchanged, if it has none there. Constant time: with this an
+/// iterator ends inside a block.
 ///
 /// ```
 /// assert_eq!(clear_from(0b0111u8, 1), 0b0001);

@@ -5,21 +5,21 @@ ghost use Rattle.bit_blocks.specs.Merges.{merge_of_values};
 use crate::block::BitBlock;
 use crate::block::operation::{Difference, Intersection, Operation, Symmetric, Union};
 
-/// How two sets, or two bit vectors, are made one.
+/// How two sets, or two bit vectors, are merged.
 #[derive(Clone, Copy, Debug, PartialEq, Eq)]
 pub enum Merge {
     /// What is in either: `a | b`, block by block.
     Union,
     /// What is in both: `a & b`.
     Intersection,
-    /// What is in the first alone: `a & !b`.
+    /// What is only in the first: `a & !b`.
     Difference,
-    /// What is in just one: `a ^ b`.
+    /// What is in exactly one: `a ^ b`.
     Symmetric,
 }
 
 impl Merge {
-    /// What two blocks become, bit by bit. Constant time.
+    /// The merge of two blocks, bit by bit. Constant time.
     #[inline]
     pub fn of_blocks<B: BitBlock>(self, a: B, b: B) -> B
         requires left { B.is_block a }

@@ -1,15 +1,15 @@
-//! The four merges, each by a type.
+//! The four merges, each as a type.
 ghost use Rattle.std.specs.{Prelude.{◌≡◌, ℕ, ◌<◌, ◌==◌, ◌↔◌, true}, Int.bit_at};
 ghost use Rattle.bit_blocks.specs.{Merges.merge_of_values, declared.block.merge.Merge.Merge};
 
 use crate::block::BitBlock;
 use crate::block::operators::{block_and, block_not, block_or, block_xor};
 
-/// A `Merge` by a type. Generic code is then built once for each, with no choice inside.
+/// A `Merge` as a type. Generic code is then compiled once for each, with no branch on the operation.
 pub trait Operation: Copy {
     ghost merge: { Merge };
 
-    /// What two blocks become, bit by bit, as `Merge::of_blocks` has it. Constant time.
+    /// The merge of two blocks, bit by bit, as by `Merge::of_blocks`. Constant time.
     fn of_blocks<B: BitBlock>(a: B, b: B) -> B
         requires left { B.is_block a }
         requires right { B.is_block b }

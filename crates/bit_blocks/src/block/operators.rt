@@ -39,7 +39,7 @@ pub(crate) fn block_xor<B: BitBlock>(a: B, b: B) -> B
     a ^ b
 }
 
-/// The block with a 1 where this has a 0.
+/// The block with a 1 where this one has a 0.
 #[inline]
 pub fn block_not<B: BitBlock>(a: B) -> B
     requires { B.is_block a }
@@ -61,7 +61,7 @@ pub(crate) fn block_sub<B: BitBlock>(a: B, b: B) -> B
     a - b
 }
 
-/// The block whose digits are moved up by `distance`; those that leave it are lost.
+/// The block with its digits moved up by `distance`; those that pass the top are lost.
 #[inline]
 pub fn shift_left<B: BitBlock>(a: B, distance: usize) -> B
     requires left { B.is_block a }

@@ -20,7 +20,7 @@ pub fn block_count<B: BitBlock>(len: usize) -> usize
     len.div_ceil(B::bits())
 }
 
-/// The index of the block in which bit `i` is. Constant time: a division, which is a shift at the six types.
+/// The index of the block in which bit `i` is. Constant time: a division, which is a shift for the six types.
 ///
 /// ```
 /// assert_eq!(block_index::<u8>(17), 2);
@@ -45,7 +45,7 @@ pub fn bit_index<B: BitBlock>(i: usize) -> usize
     i % B::bits()
 }
 
-/// The block with this index, which is below their number. Constant time.
+/// The block with this index, which must be below their number. Constant time.
 ///
 /// ```
 /// assert_eq!(block_at(&[7u8, 1], 1), 1);
@@ -60,7 +60,7 @@ pub fn block_at<B: BitBlock>(blocks: &[B], k: usize) -> B
     blocks[k]
 }
 
-/// Makes block `k` be `block`.
+/// Sets block `k` to `block`.
 #[inline]
 pub fn put_block<B: BitBlock>(blocks: &mut Vec<B>, k: usize, block: B)
     requires in_bounds { k < vec_len blocks.old }
@@ -72,7 +72,7 @@ pub fn put_block<B: BitBlock>(blocks: &mut Vec<B>, k: usize, block: B)
     blocks[k] = block;
 }
 
-/// Writes a block of those that are lent as a slice. Constant time.
+/// Writes a block of a slice. Constant time.
 ///
 /// ```
 /// put_in(&mut blocks, 1, 5);
@@ -105,7 +105,7 @@ pub fn get_bit<B: BitBlock>(blocks: &[B], i: usize) -> bool
     has_one_at(block, bit_index::<B>(i))
 }
 
-/// The value at `i` becomes `bit`, where `block` is the block that it is in. What the block becomes is returned.
+/// Sets the value at `i` to `bit`, where `block` is the block that has it. Returns the new block.
 #[inline]
 pub fn write_bit<B: BitBlock>(blocks: &mut Vec<B>, i: usize, block: B, bit: bool) -> B
     requires in_bounds { i / B.width < vec_len blocks.old }
@@ -125,7 +125,7 @@ pub fn write_bit<B: BitBlock>(blocks: &mut Vec<B>, i: usize, block: B, bit: bool
     written
 }
 
-/// Makes bit `i` be `bit`, and returns what it was, with what its block is then. Constant time.
+/// Sets bit `i` to `bit`, and returns what it was, and its new block. Constant time.
 // It was the other where the block changes: so no bit of the old block is tested.
 #[inline]
 pub fn exchange_bit<B: BitBlock>(blocks: &mut Vec<B>, i: usize, bit: bool) -> (bool, B)
@@ -142,7 +142,7 @@ pub fn exchange_bit<B: BitBlock>(blocks: &mut Vec<B>, i: usize, bit: bool) -> (b
     (same(written, block) == bit, written)
 }
 
-/// Makes bit `i` be `bit`, and returns what it was. Constant time.
+/// Sets bit `i` to `bit`, and returns what it was. Constant time.
 ///
 /// ```
 /// assert!(!replace_bit(&mut blocks, 10, true));
@@ -183,7 +183,7 @@ pub(crate) fn set_tail<B: BitBlock>(blocks: &mut Vec<B>, len: usize, end: usize)
     }
 }
 
-/// The values from `len` on become false, where there is no block past them.
+/// The values from `len` on become false; there must be no block after theirs.
 pub fn clear_tail<B: BitBlock>(blocks: &mut Vec<B>, len: usize)
     requires count { vec_len blocks.old ≡ blocks_for B.width len }
     requires each { All B.is_block blocks.old.items }

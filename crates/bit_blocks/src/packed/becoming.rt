@@ -19,7 +19,7 @@ fn become_between<B: BitBlock, S: Others<B>>(blocks: &mut [B], others: S, start:
     }
 }
 
-/// Each of the blocks from `start` on becomes the other of its index, or 0 where there is none.
+/// Each block from `start` on becomes the other block with its index, or 0 if there is none.
 pub fn become_others<B: BitBlock, S: Others<B>>(blocks: &mut [B], others: S, start: usize)
     requires can { CanMerge B.is_block blocks.old (S.count others) (S.are_blocks others) }
     requires from { start ≤ S.count others }
@@ -31,8 +31,8 @@ pub fn become_others<B: BitBlock, S: Others<B>>(blocks: &mut [B], others: S, sta
     become_between(blocks, Zeros { count: end }, count, end);
 }
 
-/// The blocks from `start` on become the others except for the ones of `except`, or 0 past their end. Where `except` is
-/// the shorter one, the others are taken alone past its end.
+/// The blocks from `start` on become the others without the ones of `except`, or 0 past their end. If `except` is
+/// shorter, the others are taken unchanged past its end.
 pub fn become_except<B: BitBlock>(blocks: &mut [B], others: &[B], except: &[B], start: usize)
     requires can { CanMerge B.is_block blocks.old (length others.now) (All B.is_block others.now) }
     requires except { All B.is_block except.now }

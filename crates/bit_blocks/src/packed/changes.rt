@@ -8,8 +8,8 @@ use crate::packed::differences::{are_others, differing_place};
 use crate::packed::others::{Except, Merged, Others, Zeros};
 use std::marker::PhantomData;
 
-/// Where a group of blocks from `start` on and before `end` begins of which one changes by a merge with the others, or
-/// `None` where all of them stay.
+/// Where a group of blocks begins, from `start` on and before `end`, in which one changes by a merge with the
+/// others, or `None` if none changes.
 #[inline(always)]
 pub fn changing_place<B: BitBlock, O: Operation, S: Others<B>>(
     blocks: &[B],
@@ -31,8 +31,8 @@ pub fn changing_place<B: BitBlock, O: Operation, S: Others<B>>(
     differing_place(blocks, merged, start, end)
 }
 
-/// Where the list begins to change where it is merged with the others: a group of blocks of which one changes, or the end of
-/// the others. `None` where no block changes.
+/// Where the list begins to change when it is merged with the others: a group of blocks in which one changes, or
+/// the end of the others. `None` if no block changes.
 #[inline(always)]
 pub fn first_change<B: BitBlock, O: Operation, S: Others<B>>(
     blocks: &[B],
@@ -71,8 +71,8 @@ fn stay_from<B: BitBlock, O: Operation>(blocks: &[B], start: usize) -> bool
     are_others(blocks, merged, start, end - start)
 }
 
-/// Where the list begins to change by a union with the others except for the ones of `except`. `None` where no block
-/// changes. Where `except` is the shorter one, the others are looked at alone past its end.
+/// Where the list begins to change by a union with the others without the ones of `except`. `None` if no block
+/// changes. If `except` is shorter, the others are taken unchanged past its end.
 pub fn first_change_past_except<B: BitBlock>(
     blocks: &[B],
     others: &[B],

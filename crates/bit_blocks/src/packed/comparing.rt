@@ -10,8 +10,8 @@ use crate::packed::differences::{are_others, differences, differing_group, diffe
 use crate::packed::groups::{GROUP, LONG_GROUP};
 use crate::packed::nonzero::first_nonzero_block;
 
-/// Whether the lists of blocks are the same, where a block past the end of a list counts as 0. Compares groups of
-/// at most 32 blocks, each by one test, and stops at the first group that differs.
+/// Whether the lists of blocks are the same; a block past the end of a list counts as 0. Compares groups of at most
+/// 32 blocks, each by one test, and stops at the first group that differs.
 ///
 /// ```
 /// assert!(same_blocks(&[7u8, 1], &[7, 1, 0]));
@@ -32,7 +32,7 @@ pub fn same_blocks<B: BitBlock>(a: &[B], b: &[B]) -> bool
 }
 
 /// The first index at which the blocks differ, or `None`. Compares groups of blocks, each by one test, and reads
-/// less than 32 blocks past the first that differs.
+/// fewer than 32 blocks past the first that differs.
 ///
 /// ```
 /// assert_eq!(first_mismatching_block(&[7u8, 1], &[7, 1, 0]), None);
@@ -55,7 +55,7 @@ pub fn first_mismatching_block<B: BitBlock>(a: &[B], b: &[B]) -> Option<usize>
     first_nonzero_block(longer, both)
 }
 
-/// The first index below `end` at which the blocks differ, or `None`, where those before `start` are the same.
+/// The first index below `end` at which the blocks differ, or `None`; those before `start` must be the same.
 /// Compares them one by one.
 ///
 /// ```
@@ -142,8 +142,8 @@ fn same_by_search<B: BitBlock>(a: &[B], b: &[B]) -> bool
     first_mismatching_block(a, b).is_none()
 }
 
-/// A block that is 0 just where `seen` is and the other two are the same: so one test tells of many pairs of blocks.
-/// Constant time.
+/// A block that is 0 exactly if `seen` is 0 and the other two are the same, so that one test covers many pairs of
+/// blocks. Constant time.
 ///
 /// ```
 /// assert_eq!(or_mismatch(0u8, 5, 5), 0);
@@ -171,7 +171,7 @@ fn either<B: BitBlock>(a: B, b: B) -> B
     block_or(a, b)
 }
 
-/// The lowest index at which the bits of two blocks differ, which are not the same. Constant time.
+/// The lowest index at which the bits of two different blocks differ. Constant time.
 ///
 /// ```
 /// assert_eq!(lowest_mismatch(0b0101u8, 0b1001), 2);

@@ -26,7 +26,7 @@ fn with_copies<B: BitBlock>(mut blocks: Vec<B>, count: usize, block: B) -> Vec<B
     blocks
 }
 
-/// Appends copies of `block` until there are `count` blocks. There is capacity for them. One write for each.
+/// Appends copies of `block` until there are `count` blocks; there must be capacity for them. One write for each.
 ///
 /// ```
 /// let mut blocks: Vec<u8> = Vec::with_capacity(alloc, 3)?;
@@ -89,8 +89,8 @@ pub(crate) fn filled_with<B: BitBlock>(mut blocks: Vec<B>, more: &[B]) -> Result
     Ok(blocks)
 }
 
-/// A new vector of the same blocks, with capacity for no more. Fails where memory is missing; for no blocks it never
-/// fails. One write for each.
+/// A new vector of the same blocks, with capacity for no more. Fails if memory runs out, and never if there are no
+/// blocks. One write for each.
 ///
 /// ```
 /// let copy = copy_of(alloc, &blocks)?;
@@ -137,8 +137,8 @@ fn copy_other_count<B: BitBlock>(blocks: &mut Vec<B>, from: &[B])
     *blocks = with_blocks(owned, &from[written_over..]);
 }
 
-/// The blocks become those of `from`. There is capacity for them. Where they are as many, which they often are, no
-/// block is appended and the vector stays where it is.
+/// The blocks become those of `from`; there must be capacity for them. If there are equally many, as is often the
+/// case, no block is appended.
 #[inline]
 pub fn copy_blocks<B: BitBlock>(blocks: &mut Vec<B>, from: &[B])
     requires { length from.now ≤ vec_capacity blocks.old }

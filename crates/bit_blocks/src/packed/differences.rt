@@ -122,8 +122,8 @@ pub(crate) fn differing_place<B: BitBlock, S: Others<B>>(
     None
 }
 
-/// Where the blocks first differ from the others, and past their end from zeros: a group of blocks of which one differs,
-/// or the end of the others. `None` where no block differs.
+/// Where the blocks first differ from the others, and past their end from zeros: a group of blocks in which one
+/// differs, or the end of the others. `None` if no block differs.
 #[inline(always)]
 pub fn first_difference<B: BitBlock, S: Others<B>>(blocks: &[B], others: S) -> Option<usize>
     requires can { CanMerge B.is_block blocks.now (S.count others) (S.are_blocks others) }
@@ -138,8 +138,8 @@ pub fn first_difference<B: BitBlock, S: Others<B>>(blocks: &[B], others: S) -> O
     Some(count)
 }
 
-/// Where the blocks first differ from the others except for the ones of `except`, and past their end from zeros. `None`
-/// where no block differs. Where `except` is the shorter one, the others are compared alone past its end.
+/// Where the blocks first differ from the others without the ones of `except`, and past their end from zeros.
+/// `None` if no block differs. If `except` is shorter, the others are taken unchanged past its end.
 pub fn first_difference_except<B: BitBlock>(
     blocks: &[B],
     others: &[B],

@@ -1,12 +1,12 @@
 // Groups of blocks that a loop takes at once.
 ghost use Rattle.std.specs.Prelude.{◌≡◌, ◌+◌, ◌≤◌, drop, length, take};
 
-/// How many blocks a loop takes at once, so that the compiler makes vector code of it; fewer are taken one by one. Where
-/// a loop stops at the block that decides, a short group leaves little to read in vain.
+/// How many blocks a loop takes at once, so that the compiler makes vector code of it; fewer are taken one by one.
+/// In a loop that stops at the block that decides, a short group wastes few reads.
 pub const GROUP: usize = 8;
 
-/// Where a block of the summary is made of the groups, most often of one or two; and where two lists are compared, most
-/// often to their end.
+/// Used where a block of the summary is computed from the groups, usually one or two of them, and where two lists
+/// are compared, usually to their end.
 pub const LONG_GROUP: usize = 32;
 
 // Fewer blocks than this are written one by one: a `memset` or a `memcpy` of them is not worth its call. The summary of

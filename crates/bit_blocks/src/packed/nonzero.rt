@@ -6,7 +6,7 @@ use crate::block::BitBlock;
 use crate::block::operators::{same, shift_right};
 use crate::packed::access::block_at;
 
-/// The first index, from `from` on, of a block that is not 0, or `None`. Reads no block past it.
+/// The first index at or above `from` of a nonzero block, or `None`. Reads no block past it.
 ///
 /// ```
 /// assert_eq!(first_nonzero_block(&[1u8, 0, 4], 1), Some(2));
@@ -40,7 +40,7 @@ pub fn block_or_zero<B: BitBlock>(blocks: &[B], k: usize) -> B
     }
 }
 
-/// Whether the block has a 1 at an index or above it. Constant time.
+/// Whether the block has a 1 at the index or above it. Constant time.
 #[inline]
 pub fn has_one_from<B: BitBlock>(block: B, index: usize) -> bool
     requires of_block { B.is_block block }

@@ -5,7 +5,7 @@ ghost use Rattle.bit_blocks.specs.Storage.{ones_in};
 use crate::block::BitBlock;
 use crate::packed::groups::{GROUP, group_from};
 
-/// Adds up the ones of each block, most of them a group at a time.
+/// The sum of the ones of all blocks, most of which are read a group at a time.
 #[inline]
 pub fn ones_of<B: BitBlock>(blocks: &[B]) -> usize
     requires each { All B.is_block blocks.now }

@@ -8,7 +8,8 @@ use crate::block::operation::{Difference, Intersection, Operation};
 use crate::packed::access::block_at;
 use std::marker::PhantomData;
 
-/// The other side of a merge or a comparison: so many blocks, and zeros past them. Generic code is built once for each.
+/// The other side of a merge or a comparison: some blocks, and zeros past them. Generic code is compiled once for
+/// each type of it.
 pub trait Others<B: BitBlock>: Copy {
     ghost count: { Self → ℕ };
 
@@ -23,7 +24,7 @@ pub trait Others<B: BitBlock>: Copy {
         ensures value { result ≡ count self }
         ensures past { (k j : ℕ) → result ≤ k → digit self k j ≡ false };
 
-    /// The block with this index, which is below their number. Constant time.
+    /// The block with this index, which must be below their number. Constant time.
     fn block(self, k: usize) -> B
         requires each { are_blocks self }
         requires within { k < count self }
@@ -49,7 +50,7 @@ impl<'a, B: BitBlock> Others<B> for &'a [B] {
     }
 }
 
-/// The blocks of one list except for the ones of another, as far as both go.
+/// The blocks of one list without the ones of another, as far as both extend.
 #[derive(Clone, Copy)]
 pub struct Except<'a, B> {
     /// The one list.
@@ -76,7 +77,7 @@ impl<'a, B: BitBlock> Others<B> for Except<'a, B> {
     }
 }
 
-/// The blocks that two sides have in common, bit by bit.
+/// The bits that two sides have in common, block by block.
 #[derive(Clone, Copy)]
 pub struct Both<F, S> {
     /// The one side.
@@ -103,7 +104,7 @@ impl<B: BitBlock, F: Others<B>, S: Others<B>> Others<B> for Both<F, S> {
     }
 }
 
-/// So many blocks that are 0.
+/// Some number of zero blocks.
 #[derive(Clone, Copy)]
 pub(crate) struct Zeros {
     pub(crate) count: usize,
@@ -127,7 +128,7 @@ impl<B: BitBlock> Others<B> for Zeros {
     }
 }
 
-/// What the blocks of a list become where they are merged with others, as far as these go.
+/// The blocks of a list merged with others, as far as these extend.
 #[derive(Clone, Copy)]
 pub(crate) struct Merged<'a, B, O, S> {
     pub(crate) blocks: &'a [B],

@@ -47,8 +47,8 @@ pub fn truncate_blocks<B: BitBlock>(blocks: &mut Vec<B>, count: usize)
     blocks.truncate(count);
 }
 
-/// Appends `bit` to a list of `old` values until there are `len`. There is capacity for the blocks. A list grows
-/// by this twice, in its blocks and in their summary: two calls cost as much as what they do.
+/// Appends `bit` to a list of `old` values until there are `len`; there must be capacity for the blocks. A list
+/// grows by two calls of this, one for its blocks and one for their summary.
 #[inline(always)]
 pub fn append_bits<B: BitBlock>(blocks: &mut Vec<B>, old: usize, len: usize, bit: bool)
     requires packed { IsPacked B.width B.number B.is_block blocks.old.items old }
@@ -71,8 +71,8 @@ pub fn append_bits<B: BitBlock>(blocks: &mut Vec<B>, old: usize, len: usize, bit
     }
 }
 
-/// A new list of `len` times `bit`, with capacity for no more blocks. Fails only where memory runs out, and never for
-/// no values.
+/// A new list of `len` values `bit`, with capacity for no more blocks. Fails only if memory runs out, and never if
+/// there are no values.
 #[inline]
 pub fn repeated_bit<B: BitBlock>(alloc: Global, len: usize, bit: bool) -> Result<Vec<B>, AllocError>
     ensures filled { IfOk result (λ blocks. (i : ℕ) → i < len → value_at B.width (map B.number blocks.items) i ≡ bit) }
@@ -122,7 +122,7 @@ fn fill_zeros<B: BitBlock>(blocks: &mut Vec<B>)
     fill_blocks(blocks, blocks.len(), B::zero());
 }
 
-/// Makes each of `len` values be `bit`.
+/// Sets each of `len` values to `bit`.
 pub fn fill_bits<B: BitBlock>(blocks: &mut Vec<B>, len: usize, bit: bool)
     requires packed { IsPacked B.width B.number B.is_block blocks.old.items len }
     ensures filled { (i : ℕ) → i < len → value_at B.width (map B.number blocks.new.items) i ≡ bit }

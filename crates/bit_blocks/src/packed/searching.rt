@@ -10,7 +10,7 @@ use crate::packed::access::{bit_index, block_at, block_index, put_block};
 use crate::packed::nonzero::block_or_zero;
 use crate::packed::zeros::{used_blocks, zeros_before};
 
-/// The first block, from the one at `from` on, that is not 0. Looks at a group of them at once.
+/// The first nonzero block at or after `from`. Reads a group of blocks at once.
 #[inline]
 pub fn first_used<B: BitBlock>(blocks: &[B], from: usize) -> Option<usize>
     requires { All B.is_block blocks.now }
@@ -27,7 +27,7 @@ pub fn first_used<B: BitBlock>(blocks: &[B], from: usize) -> Option<usize>
     Some(from + zeros)
 }
 
-/// The last block before the one at `end` that is not 0. Looks at a group of them at once.
+/// The last nonzero block before `end`. Reads a group of blocks at once.
 #[inline]
 pub fn last_used<B: BitBlock>(blocks: &[B], end: usize) -> Option<usize>
     requires { All B.is_block blocks.now }
@@ -59,7 +59,7 @@ pub fn first_in_block<B: BitBlock>(blocks: &[B], from: usize) -> Option<usize>
     Some(k * B::bits() + index)
 }
 
-/// The first 1 of a block that is not 0.
+/// The first 1 of a nonzero block.
 #[inline]
 pub fn first_of_block<B: BitBlock>(blocks: &[B], k: usize) -> usize
     requires each { All B.is_block blocks.now }
@@ -71,7 +71,7 @@ pub fn first_of_block<B: BitBlock>(blocks: &[B], k: usize) -> usize
     k * B::bits() + index
 }
 
-/// Takes the first 1 out of a block that is not 0. Returns its index, with what the block is then. Constant time.
+/// Removes the first 1 of a nonzero block. Returns its index, and the new block. Constant time.
 #[inline]
 pub fn take_first_of_block<B: BitBlock>(blocks: &mut Vec<B>, k: usize) -> (usize, B)
     requires in_bounds { k < vec_len blocks.old }
@@ -110,7 +110,7 @@ pub fn last_in_block<B: BitBlock>(blocks: &[B], end: usize) -> Option<usize>
     Some(k * B::bits() + index)
 }
 
-/// The last 1 of a block that is not 0.
+/// The last 1 of a nonzero block.
 #[inline]
 pub fn last_of_block<B: BitBlock>(blocks: &[B], k: usize) -> usize
     requires each { All B.is_block blocks.now }
@@ -168,7 +168,7 @@ fn zero_in_block<B: BitBlock>(blocks: &[B], from: usize) -> Option<usize>
     Some(k * B::bits() + index)
 }
 
-/// The first 0 from `from` on: past the `len` values there are no ones.
+/// The first 0 at or above `from`; past the `len` values there are no ones.
 pub fn first_zero<B: BitBlock>(blocks: &[B], len: usize, from: usize) -> usize
     requires packed { IsPacked B.width B.number B.is_block blocks.now len }
     requires within { from < len }

@@ -79,8 +79,8 @@ fn move_down<B: BitBlock>(blocks: &mut [B], distance: usize)
     }
 }
 
-/// Moves each bit of a list of `len` up by `distance`. Those that pass the end are lost, and zeros come in below. Each
-/// block is written once, but for the last, whose bits past the end are cleared.
+/// Moves each bit of a list of `len` up by `distance`. Those that pass the end are lost, and zeros enter at the
+/// start. Each block is written once, except the last, whose bits past the end are then cleared.
 ///
 /// ```
 /// // The bits at 1 and 8 of ten, over blocks of 8 bits.
@@ -98,8 +98,8 @@ pub fn shift_bits_up<B: BitBlock>(blocks: &mut Vec<B>, len: usize, distance: usi
     clear_tail(blocks, len);
 }
 
-/// Moves each bit of a list of `len` down by `distance`. Those below it are lost, and zeros come in at the end. Each
-/// block is written once.
+/// Moves each bit of a list of `len` down by `distance`. The first `distance` are lost, and zeros enter at the end.
+/// Each block is written once.
 ///
 /// ```
 /// // The bits at 1 and 8 of ten, over blocks of 8 bits.

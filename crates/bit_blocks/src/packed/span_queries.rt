@@ -31,7 +31,8 @@ fn ones_under<B: BitBlock>(blocks: &[B], k: usize, mask: B) -> usize
     block_and(block_at(blocks, k), mask).count_ones()
 }
 
-/// How many of the bits from `start` on and below `end`, of which there are some, are 1. Adds up the ones of each block.
+/// How many of the bits from `start` up to `end` are 1; there must be at least one such bit. Adds up the ones of
+/// each block.
 ///
 /// ```
 /// assert_eq!(ones_in_span(&[0b1001u8, 0b0110], 3, 10), 2);
@@ -89,8 +90,8 @@ fn ones_merge_to_zero<B: BitBlock, O: Operation>(blocks: &[B], first: usize, end
     true
 }
 
-/// Whether true and each of the bits from `start` on and below `end`, of which there are some, merge to false: by a
-/// difference where all are 1, by an intersection where none is. Stops at the block that decides.
+/// Whether true merges to false with each of the bits from `start` up to `end`, of which there must be at least
+/// one: by a difference if all are 1, by an intersection if none is. Stops at the block that decides.
 ///
 /// ```
 /// assert!(span_merges_to_false::<u8, Difference>(&[0b1000, 0b0011], 3, 4));

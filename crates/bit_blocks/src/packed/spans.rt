@@ -71,8 +71,8 @@ fn merge_in<B: BitBlock, O: Operation>(blocks: &mut [B], start: usize, end: usiz
     }
 }
 
-/// The bits from `start` on and below `end`, of which there are some, become their merges with true: 1 by a union, 0 by
-/// a difference. Each of their blocks is written once.
+/// The bits from `start` up to `end`, of which there must be at least one, become their merges with true: 1 by a
+/// union, 0 by a difference. Each of their blocks is written once.
 ///
 /// ```
 /// merge_span::<u8, Union>(&mut blocks, 3, 10);

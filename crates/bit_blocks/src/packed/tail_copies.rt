@@ -23,7 +23,7 @@ fn copy_past<B: BitBlock>(alloc: Global, blocks: &[B], count: usize) -> Result<V
     filled_with(copy, &blocks[count..])
 }
 
-/// A new vector of as many blocks, of the same values, but for those before `at`, which are false.
+/// A new vector of as many blocks with the same values, except that those before `at` are false.
 pub fn copy_bits_from<B: BitBlock>(
     alloc: Global,
     blocks: &[B],

@@ -8,7 +8,7 @@ use crate::packed::differences::{are_others, differing_group};
 use crate::packed::groups::GROUP;
 use crate::packed::others::Zeros;
 
-/// How many blocks are 0 before the first that is not.
+/// How many zero blocks there are before the first nonzero one.
 #[inline]
 pub fn zeros_before<B: BitBlock>(blocks: &[B]) -> usize
     requires each { All B.is_block blocks.now }
@@ -51,7 +51,7 @@ fn without_zero_groups<B: BitBlock>(blocks: &[B]) -> usize
     blocks.len() % GROUP
 }
 
-/// How many blocks there are up to the last that is not 0. Reads them from the last on.
+/// How many blocks there are up to the last nonzero one. Reads them from the back.
 pub fn used_blocks<B: BitBlock>(blocks: &[B]) -> usize
     requires { All B.is_block blocks.now }
     ensures within { result ≤ length blocks.now }

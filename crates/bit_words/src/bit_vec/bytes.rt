@@ -9,11 +9,11 @@ use bit_blocks::packed::bytes::{blocks_of_bytes, blocks_of_bytes_lsb, bytes_of, 
 use std::alloc::{AllocError, Global};
 
 impl BitVec<u32> {
-    /// The bits of each byte in turn, from the highest down, over blocks of 32 bits. One step a byte.
-    /// The capacity is that of its blocks.
+    /// The bits of each byte in turn, from the highest down, over blocks of 32 bits. One step for each byte. The
+    /// capacity is that of its blocks.
     ///
-    /// `Length` comes exactly where there are more values than `usize::MAX`, and before memory is asked
-    /// for; `Memory` only where that runs out, and never for no bytes.
+    /// Fails with `Length` exactly if there are more values than `usize::MAX`, before it allocates; with `Memory`
+    /// only if memory runs out, and never if there are no bytes.
     pub fn from_bytes(alloc: Global, bytes: &[u8]) -> Result<Self, BitsError>
         ensures values { IfOk result (λ vector. vector.values ≡ values_of_bytes bytes.now) }
         ensures capacity { IfOk result (λ vector. vector.capacity
@@ -38,11 +38,11 @@ impl BitVec<u32> {
 }
 
 impl<B: BitBlock> BitVec<B> {
-    /// The bits of each byte in turn, from the highest down. One step a byte. The capacity is that of its
+    /// The bits of each byte in turn, from the highest down. One step for each byte. The capacity is that of its
     /// blocks.
     ///
-    /// `Length` comes exactly where there are more values than `usize::MAX`, and before memory is asked
-    /// for; `Memory` only where that runs out, and never for no bytes.
+    /// Fails with `Length` exactly if there are more values than `usize::MAX`, before it allocates; with `Memory`
+    /// only if memory runs out, and never if there are no bytes.
     pub fn from_bytes_general(alloc: Global, bytes: &[u8]) -> Result<Self, BitsError>
         ensures values { IfOk result (λ vector. vector.values ≡ values_of_bytes bytes.now) }
         ensures capacity { IfOk result
@@ -63,9 +63,9 @@ impl<B: BitBlock> BitVec<B> {
         })
     }
 
-    /// The values as bytes, eight each, the first at the highest bit; the bits of the last byte past the list are 0. So
-    /// `from_bytes` of them gives the list again, and false values up to a whole byte. Reads each block once. Fails only
-    /// where memory runs out, and never for an empty list.
+    /// The values as bytes, eight each, the first at the highest bit; the bits of the last byte past the list are
+    /// 0. So `from_bytes` restores the list from them, followed by false values up to a whole byte. Reads each
+    /// block once. Fails only if memory runs out, and never for an empty list.
     ///
     /// ```
     /// // Of 10 values, those at 1 and 9 are true.
@@ -81,8 +81,8 @@ impl<B: BitBlock> BitVec<B> {
         bytes_of(alloc, &self.blocks, self.len)
     }
 
-    /// The bits of each byte in turn, from the lowest up: value `n` is bit `n % 8` from the lowest of byte `n / 8`, as in
-    /// Java's `BitSet.valueOf`, in Arrow and in NumPy's little order. A block takes its bytes in one step each. The
+    /// The bits of each byte in turn, from the lowest up: value `n` is bit `n % 8` of byte `n / 8`, counted from
+    /// the lowest, as in Java's `BitSet.valueOf`, in Arrow and in NumPy's little order. One step for each byte. The
     /// capacity is that of the blocks. Fails as [`BitVec::from_bytes_general`] does.
     pub fn from_bytes_lsb_general(alloc: Global, bytes: &[u8]) -> Result<Self, BitsError>
         ensures values { IfOk result (λ vector. blocks_of 8 vector.values ≡ bytes.now) }
@@ -105,9 +105,9 @@ impl<B: BitBlock> BitVec<B> {
         })
     }
 
-    /// The values as bytes, eight each, the first at the lowest bit; the bits of the last byte past the list are 0. So
-    /// `from_bytes_lsb` of them gives the list again, and false values up to a whole byte. Reads each block once. Fails
-    /// only where memory runs out, and never for an empty list.
+    /// The values as bytes, eight each, the first at the lowest bit; the bits of the last byte past the list are 0.
+    /// So `from_bytes_lsb` restores the list from them, followed by false values up to a whole byte. Reads each
+    /// block once. Fails only if memory runs out, and never for an empty list.
     ///
     /// ```
     /// // Of 10 values, those at 1 and 9 are true.

@@ -15,9 +15,9 @@ use bit_blocks::packed::resizing::truncate_blocks;
 use std::alloc::AllocError;
 
 impl<B: BitBlock> BitVec<B> {
-    /// Reserves capacity for `n` values more than there are; so many must fit a `usize`. Where the capacity was
-    /// missing it asks for twice the old at least, and may move the blocks. Fails only there; the list and the
-    /// capacity then stay, though part of the memory may be kept.
+    /// Reserves capacity for `n` more values than there are; the sum must fit a `usize`. If the capacity was less,
+    /// it requests at least twice the old one, and may move the blocks. Fails only then; the list and the capacity
+    /// are unchanged, though part of the memory may be kept.
     pub fn reserve(&mut self, n: usize) -> Result<(), AllocError>
         requires { length self.old.values + n ≤ usize.MAX }
         ensures values { self.new.values ≡ self.old.values }
@@ -27,9 +27,9 @@ impl<B: BitBlock> BitVec<B> {
         reserve_shared(&mut self.blocks, &mut self.summary, count, false)
     }
 
-    /// Reserves capacity for `n` values more than there are; so many must fit a `usize`. Where the capacity was
-    /// missing the capacity becomes that of the blocks that they take; this may move the blocks. Fails only
-    /// there; the list and the capacity then stay, though part of the memory may be kept.
+    /// Reserves capacity for `n` more values than there are; the sum must fit a `usize`. If the capacity was less,
+    /// it becomes that of the blocks for that length, which may move the blocks. Fails only then; the list and the
+    /// capacity are unchanged, though part of the memory may be kept.
     pub fn reserve_exact(&mut self, n: usize) -> Result<(), AllocError>
         requires { length self.old.values + n ≤ usize.MAX }
         ensures values { self.new.values ≡ self.old.values }
@@ -42,9 +42,9 @@ impl<B: BitBlock> BitVec<B> {
         reserve_shared_exact(&mut self.blocks, &mut self.summary, count)
     }
 
-    /// Gives back the capacity that the blocks of the list do not take; may move them. Fails just where the
-    /// capacity is still greater than that of these blocks, since there was no memory to move to; the list is as
-    /// it was.
+    /// Gives back the capacity that the blocks of the list do not need; may move them. Fails exactly if the
+    /// capacity is still greater than that of these blocks, since there was no memory to move to; the list is
+    /// unchanged.
     pub fn shrink_to_fit(&mut self) -> Result<(), AllocError>
         ensures values { self.new.values ≡ self.old.values }
         ensures ok { OnOk result (self.new.capacity ≡ capacity_of B.width
@@ -62,9 +62,9 @@ impl<B: BitBlock> BitVec<B> {
         Ok(())
     }
 
-    /// Makes the list as long as its blocks up to the last that is not 0: the true values stay, and so
-    /// the list can become longer by false values. Nothing where it would be longer than `usize::MAX`.
-    /// Looks for that block by the summary, among as many blocks as a block has bits. Takes no memory.
+    /// Sets the length to the end of the last nonempty block: the true values stay, and false values may be added.
+    /// Does nothing if the list would be longer than `usize::MAX`. Finds that block by the summary, and then among
+    /// as many blocks as a block has bits. Allocates nothing.
     pub fn cut_zero_blocks(&mut self)
         ensures true_values { (i : ℕ) → (slice_get self.new.values i ≡ Some true)
             ↔ (slice_get self.old.values i ≡ Some true) }

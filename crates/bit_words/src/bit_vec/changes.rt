@@ -10,10 +10,10 @@ use bit_blocks::block::BitBlock;
 use bit_blocks::block::merge::Merge;
 
 impl<B: BitBlock> BitVec<B> {
-    /// Each value becomes its merge with that of `other`, as [`merge_blocks`](Self::merge_blocks) has it, and whether a
-    /// value changed is returned. The other must not be longer. Takes no memory. Blocks are written from the first group
-    /// on of which one changes: that group is read twice. A long list goes by chunks, the blocks that one block of the
-    /// summary is about, and passes over those of which no block may change by the summaries of both.
+    /// Each value becomes its merge with that of `other`, as in [`merge_blocks`](Self::merge_blocks). Returns
+    /// whether a value changed. `other` must not be longer. Allocates nothing. Blocks are written from the first
+    /// group in which one changes: that group is read twice. A long list is merged by chunks, each the blocks that
+    /// one block of the summary covers; by both summaries it skips chunks in which no block can change.
     ///
     /// ```
     /// // Some value of `other` is true that is not in `bits`.
@@ -36,10 +36,10 @@ impl<B: BitBlock> BitVec<B> {
         )
     }
 
-    /// What is true in `other` and not in `except` becomes true, and whether a value changed is returned. The other must
-    /// not be longer; `except` is false past its end, and may be. Takes no memory. Blocks are written from the first group
-    /// on of which one changes: that group is read twice. A long list goes by chunks, as in
-    /// [`merge_changes`](Self::merge_changes).
+    /// Each value that is true in `other` and not in `except` becomes true. Returns whether a value changed.
+    /// `other` must not be longer than the list; `except` may be, and counts as false past its end. Allocates
+    /// nothing. Blocks are written from the first group in which one changes: that group is read twice. A long list
+    /// is merged by chunks, as in [`merge_changes`](Self::merge_changes).
     ///
     /// ```
     /// // live |= live_after & !assigned
@@ -63,10 +63,10 @@ impl<B: BitBlock> BitVec<B> {
         )
     }
 
-    /// What is true both in `other` and in `also` becomes true, and whether a value changed is returned. `other` must not be
-    /// longer than the list; `also` may be, and is false past its end. Takes no memory. Blocks are written from the first
-    /// group on of which one changes: that group is read twice. A long list goes by chunks, as in
-    /// [`merge_changes`](Self::merge_changes).
+    /// Each value that is true both in `other` and in `also` becomes true. Returns whether a value changed. `other`
+    /// must not be longer than the list; `also` may be, and counts as false past its end. Allocates nothing. Blocks
+    /// are written from the first group in which one changes: that group is read twice. A long list is merged by
+    /// chunks, as in [`merge_changes`](Self::merge_changes).
     ///
     /// ```
     /// // found |= wanted & at_hand
@@ -97,11 +97,12 @@ impl<B: BitBlock> BitVec<B> {
         )
     }
 
-    /// Each value becomes whether it is true in `other` and not in `except`, and whether a value changed is returned. `other`
-    /// must not be longer than the list, whose values past its end become false; `except` may be, and is false past its end.
-    /// Takes no memory. Blocks are written from the first group on of which one changes: that group is read twice, and the
-    /// summary is then made anew. A long list of which `other` has few blocks that are not 0 goes by chunks, twice: what is
-    /// not to be goes, and then the rest comes.
+    /// Each value becomes true if it is true in `other` and not in `except`, and otherwise false. Returns whether a
+    /// value changed. `other` must not be longer than the list, whose values past its end become false; `except`
+    /// may be, and counts as false past its end. Allocates nothing. Blocks are written from the first group in
+    /// which one changes: that group is read twice, and the summary is then made anew. If the list is long and few
+    /// blocks of `other` are nonzero, it is merged by chunks, in two passes: the first removes what is not in the
+    /// difference, and the second inserts the rest of it.
     ///
     /// ```
     /// // left = asked & !given

@@ -10,7 +10,8 @@ use bit_blocks::block::merge::Merge;
 use bit_blocks::packed::access::block_count;
 
 impl<B: BitBlock> BitVec<B> {
-    /// How many chunks the list has: as many blocks each as a block has bits, and the last what is left. Constant time.
+    /// How many chunks the list has: each is as many blocks as a block has bits, and the last is what remains.
+    /// Constant time.
     ///
     /// ```
     /// // Of 72 values, over blocks of 8 bits.
@@ -25,10 +26,10 @@ impl<B: BitBlock> BitVec<B> {
         block_count::<B>(self.blocks.len())
     }
 
-    /// Each value of a chunk becomes its merge with that of `other`, which is false past its end. The others stay. The
-    /// chunk must have a value, and `other` must not be longer where the merge makes a false value true. Reads and
-    /// writes each block of the chunk once, and takes no memory. Many lists are merged into one by it while the blocks
-    /// of a chunk are at hand: with all of them before the next chunk.
+    /// Each value of a chunk becomes its merge with that of `other`, which counts as false past its end. The values
+    /// of other chunks stay. The chunk must have a value, and `other` must not be longer if the merge makes a false
+    /// value true. Reads and writes each block of the chunk once, and allocates nothing. To merge many lists into
+    /// one while the blocks of a chunk are in the cache, merge all of them before the next chunk.
     ///
     /// ```
     /// // Of 72 values, over blocks of 8 bits, those at 5 and 70 are true, and in `other` those at 6 and 71.

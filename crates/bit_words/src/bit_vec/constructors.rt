@@ -43,7 +43,7 @@ impl<T: Drop> From<AllocFailed<T>> for BitsError {
 }
 
 impl BitVec<u32> {
-    /// The empty list, over blocks of 32 bits. Takes no memory.
+    /// The empty list, over blocks of 32 bits. Allocates nothing.
     pub fn new(alloc: Global) -> Self
         ensures values { result.values ≡ [] }
         ensures capacity { result.capacity ≡ 0 }
@@ -51,8 +51,8 @@ impl BitVec<u32> {
         BitVec::new_general(alloc)
     }
 
-    /// `n` times `bit`, over blocks of 32 bits. Writes each block once. The capacity is that of its blocks.
-    /// Fails only where memory runs out, and never for `n` 0.
+    /// A list of `n` values `bit`, over blocks of 32 bits. Writes each block once. The capacity is that of its
+    /// blocks. Fails only if memory runs out, and never if `n` is 0.
     pub fn from_elem(alloc: Global, n: usize, bit: bool) -> Result<Self, AllocError>
         ensures values { IfOk result (λ vector. vector.values ≡ replicate n bit) }
         ensures holds_values { IfOk result (λ vector. n ≤ vector.capacity) }
@@ -64,7 +64,7 @@ impl BitVec<u32> {
 }
 
 impl<B: BitBlock> BitVec<B> {
-    /// The empty list. Takes no memory.
+    /// The empty list. Allocates nothing.
     pub fn new_general(alloc: Global) -> Self
         ensures values { result.values ≡ [] }
         ensures capacity { result.capacity ≡ 0 }
@@ -77,8 +77,8 @@ impl<B: BitBlock> BitVec<B> {
         }
     }
 
-    /// `n` times `bit`. Writes each block once. The capacity is that of its blocks. Fails only where memory
-    /// runs out, and never for `n` 0.
+    /// A list of `n` values `bit`. Writes each block once. The capacity is that of its blocks. Fails only if memory
+    /// runs out, and never if `n` is 0.
     pub fn from_elem_general(alloc: Global, n: usize, bit: bool) -> Result<Self, AllocError>
         ensures values { IfOk result (λ vector. vector.values ≡ replicate n bit) }
         ensures holds_values { IfOk result (λ vector. n ≤ vector.capacity) }
@@ -95,8 +95,8 @@ impl<B: BitBlock> BitVec<B> {
         })
     }
 
-    /// A bit vector of the same list. Copies each block once. Its capacity is that of its blocks. Fails only
-    /// where memory runs out, and never for an empty list.
+    /// A bit vector of the same list. Copies each block once. Its capacity is that of its blocks. Fails only if
+    /// memory runs out, and never for an empty list.
     pub fn clone(&self, alloc: Global) -> Result<Self, AllocError>
         ensures values { IfOk result (λ vector. vector.values ≡ self.now.values) }
         ensures capacity { IfOk result
@@ -113,9 +113,9 @@ impl<B: BitBlock> BitVec<B> {
         })
     }
 
-    /// A bit vector of the same length and the same values from `at` on, which is below the length; those
-    /// before it are false. Writes each block once, those before that of `at` as zeros. Its capacity is that
-    /// of its blocks. Fails only where memory runs out.
+    /// A bit vector of the same length, with the same values from `at` on and false values before it; `at` must be
+    /// below the length. Writes each block once, those before that of `at` as zeros. Its capacity is that of its
+    /// blocks. Fails only if memory runs out.
     pub fn clone_tail(&self, alloc: Global, at: usize) -> Result<Self, AllocError>
         requires { at < length self.now.values }
         ensures values { IfOk result (λ vector. vector.values ≡ replicate at false ++ drop at self.now.values) }

@@ -4,9 +4,9 @@ use bit_blocks::block::BitBlock;
 use bit_blocks::packed::access::bit_index;
 use std::fmt;
 
-/// `BitVec { storage: ".. ..", nbits: N }`: a digit for each value, the first of them first, with a
-/// space between the values of one block and the next, and how many values there are. Takes no memory
-/// of its own, and fails only where the formatter fails.
+/// `BitVec { storage: ".. ..", nbits: N }`: a digit for each value, in order, with a space between the values of
+/// one block and those of the next, and then the number of values. Allocates nothing itself, and fails only if the
+/// formatter fails.
 impl<B: BitBlock> fmt::Debug for BitVec<B> {
     fn fmt<W: fmt::Write>(&self, f: &mut fmt::Formatter<W>) -> fmt::Result {
         f.write_str("BitVec { storage: \"")?;

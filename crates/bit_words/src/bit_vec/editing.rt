@@ -17,7 +17,7 @@ use bit_blocks::packed::resizing::{append_bits, truncate_bits};
 use std::alloc::AllocError;
 
 impl<B: BitBlock> BitVec<B> {
-    /// Makes the value at `i` be `bit`, where `i` is below [`len`](Self::len). Constant time.
+    /// Sets the value at `i` to `bit`; `i` must be below [`len`](Self::len). Constant time.
     #[inline]
     pub fn set(&mut self, i: usize, bit: bool)
         requires { i < length self.old.values }
@@ -27,7 +27,7 @@ impl<B: BitBlock> BitVec<B> {
         let _was = self.replace(i, bit);
     }
 
-    /// Makes the value at `i` be `bit`, where `i` is below [`len`](Self::len), and returns what it was. Constant
+    /// Sets the value at `i` to `bit`, and returns what it was; `i` must be below [`len`](Self::len). Constant
     /// time: one read and one write of one block and of one of the summary, whatever they hold.
     #[inline]
     pub fn replace(&mut self, i: usize, bit: bool) -> bool
@@ -49,8 +49,8 @@ impl<B: BitBlock> BitVec<B> {
         was
     }
 
-    /// Makes every value be `bit`. Writes each block once; where `bit` is false, of many blocks it may pass over those that
-    /// are zero.
+    /// Sets every value to `bit`. Writes each block once; if `bit` is false and there are many blocks, it may skip
+    /// those that are zero.
     pub fn fill(&mut self, bit: bool)
         ensures values { self.new.values ≡ replicate (length self.old.values) bit }
         ensures capacity { self.new.capacity ≡ self.old.capacity }
@@ -59,7 +59,8 @@ impl<B: BitBlock> BitVec<B> {
         fill_both(&mut self.blocks, &mut self.summary, self.len, bit);
     }
 
-    /// Keeps the first `n` values, and so all where there are no more. Writes one block at most, and one of the summary.
+    /// Keeps the first `n` values, or all if there are no more. Writes at most one block, and one of the summary.
+    /// Unproved, from inspection: constant time once the compiler has removed std's loop over the dropped blocks.
     pub fn truncate(&mut self, n: usize)
         ensures values { self.new.values ≡ take n self.old.values }
         ensures capacity { self.new.capacity ≡ self.old.capacity }
@@ -73,7 +74,7 @@ impl<B: BitBlock> BitVec<B> {
         self.len = n;
     }
 
-    /// Makes the list empty. Constant time.
+    /// Makes the list empty. Constant time, as [`truncate`](Self::truncate).
     #[inline]
     pub fn remove_all(&mut self)
         ensures values { self.new.values ≡ [] }
@@ -85,9 +86,8 @@ impl<B: BitBlock> BitVec<B> {
     }
 
     /// Appends `n` values `bit`; the new length must fit a `usize`. Writes each new block once, and the old last
-    /// one where it takes ones. Within the capacity it takes no memory; where the capacity was missing it moves
-    /// the old blocks. Fails only there; the list and the capacity then stay, though part of the memory may be
-    /// kept.
+    /// one if ones are added to it. Within the capacity it allocates nothing; past it, it moves the old blocks.
+    /// Fails only then; the list and the capacity are unchanged, though part of the memory may be kept.
     pub fn grow(&mut self, n: usize, bit: bool) -> Result<(), AllocError>
         requires { length self.old.values + n ≤ usize.MAX }
         ensures ok { OnOk result (self.new.values ≡ self.old.values ++ replicate n bit) }
@@ -121,9 +121,9 @@ impl<B: BitBlock> BitVec<B> {
         Ok(())
     }
 
-    /// Takes over the list of `other`, in one pass over its blocks; where both lists have as many, and many, it may pass
-    /// over those that are zero in both. Within the capacity it takes no memory; where the capacity was missing it takes
-    /// new blocks, and the capacity becomes that of the blocks of `other`. Fails only there, and then nothing changed.
+    /// Becomes equal to `other`, in one pass over its blocks; if both lists have equally many blocks, and many, it
+    /// may skip those that are zero in both. Within the capacity it allocates nothing; past it, it allocates new
+    /// blocks, and the capacity becomes that of the blocks of `other`. Fails only then, and changes nothing.
     pub fn clone_from(&mut self, other: &Self) -> Result<(), AllocError>
         ensures ok { OnOk result (self.new.values ≡ other.now.values) }
         ensures grows { Grows (length other.now.values) result self.old self.new }

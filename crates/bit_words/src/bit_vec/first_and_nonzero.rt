@@ -7,10 +7,10 @@ use crate::bit_vec::{BitVec, Nonzero};
 use bit_blocks::block::BitBlock;
 use std::marker::Model;
 
-/// A walk over the first block of a bit vector, zero or not, and then its blocks that are not zero, each with its index,
+/// An iterator over the first block of a bit vector, zero or not, and then its nonzero blocks, each with its index,
 /// in ascending order.
 ///
-/// Contracts see what they see of [`Nonzero`], the walk past the first block.
+/// Contracts see what they see of [`Nonzero`], the iterator past the first block.
 #[derive(Drop)]
 pub struct FirstAndNonzero<'a, B: BitBlock> {
     past: Nonzero<'a, B>,
@@ -30,8 +30,8 @@ impl<'a, B: BitBlock> Model for FirstAndNonzero<'a, B> {
 }
 
 impl<B: BitBlock> BitVec<B> {
-    /// A walk over the first block, zero or not, and then the blocks that are not zero, each with its index.
-    /// Constant time, and takes no memory.
+    /// An iterator over the first block, zero or not, and then the nonzero blocks, each with its index. Constant
+    /// time, and allocates nothing.
     ///
     /// ```
     /// // Of 100 values, over blocks of 32 bits, those at 70 and 71 are true.
@@ -62,7 +62,7 @@ impl<'a, B: BitBlock> FirstAndNonzero<'a, B> {
         }
     }
 
-    /// A walk from the same place, whose counts go on from this one's. Constant time.
+    /// An iterator at the same place, whose counts continue from this one's. Constant time.
     #[inline]
     pub fn clone(&self) -> Self
         ensures { result ≡ self.now }
@@ -83,7 +83,7 @@ impl<'a, B: BitBlock> Iterator for FirstAndNonzero<'a, B> {
 
     ghost remaining = { item_count (λ walk. walk.left) };
 
-    /// The first block, or the next block that is not zero, with its index.
+    /// The first block, or the next nonzero block, with its index.
     #[inline]
     fn next(&mut self) -> Option<(usize, B)> {
         if self.at_first {

@@ -12,8 +12,8 @@ use bit_blocks::packed::access::{block_at, put_block};
 use bit_blocks::packed::nonzero::block_or_zero;
 
 impl<B: BitBlock> BitVec<B> {
-    /// Which values of block `k` are not true, as a block: a 1 at each index that has none and is below `end`. Past the
-    /// list no value is true. Constant time.
+    /// Which values of block `k` are false, as a block: a 1 at each index below `end` whose value is not true. Past
+    /// the list no value is true. Constant time.
     ///
     /// ```
     /// // Of ten values over blocks of 8 bits, those at 1 and 8 are true.
@@ -35,8 +35,8 @@ impl<B: BitBlock> BitVec<B> {
         with_zeros_from(zeros, below)
     }
 
-    /// Makes the values of block `k` false at which `kept` has a 0. Constant time: one write of one block, and of one of
-    /// the summary.
+    /// Sets the values of block `k` to false where `kept` has a 0. Constant time: one write of one block, and of
+    /// one of the summary.
     ///
     /// ```
     /// // Of ten values over blocks of 8 bits, those at 1, 2 and 8 are true.

@@ -11,9 +11,9 @@ use bit_blocks::packed::span_queries::span_merges_to_false;
 use std::ops::Range;
 
 impl<B: BitBlock> BitVec<B> {
-    /// Makes each value in the range be `bit`; nothing where the range is empty. Writes each block of the range once,
-    /// those between the first and the last as a fill; where `bit` is false, of many blocks it may pass over those that
-    /// are zero.
+    /// Sets each value in the range to `bit`; does nothing if the range is empty. Writes each block of the range
+    /// once, those between the first and the last as a fill; if `bit` is false and there are many blocks, it may
+    /// skip those that are zero.
     ///
     /// ```
     /// // Of ten values all are false.
@@ -36,7 +36,7 @@ impl<B: BitBlock> BitVec<B> {
         }
     }
 
-    /// Turns each value in the range; none where the range is empty. Writes each block of the range once.
+    /// Negates each value in the range; none if the range is empty. Writes each block of the range once.
     pub fn negate_range(&mut self, range: Range<usize>)
         requires { range.start < range.end → range.end ≤ length self.old.values }
         ensures values { self.new.values ≡ changed_in_range not range.start range.end self.old.values }
@@ -48,8 +48,8 @@ impl<B: BitBlock> BitVec<B> {
         }
     }
 
-    /// How many values in the range are true; indexes past the list count for none. Reads each block of the range at most
-    /// once, and no other; of a long range it passes over zero blocks by the summary.
+    /// How many values in the range are true; past the list there are none. Reads each block of the range at most
+    /// once, and no other; in a long range it skips zero blocks by the summary.
     pub fn count_ones_in_range(&self, range: Range<usize>) -> usize
         ensures { result ≡ count_by (λ value. value) (values_in_range range.start range.end self.now.values) }
     {
@@ -60,8 +60,8 @@ impl<B: BitBlock> BitVec<B> {
         ones_in_range(&self.blocks, &self.summary, range.start, end)
     }
 
-    /// Whether each index in the range has a true value, and so whether the range is empty or the list is long enough
-    /// and true in it. Reads blocks of the range up to the first that has a false value there.
+    /// Whether each index in the range has a true value: true if the range is empty, and false if it extends past
+    /// the list. Reads blocks of the range up to the first that has a false value in it.
     pub fn all_in_range(&self, range: Range<usize>) -> bool
         ensures { IsTrue result
             ↔ ((i : ℕ) → range.start ≤ i → i < range.end → slice_get self.now.values i ≡ Some true) }
@@ -75,8 +75,8 @@ impl<B: BitBlock> BitVec<B> {
         span_merges_to_false::<B, Difference>(&self.blocks, range.start, range.end)
     }
 
-    /// Whether an index in the range has a true value. Reads blocks of the range up to the first that has one there; of a long
-    /// range it passes over zero blocks by the summary.
+    /// Whether any index in the range has a true value. Reads blocks of the range up to the first that has one in
+    /// it; in a long range it skips zero blocks by the summary.
     pub fn any_in_range(&self, range: Range<usize>) -> bool
         ensures { (result ≡ false)
             ↔ ((i : ℕ) → range.start ≤ i → i < range.end → slice_get self.now.values i ≢ Some true) }

@@ -11,10 +11,11 @@ use bit_blocks::packed::nonzero::first_nonzero_block;
 use bit_blocks::packed::searching::{first_one, first_zero};
 
 impl<B: BitBlock> BitVec<B> {
-    /// The first index at which the list is true, or `None`. Of many blocks it reads the summary from where
-    /// [`take_first_one`](Self::take_first_one) left off, or from where a value became true since, and one block of the
-    /// list: from the start of the summary after a merge, a shift, `fill`, `negate_range` or a range that became true. Of
-    /// few, which store no summary, it reads each block up to that of the index.
+    /// The first index at which the list is true, or `None`. If there are many blocks, it reads the summary from
+    /// where [`take_first_one`](Self::take_first_one) left off, or from where a value has become true since, and
+    /// one block of the list; after a merge, a shift, `fill`, `negate_range` or a range that became true, it reads
+    /// the summary from the start. If there are few blocks, there is no summary, and it reads each block up to that
+    /// of the index.
     ///
     /// ```
     /// // Of 100 values, those at 3 and 70 are true.
@@ -30,8 +31,9 @@ impl<B: BitBlock> BitVec<B> {
         Some(first_of_chunk(&self.blocks, &self.summary, chunk))
     }
 
-    /// The first index from `n` on at which the list is true, or `None`. Reads the block of `n`, the summary from there up
-    /// to the next block that is not zero, and that block; of few blocks, which store no summary, each block up to there.
+    /// The first index at or above `n` at which the list is true, or `None`. Reads the block of `n`, the summary
+    /// from there up to the next nonzero block, and that block; if there are few blocks, there is no summary, and
+    /// it reads each block up to there.
     ///
     /// ```
     /// // Of 100 values, those at 3 and 70 are true.
@@ -45,8 +47,9 @@ impl<B: BitBlock> BitVec<B> {
         first_one_by_summary(&self.blocks, &self.summary, n)
     }
 
-    /// The last index below `n` at which the list is true, or `None`. Reads the block of `n`, the summary from there down
-    /// to the next block that is not zero, and that block; of few blocks, which store no summary, each block down to there.
+    /// The last index below `n` at which the list is true, or `None`. Reads the block of `n`, the summary from
+    /// there down to the next nonzero block, and that block; if there are few blocks, there is no summary, and it
+    /// reads each block down to there.
     ///
     /// ```
     /// // Of 100 values, those at 3 and 70 are true.
@@ -60,8 +63,8 @@ impl<B: BitBlock> BitVec<B> {
         last_one_by_summary(&self.blocks, &self.summary, n)
     }
 
-    /// The first index from `n` on at which the list is not true, at or past its length at most. Reads each block from
-    /// that of `n` up to that of the index.
+    /// The first index at or above `n` at which the list is not true; every index past the list counts. Reads each
+    /// block from that of `n` up to that of the result.
     ///
     /// ```
     /// // Of 100 values, all but those at 3 and 70 are true.

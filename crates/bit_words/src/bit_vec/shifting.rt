@@ -13,8 +13,8 @@ use std::alloc::{AllocError, Global};
 use std::ops::Range;
 
 impl<B: BitBlock> BitVec<B> {
-    /// Moves each value up by `distance`. Those that pass the end are lost, and the first `distance` become false. One pass
-    /// over the blocks, each of which is made of two; it takes no memory.
+    /// Moves each value up by `distance`. Those that pass the end are lost, and the first `distance` become false.
+    /// One pass over the blocks, each computed from two; allocates nothing.
     ///
     /// ```
     /// // Of ten values over blocks of 8 bits, those at 1 and 8 are true.
@@ -31,8 +31,8 @@ impl<B: BitBlock> BitVec<B> {
         remake_summary(&mut self.summary, &self.blocks);
     }
 
-    /// Moves each value down by `distance`. Those below it are lost, and the last `distance` become false. One pass over the
-    /// blocks, each of which is made of two; it takes no memory.
+    /// Moves each value down by `distance`. The first `distance` are lost, and the last `distance` become false.
+    /// One pass over the blocks, each computed from two; allocates nothing.
     ///
     /// ```
     /// // Of ten values over blocks of 8 bits, those at 1 and 8 are true.
@@ -49,9 +49,9 @@ impl<B: BitBlock> BitVec<B> {
         remake_summary(&mut self.summary, &self.blocks);
     }
 
-    /// A bit vector of the values in the range, each at its index; those before it are false, and the list ends with the
-    /// range. This has an index, and none past the list. Writes each block once, those before the range as zeros. The
-    /// capacity is that of the blocks. Fails only where memory runs out.
+    /// A bit vector of the values in the range, each at its index; those before the range are false, and the list
+    /// ends with the range. The range must not be empty, and must lie within the list. Writes each block once,
+    /// those before the range as zeros. The capacity is that of the blocks. Fails only if memory runs out.
     ///
     /// ```
     /// // Of ten values over blocks of 8 bits, those at 1, 3 and 8 are true.

@@ -11,11 +11,11 @@ use bit_blocks::packed::nonzero::first_nonzero_block;
 use bit_blocks::packed::searching::first_one;
 
 impl<B: BitBlock> BitVec<B> {
-    /// Makes the first true value false, and returns its index; `None` where no value is true. Of many blocks it reads the
-    /// summary from where the last call left off, or from where a value became true since, and one block of the list: the
-    /// calls that take out all values pass over the summary once. After a merge, a shift, `fill`, `negate_range` or a range
-    /// that became true it reads the summary from its start. Of few blocks, which store no summary, it reads each up to that
-    /// of the value.
+    /// Sets the first true value to false, and returns its index; `None` if no value is true. If there are many
+    /// blocks, it reads the summary from where the last call left off, or from where a value has become true since,
+    /// and one block of the list: taking all values in this way goes through the summary once. After a merge, a
+    /// shift, `fill`, `negate_range` or a range that became true it reads the summary from its start. If there are
+    /// few blocks, there is no summary, and it reads each block up to that of the value.
     ///
     /// ```
     /// // Of 100 values, those at 3 and 70 are true.

@@ -12,9 +12,9 @@ use bit_blocks::packed::access::block_index;
 use std::alloc::{AllocError, Global};
 
 impl<B: BitBlock> BitVec<B> {
-    /// The list whose blocks these are, with a value for each of their bits, and how many of the values are true. Takes the
-    /// vector as it is: one pass over it counts, and makes the summary. Fails only where memory for that runs out, and never
-    /// for no blocks.
+    /// The list with these blocks, with a value for each of their bits, and how many of the values are true. Takes
+    /// ownership of the vector: one pass over it counts, and makes the summary. Fails only if memory for the
+    /// summary runs out, and never if there are no blocks.
     ///
     /// ```
     /// // Over blocks of 8 bits: the values at 0, 2 and 15 are true.
@@ -45,8 +45,8 @@ impl<B: BitBlock> BitVec<B> {
         ))
     }
 
-    /// Makes the blocks from block `from` on these, each of which must lie within the list. Copies them at once, and makes
-    /// their bits in the summary anew, where one is stored, as many at once as a block has.
+    /// Replaces the blocks from block `from` on by these, each of which must lie within the list. Copies them all
+    /// at once, and if a summary is stored, computes their bits in it anew, a block of the summary at a time.
     pub fn put_blocks(&mut self, from: usize, blocks: &[B])
         requires within { (from + length blocks.now) * B.width ≤ length self.old.values }
         requires each { All B.is_block blocks.now }

@@ -13,8 +13,8 @@ use bit_blocks::packed::ones::ones_of;
 use bit_blocks::packed::resizing::repeated_bit;
 use std::alloc::{AllocError, Global};
 
-// A summary of its own for the blocks, empty where they are few, and how many ones they have. Fails only where memory runs out,
-// and never for few.
+// A summary of its own for the blocks, empty where they are few, and how many ones they have. Fails only if memory
+// runs out, and never for few.
 pub(crate) fn summary_and_ones<B: BitBlock>(
     alloc: Global,
     blocks: &[B],

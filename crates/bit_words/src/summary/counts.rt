@@ -224,7 +224,7 @@ fn ones_of_rest<B: BitBlock, O: Operation>(blocks: &[B], others: &[B], both: usi
     }
 }
 
-/// How many ones the merge of two lists of blocks has, of which the shorter goes on with zeros. Reads each block once.
+/// How many ones the merge of two lists of blocks has, the shorter one extended by zeros. Reads each block once.
 ///
 /// ```
 /// assert_eq!(count_merged_blocks::<_, Union>(&[5u8, 1], &[6]), 4);

@@ -10,7 +10,7 @@ use bit_blocks::block::operation::{Difference, Intersection, Operation};
 use bit_blocks::packed::access::block_at;
 use bit_blocks::packed::others::{Both, Others};
 
-/// The other side of a merge, with what is known of its blocks without a look at them.
+/// The other side of a merge, with what is known about its blocks without reading them.
 pub(crate) trait Summarized<B: BitBlock>: Others<B> {
     // Whether the summaries are those of the lists that the blocks are made of.
     ghost are_summarized: { Self → Type 0 };
@@ -18,7 +18,7 @@ pub(crate) trait Summarized<B: BitBlock>: Others<B> {
     // Whether block k may have a 1.
     ghost may_use: { Self → ℕ → Bool };
 
-    /// Which of the blocks that block `q` of a summary is about may have a 1.
+    /// Which of the blocks that block `q` of a summary covers may have a 1.
     fn used_at(self, q: usize) -> B
         requires summaries { are_summarized self }
         requires fits { q * B.width < 2 ^ 64 }
@@ -27,7 +27,7 @@ pub(crate) trait Summarized<B: BitBlock>: Others<B> {
         ensures within { (k : ℕ) → may_use self k ≡ true → k < Self.count self }
         ensures zeros { (k j : ℕ) → may_use self k ≡ false → Self.digit self k j ≡ false };
 
-    /// Which of these may have none all the same.
+    /// Which of these may nevertheless have none.
     fn unsure_at(self, q: usize) -> B
         requires summaries { are_summarized self }
         requires fits { q * B.width < 2 ^ 64 }
@@ -37,7 +37,7 @@ pub(crate) trait Summarized<B: BitBlock>: Others<B> {
             → may_use self (q * B.width + p) ≡ false };
 }
 
-/// The blocks of a list, and the summary that is stored of them.
+/// The blocks of a list, and the summary that is stored for them.
 #[derive(Clone, Copy)]
 pub(crate) struct Listed<'a, B> {
     pub(crate) blocks: &'a [B],
@@ -79,7 +79,7 @@ impl<'a, B: BitBlock> Summarized<B> for Listed<'a, B> {
     }
 }
 
-/// The blocks that two lists have in common, and the summaries that are stored of these.
+/// The bits that two lists of blocks have in common, and the summaries that are stored for the lists.
 pub(crate) type Common<'a, B> = Both<Listed<'a, B>, Listed<'a, B>>;
 
 impl<B: BitBlock, F: Summarized<B>, S: Summarized<B>> Summarized<B> for Both<F, S> {
@@ -99,7 +99,8 @@ impl<B: BitBlock, F: Summarized<B>, S: Summarized<B>> Summarized<B> for Both<F, 
     }
 }
 
-/// The blocks of one list except for the ones of another that is no shorter, and the summaries that are stored of these.
+/// The blocks of one list without the ones of another that is no shorter, and the summaries that are stored for
+/// both.
 #[derive(Clone, Copy)]
 pub(crate) struct Apart<'a, B> {
     pub(crate) others: Listed<'a, B>,
@@ -149,8 +150,8 @@ impl<'a, B: BitBlock> Summarized<B> for Apart<'a, B> {
     }
 }
 
-/// The blocks of one list except for the ones of another of any length, and the summaries that are stored of these. It tests for
-/// the end of the other at each block, so no vector code is made of it.
+/// The blocks of one list without the ones of another of any length, and the summaries that are stored for both. It
+/// tests for the end of the other list at each block, so the compiler makes no vector code of it.
 #[derive(Clone, Copy)]
 pub(crate) struct Outside<'a, B> {
     pub(crate) others: Listed<'a, B>,
