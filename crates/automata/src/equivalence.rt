@@ -20,12 +20,13 @@ pub(crate) struct Pair {
     right: usize,
 }
 
-/// Whether two automata accept the same words: `None` where they do, else a word that just one of them accepts. A word
-/// with a symbol that an automaton does not have is not accepted by it, so the two need not have the same symbols.
-/// Follows each symbol once from each pair of states that some word reaches, in the order of the words' lengths. Takes
-/// a bit for each pair of states, of which each automaton has one more here, in a row of whole blocks for each state of
-/// the first, and writes all of them first. Takes four words for each pair that is reached, in a list that doubles.
-/// Fails only where memory runs out, which includes that these rows have more bits than a `usize` counts.
+/// Whether two automata accept the same words: `None` if they do, else a word that exactly one of them accepts. A
+/// word with a symbol that an automaton does not have is not accepted by it, so the two need not have the same
+/// symbols. Follows each symbol once from each pair of states that some word reaches, in the order of the words'
+/// lengths. Allocates a bit for each pair of states, with one extra state for each automaton, in a row of whole
+/// blocks for each state of the first, and writes all of them first. Allocates four words for each pair that is
+/// reached, in a list that doubles. Fails only if memory runs out, which includes that these rows would have more
+/// bits than a `usize` can count.
 ///
 /// ```
 /// assert!(equivalent(alloc, &dfa, &dfa)?.is_none());

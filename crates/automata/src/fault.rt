@@ -4,13 +4,13 @@ ghost use Rattle.std.specs.Prelude.{◌≡◌, alloc_error};
 use std::alloc::{AllocError, AllocFailed};
 use thiserror::Error;
 
-/// Why there is no deterministic automaton.
+/// Why a deterministic automaton could not be made.
 #[derive(Clone, Copy, Debug, PartialEq, Eq, Error)]
 pub enum DfaError {
     /// It has more states than the caller allows.
     #[error("too many states")]
     TooMany,
-    /// There was no memory for it.
+    /// Memory for it ran out.
     #[error("no memory")]
     Memory(AllocError),
 }

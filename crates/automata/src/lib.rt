@@ -1,5 +1,5 @@
-//! Finite automata by sets of states: which words one accepts, the deterministic one that accepts the same, and
-//! whether two deterministic ones accept the same.
+//! Finite automata by sets of states: which words one accepts, the deterministic automaton that accepts the same,
+//! and whether two deterministic ones accept the same.
 #![tactic(auto)]
 
 mod dfa;

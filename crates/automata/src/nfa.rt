@@ -39,8 +39,8 @@ impl<B: BitBlock> Model for Nfa<B> {
 }
 
 impl<B: BitBlock> Nfa<B> {
-    /// The automaton of these sets: `moves[symbol][state]` has the states to which the symbol leads from the state.
-    /// Looks at each set once.
+    /// The automaton with these sets: `moves[symbol][state]` has the states to which the symbol leads from the
+    /// state. Looks at each set once.
     ///
     /// ```
     /// // Symbol 0 leads from state 0, the start, to state 1, which accepts.
@@ -108,9 +108,9 @@ impl<B: BitBlock> Nfa<B> {
     }
 }
 
-/// Whether some run from a start to an accepting state spells the word. Makes two sets of states, as long as the longest
-/// of the automaton's, and takes no more memory: it fails only where memory for these runs out, and never for the empty
-/// word, which it answers without them. For each symbol of the word it makes at most one union for each state.
+/// Whether some run from a start to an accepting state spells the word. Allocates two sets of states, as long as
+/// the longest of the automaton's, and nothing else: it fails only if memory for these runs out, and never for the
+/// empty word, which does not need them. For each symbol of the word it makes at most one union for each state.
 ///
 /// ```
 /// // The one word is of one symbol.

@@ -12,10 +12,11 @@ use bit_set::laws::{sets_are_their_members, sets_ascend};
 use bit_set::{BitBlock, BitSet};
 use std::alloc::{AllocError, Global};
 
-/// The deterministic automaton that accepts just the words that `nfa` accepts, by the subset construction. Its states
-/// are the sets of states that words reach, each once. Fails with [`DfaError::TooMany`] only where there are more of
-/// these sets than `most_states`, at once where that is 0, else only where memory runs out; and succeeds only where
-/// there are not more. For each state and symbol it takes the successors of one set, and looks for that set in a map.
+/// The deterministic automaton that accepts exactly the words that `nfa` accepts, by the subset construction. Its
+/// states are the sets of states that words reach, each once. Fails with [`DfaError::TooMany`] only if there are
+/// more of these sets than `most_states`, at once if that is 0, and otherwise only if memory runs out; and succeeds
+/// only if there are not more. For each state and symbol it takes the successors of one set, and looks for that set
+/// in a map.
 ///
 /// ```
 /// let dfa = determinize(alloc, &nfa, 10)?;

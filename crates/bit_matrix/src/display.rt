@@ -6,8 +6,9 @@ ghost use Rattle.bit_matrix.specs.Compared.{rows_text};
 use crate::{BitBlock, BitMatrix, Iter};
 use std::fmt;
 
-/// A line for each row: its columns in decimal and ascending order, joined by a comma and a space, between braces. Takes
-/// no memory of its own, and fails only where the formatter fails. Goes over each row, though there are no columns.
+/// A line for each row: its columns in decimal and ascending order, joined by a comma and a space, between braces.
+/// Allocates nothing itself, and fails only if the formatter fails. Goes over each row, even if there are no
+/// columns.
 impl<B: BitBlock> fmt::Display for BitMatrix<B> {
     ghost output = { λ m. Some (rows_text m.rows) };
 
@@ -20,8 +21,8 @@ impl<B: BitBlock> fmt::Display for BitMatrix<B> {
     }
 }
 
-/// `BitMatrix { columns: 3, rows: [{0, 2}, {}] }`: the number of columns, and the text of each row. Takes no memory of its
-/// own, and fails only where the formatter fails. Goes over each row, though there are no columns.
+/// `BitMatrix { columns: 3, rows: [{0, 2}, {}] }`: the number of columns, and the text of each row. Allocates
+/// nothing itself, and fails only if the formatter fails. Goes over each row, even if there are no columns.
 impl<B: BitBlock> fmt::Debug for BitMatrix<B> {
     fn fmt<W: fmt::Write>(&self, f: &mut fmt::Formatter<W>) -> fmt::Result {
         f.write_str("BitMatrix { columns: ")?;

@@ -1,13 +1,13 @@
-// Why a matrix is not made.
+// Why a matrix could not be made.
 ghost use Rattle.std.specs.Prelude.{◌≡◌};
 
 use std::alloc::{AllocError, AllocFailed};
 use thiserror::Error;
 
-/// Why a matrix is not made.
+/// Why a matrix could not be made.
 #[derive(Clone, Copy, Debug, PartialEq, Eq, Error)]
 pub enum MatrixError {
-    /// The rows have more bits than a `usize` counts, each at whole blocks.
+    /// The rows, each in whole blocks, have more bits than a `usize` can count.
     #[error("too many bits")]
     Length,
     /// Memory for the blocks ran out.

@@ -1,12 +1,12 @@
-//! The hash of a matrix: that of its rows and the number of columns.
+//! The hash of a matrix, which depends on its rows and the number of columns.
 ghost use Rattle.std.{specs.{Prelude.{◌≡◌, ◌<◌, length, nat_eq}, Cmp.Lexicographic.{bytes_decides, pointwise, pointwise_decides}, List.{fold}}, proofs.Common.{ap}};
 ghost use Rattle.bit_matrix.specs.{Compared.{fed_of_key, fed_of_row, key_of}, Matrices.{row_of}};
 
 use crate::{BitBlock, BitMatrix};
 use std::hash::{Hash, Hasher};
 
-/// Feeds the number of columns, and of each row how many columns are in it, and then these in ascending order. Goes over
-/// each row, though there are no columns.
+/// Feeds the number of columns, and for each row the number of its columns, followed by these in ascending order.
+/// Goes over each row, even if there are no columns.
 impl<B: BitBlock> Hash for BitMatrix<B> {
     ghost hash_input = { λ m. fed_of_key (key_of m) };
 

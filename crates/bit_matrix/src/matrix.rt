@@ -15,10 +15,10 @@ mod ranges;
 mod rows;
 mod sets;
 
-/// A matrix of bits: rows by columns, each row a set of the columns that are in it. The blocks of all rows are in one
-/// piece of memory, each row at whole blocks.
+/// A matrix of bits: each row is a set of columns. The blocks of all rows are in one piece of memory, each row in
+/// whole blocks.
 ///
-/// Contracts see the list of the rows, of each the columns that are in it in ascending order, and the number of columns.
+/// Contracts see the list of rows, each as the ascending list of its columns, and the number of columns.
 ///
 /// ```
 /// let mut reaches = BitMatrix::new(alloc, 3, 3)?;
@@ -76,7 +76,7 @@ impl<B: BitBlock> BitMatrix<B> {
         get_bit(&self.blocks, bit_index_of::<B>(self.stride, row, column))
     }
 
-    /// Whether the column is in the row, or `None` where there is no such row or column. Constant time.
+    /// Whether the column is in the row, or `None` if there is no such row or column. Constant time.
     ///
     /// ```
     /// let matrix = BitMatrix::new(alloc, 2, 3)?;

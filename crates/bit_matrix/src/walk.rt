@@ -1,4 +1,4 @@
-//! The walk over the columns of a row.
+//! The iterator over the columns of a row.
 ghost use Rattle.std.specs.{Prelude.{◌≡◌, ℕ, ◌*◌, ◌^◌, ◌<◌, ◌&&◌, All, List, length, map, nat_le}, Iterator.item_count};
 ghost use Rattle.bit_blocks.specs.Storage.{value_at};
 ghost use Rattle.bit_set.specs.Sets.{IsAscending, has};
@@ -9,7 +9,7 @@ use bit_blocks::packed::block_at;
 use bit_words::bit_vec::{clear_below, take_lowest_one};
 use std::marker::Model;
 
-/// The columns of a row in ascending order, each once. Looks at each block of the row once.
+/// The columns of a row in ascending order, each once. Reads each block of the row once.
 #[derive(Drop)]
 pub struct Iter<'a, B: BitBlock> {
     // The blocks past the one in hand.
@@ -58,7 +58,7 @@ impl<'a, B: BitBlock> Iter<'a, B> {
         }
     }
 
-    /// Another walk over what is left. Constant time.
+    /// Another iterator over what is left. Constant time.
     #[inline]
     pub fn clone(&self) -> Self
         ensures { result ≡ self.now }
@@ -78,7 +78,7 @@ impl<'a, B: BitBlock> Iterator for Iter<'a, B> {
 
     ghost remaining = { item_count (λ (left : List ℕ). left) };
 
-    /// The least column that is left, and from the end on `None` for good. Constant time within a block.
+    /// The least column that is left, and `None` for good once there is none. Constant time within a block.
     #[inline]
     fn next(&mut self) -> Option<usize> {
         while self.block == B::zero() {

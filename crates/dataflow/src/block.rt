@@ -12,8 +12,8 @@ pub trait Block<B: BitBlock> {
     // How long the set is that is generated.
     ghost generated_length: { Self → ℕ };
 
-    /// The blocks from which values flow into this one: its successors where the analysis goes backward, its
-    /// predecessors where it goes forward. From a number that is no block nothing flows. Constant time.
+    /// The blocks from which values flow into this one: its successors in a backward analysis, its predecessors in
+    /// a forward one. Nothing flows from a number that is not a block. Constant time.
     fn sources(&self) -> &[usize]
         ensures { result.now ≡ (flow self.now).sources };
 
@@ -22,7 +22,7 @@ pub trait Block<B: BitBlock> {
         ensures elements { elements result.now.values ≡ (flow self.now).generated }
         ensures length { length result.now.values ≡ generated_length self.now };
 
-    /// The values that do not pass through the block. What it generates itself it does not kill. Constant time.
+    /// The values that do not pass through the block. It does not kill what it generates itself. Constant time.
     fn killed(&self) -> &BitSet<B>
         ensures { elements result.now.values ≡ (flow self.now).killed };
 }

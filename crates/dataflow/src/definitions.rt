@@ -11,7 +11,7 @@ use std::alloc::{AllocError, Global};
 /// A block of code, and the definitions that it makes and overwrites. Definitions are numbers.
 #[derive(Drop)]
 pub struct DefinitionBlock<B: BitBlock> {
-    /// The blocks that may run just before. No definition reaches the end of a number that is no block.
+    /// The blocks that may run just before. No definition comes from a number that is not a block.
     pub predecessors: Vec<usize>,
     /// The definitions in the block that reach its end.
     pub defined: BitSet<B>,
@@ -48,10 +48,9 @@ impl<B: BitBlock> Block<B> for DefinitionBlock<B> {
     }
 }
 
-/// For each block the set of the definitions that reach its end: a path leads there from the definition, with no
-/// block on the way that overwrites it. They are the least sets with
-/// `out[b] = defined[b] ∪ (⋃ out[p] over the predecessors p of b − overwritten[b])`.
-/// Fails only where memory runs out, and never of no blocks.
+/// For each block the set of the definitions that reach its end: those from which a path leads there with no block
+/// on the way that overwrites them. They are the least sets with `out[b] = defined[b] ∪ (⋃ out[p] over the
+/// predecessors p of b − overwritten[b])`. Fails only if memory runs out, and never if there are no blocks.
 ///
 /// ```
 /// // Block 0, which comes before block 1, makes 3.

@@ -13,12 +13,13 @@ use std::alloc::{AllocError, Global};
 /// A block of code, and the expressions that it computes and kills. Expressions are numbers.
 #[derive(Drop)]
 pub struct ExpressionBlock<B: BitBlock> {
-    /// The blocks that may run just before. Where there are none, or one of them is no block, no expression is
+    /// The blocks that may run just before. If there are none, or one of them is not a block, no expression is
     /// available where the block begins.
     pub predecessors: Vec<usize>,
-    /// The expressions that the block computes, and of which it assigns no operand after that.
+    /// The expressions that the block computes, and to no operand of which it assigns afterwards.
     pub computed: BitSet<B>,
-    /// The expressions of which the block assigns an operand. Those that it computes after that may be among them.
+    /// The expressions to an operand of which the block assigns. Those that it computes afterwards may be among
+    /// them.
     pub killed: BitSet<B>,
 }
 
@@ -53,11 +54,11 @@ impl<'a, B: BitBlock> Block<B> for MissingBlock<'a, B> {
     }
 }
 
-/// For each block the set of the expressions below `count` that are available at its end: on each path from an entry
-/// some block computes the expression, and none kills it after that. They are the greatest sets with
-/// `out[b] = computed[b] ∪ (⋂ out[p] over the predecessors p of b − killed[b])`. An entry is a block with no
-/// predecessor, or a number that is no block. Where no path leads from an entry, all that is not killed is available.
-/// Fails only where memory runs out, and never of no blocks and no expressions.
+/// For each block the set of the expressions below `count` that are available at its end: on each path from an
+/// entry some block computes the expression, and none kills it after that. They are the greatest sets with `out[b]
+/// = computed[b] ∪ (⋂ out[p] over the predecessors p of b − killed[b])`. An entry is a block with no predecessor,
+/// or a number that is not a block. Where no path leads from an entry, every expression that is not killed is
+/// available. Fails only if memory runs out, and never if there are no blocks and no expressions.
 ///
 /// ```
 /// // Block 0, which comes before block 1, computes 3.

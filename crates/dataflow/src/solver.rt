@@ -13,13 +13,13 @@ use bit_set::{BitBlock, BitSet};
 use std::alloc::{AllocError, Global};
 use std::mem;
 
-/// For each block the set of the values that reach it: what it generates, and what its sources have and it does
-/// not kill. Of all sets that meet these equations they are the least. Fails only where memory runs out, and never of
+/// For each block the set of the values that reach it: what it generates, and what its sources have and it does not
+/// kill. These are the least sets that satisfy the equations. Fails only if memory runs out, and never if there are
 /// no blocks.
 ///
-/// A block is visited again only after a set that flows into it grew. A visit is one pass over the set of each source,
-/// which puts in what the block does not kill and tells whether that is new. Sets get the capacity for the longest before
-/// the first visit, so a visit takes no memory.
+/// A block is visited again only after a set that flows into it has grown. A visit is one pass over the set of each
+/// source, which inserts what the block does not kill and reports whether that is new. Sets get the capacity for
+/// the longest before the first visit, so a visit allocates nothing.
 ///
 /// ```
 /// // The values of block 1 come from block 0, which generates 3.

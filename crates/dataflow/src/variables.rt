@@ -11,7 +11,7 @@ use std::alloc::{AllocError, Global};
 /// A block of code, and the variables that it uses and assigns. Variables are numbers.
 #[derive(Drop)]
 pub struct VariableBlock<B: BitBlock> {
-    /// The blocks that may run next. At a number that is no block nothing is live.
+    /// The blocks that may run next. Nothing is live at a number that is not a block.
     pub successors: Vec<usize>,
     /// The variables that the block uses before it assigns them.
     pub used: BitSet<B>,
@@ -47,10 +47,10 @@ impl<B: BitBlock> Block<B> for VariableBlock<B> {
     }
 }
 
-/// For each block the set of the variables that are live where it begins: a path leads from there to a use of the
-/// variable, with no assignment of it on the way. They are the least sets with
-/// `live_in[b] = used[b] ∪ (⋃ live_in[s] over the successors s of b − assigned[b])`.
-/// Fails only where memory runs out, and never of no blocks.
+/// For each block the set of the variables that are live where it begins: those with a path from there to a use of
+/// the variable, with no assignment to it on the way. They are the least sets with `live_in[b] = used[b] ∪ (⋃
+/// live_in[s] over the successors s of b − assigned[b])`. Fails only if memory runs out, and never if there are no
+/// blocks.
 ///
 /// ```
 /// // Block 1, which comes after block 0, uses 3.

@@ -1,4 +1,4 @@
-//! What whole runs of calls on slots come to, as the contract of a function that does nothing.
+//! What whole runs of calls on slots amount to, stated as the contract of a function that does nothing.
 ghost use Rattle.std.specs.Prelude.{ℕ, ◌+◌, ◌<◌, ◌≤◌, ◌↔◌, ◌++◌, ◌∷◌, Bool, IsTrue, List, None, Some};
 ghost use Rattle.free_slots.specs.Runs.{Event, IsHeld, IsLowestUnheld, IsUnheldRun, Run, times_given, times_taken};
 ghost use Rattle.free_slots.specs.Runs.Event.{GiveBack, Take, TakeRun};
@@ -6,17 +6,17 @@ ghost use Rattle.free_slots.specs.Slots.{SlotTable, all_free, is_taken};
 
 use bit_set::laws::{members_of_merged_sets, members_of_sets, numbers_of_ranges};
 
-/// What any calls on n slots, from the making on and one after another, return. `Happens` is a clause of
-/// each call that changes slots, so these are the runs of the calls themselves. A slot is held from where it
-/// is taken until it is given back.
+/// What any sequence of calls on n slots returns, from when they are made. `Happens` is a clause of each call that
+/// changes slots, so these are the runs of the calls themselves. A slot is held from when it is taken until it is
+/// given back.
 ///
 /// - `once`: a slot is never taken a second time while it is held.
 /// - `held`: the slots that are held are those that are not free.
-/// - `lowest`: what `take` and `take_at_or_above` return was not held, and each slot below it was, of those
-///   from the number on that was asked for.
-/// - `full`: they return `None` only where each of these is held.
-/// - `run`: the slots that `take_run` returns were not held, and no so many in a row below them.
-/// - `no_run`: it returns `None` only where no so many in a row are not held.
+/// - `lowest`: the slot that `take` or `take_at_or_above` returns was not held, and each lower slot at or above the
+///   requested number was.
+/// - `full`: they return `None` only if each of these is held.
+/// - `run`: the slots that `take_run` returns were not held, and no equally long run below them was free.
+/// - `no_run`: it returns `None` only if no run of that many slots is free.
 /// - `given`: `give_back` returns `true` for slots that are held, and for no others.
 pub fn whole_runs()
     ensures once { (n slot : ℕ) (events : List Event) (end : SlotTable) → Run (all_free n) events end

@@ -18,8 +18,8 @@ use bit_set::{BitBlock, BitSet};
 use std::alloc::{AllocError, Global};
 use std::marker::Model;
 
-/// So many slots, numbered from 0 on, each of them free or taken. Only the making of them takes memory, which no
-/// clause says: it is tested.
+/// Slots numbered from 0, each of them free or taken. Only `with_slots` allocates; no clause says so, but it is
+/// tested.
 #[derive(Drop)]
 pub struct Slots<B: BitBlock> {
     // As long as there are slots, and those that are free are in.
@@ -43,8 +43,8 @@ impl<B: BitBlock> Model for Slots<B> {
 }
 
 impl<B: BitBlock> Slots<B> {
-    /// That many slots, all of them free. Fails where memory runs out; none is asked for where there are
-    /// no slots. A pass over the blocks of the set.
+    /// This many slots, all of them free. Fails if memory runs out; allocates nothing if there are no slots. One
+    /// pass over the blocks of the set.
     ///
     /// ```
     /// let mut slots = Slots::<u32>::with_slots(alloc, 3)?;
@@ -78,7 +78,7 @@ impl<B: BitBlock> Slots<B> {
         self.free.get_ref().len()
     }
 
-    /// Whether the slot is free. It is not where there is no such slot. Constant time.
+    /// Whether the slot is free; false if there is no such slot. Constant time.
     ///
     /// ```
     /// // Slot 0 is taken.
@@ -90,7 +90,7 @@ impl<B: BitBlock> Slots<B> {
         self.free.contains(slot)
     }
 
-    /// How many slots are free. A pass over the blocks of the set.
+    /// How many slots are free. One pass over the blocks of the set.
     ///
     /// ```
     /// // Of three slots one is taken.
@@ -102,9 +102,9 @@ impl<B: BitBlock> Slots<B> {
         self.free.count()
     }
 
-    /// Takes the lowest free slot, and returns it; `None` where all are taken. It keeps a number below which all slots
-    /// are taken, but perhaps one that was given back. That one takes constant time. Any other takes a search
-    /// of the set's summary from the number on, which then becomes the one past the slot.
+    /// Takes the lowest free slot and returns it; `None` if all are taken. It keeps a number below which all slots
+    /// are taken, except perhaps one that was given back; taking that one is constant time. Any other slot takes a
+    /// search of the set's summary from that number, which then becomes the number after the slot.
     ///
     /// ```
     /// let mut slots = Slots::<u32>::with_slots(alloc, 3)?;
@@ -136,8 +136,8 @@ impl<B: BitBlock> Slots<B> {
         self.free.next(self.searched)
     }
 
-    /// Takes the lowest free slot that is at or above `slot`, and returns it; `None` where each of these is taken.
-    /// Searches the set's summary from `slot` on.
+    /// Takes the lowest free slot at or above `slot` and returns it; `None` if each of these is taken. Searches the
+    /// set's summary from `slot`.
     ///
     /// ```
     /// assert_eq!(slots.take_at_or_above(2), Some(2));
@@ -158,9 +158,9 @@ impl<B: BitBlock> Slots<B> {
         Some(taken)
     }
 
-    /// Takes `count` free slots in a row, the lowest that there are, and returns the first of them; `None` where no so
-    /// many are free in a row, and then nothing changes. Where `count` is 0 it takes none, and returns 0. Searches in
-    /// turn for the next free slot and the next taken one, up to the taken one after those that it takes.
+    /// Takes the lowest `count` free slots in a row and returns the first of them; `None` if there are not that
+    /// many in a row, and then nothing changes. If `count` is 0, it takes none and returns 0. Searches alternately
+    /// for the next free slot and the next taken one, up to the taken one after those that it takes.
     ///
     /// ```
     /// // Of five slots all but 1 are free.
@@ -206,8 +206,8 @@ impl<B: BitBlock> Slots<B> {
         None
     }
 
-    /// Gives a slot back that is taken, which is free then. Returns `false` where the slot is free or there is no
-    /// such slot, and changes nothing then. Constant time.
+    /// Gives back a taken slot, which becomes free. Returns `false`, and changes nothing, if the slot is free or
+    /// there is no such slot. Constant time.
     ///
     /// ```
     /// assert!(slots.give_back(2));

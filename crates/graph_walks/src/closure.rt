@@ -7,11 +7,11 @@ use bit_set::laws::members_of_merged_sets;
 use bit_set::{BitBlock, BitSet};
 use std::alloc::{AllocError, Global};
 
-/// Makes row `u` the set of all nodes to which a path of at least one edge leads from `u`: Warshall's algorithm, whole
-/// rows at a time. For `n` rows it makes `n` copies of a row, `n * n` tests and at most as many unions. It takes memory
-/// for one spare row first, as long as the longest, and then only for a row whose capacity is less than that. Fails
-/// only where it finds no memory, and never where all rows have length 0. Each row then still has all that it had, and
-/// nothing that the closure does not have, so that the call may be repeated.
+/// Sets row `u` to all nodes to which a path of at least one edge leads from `u`: Warshall's algorithm, a whole row
+/// at a time. For `n` rows it makes `n` copies of a row, `n * n` tests and at most as many unions. It first
+/// allocates one spare row, as long as the longest, and then only for a row whose capacity is less than that. Fails
+/// only if memory runs out, and never if all rows have length 0. After a failure each row still has all that it
+/// had, and nothing that the closure does not have, so that the call may be repeated.
 ///
 /// ```
 /// // The edges lead from 0 to 1 and from 1 to 2.

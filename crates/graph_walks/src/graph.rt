@@ -23,8 +23,7 @@ pub trait Graph: Copy {
     fn nodes(self) -> usize
         ensures { result ≡ length (rows self) };
 
-    /// The nodes to which an edge leads from `node`, and `None` where the graph has no such node. Constant
-    /// time.
+    /// The nodes to which an edge leads from `node`, or `None` if the graph has no such node. Constant time.
     fn successors(self, node: usize) -> Option<Self::Successors>
         ensures past { IfNone result (length (rows self) ≤ node) }
         ensures all { IfSome result (λ walk. left walk ≡ successors (rows self) node) }
@@ -85,7 +84,7 @@ impl<'a, B: BitBlock> Graph for &'a [BitSet<B>] {
     ghost in_order = { λ s t item step. step.item };
 }
 
-/// A row of a matrix for each node: an edge leads to each column that is in it.
+/// A row of a matrix for each node: an edge leads to each of its columns.
 impl<'a, B: BitBlock> Graph for &'a BitMatrix<B> {
     type Successors = bit_matrix::Iter<'a, B>;
 

@@ -1,4 +1,4 @@
-//! Walks over graphs, the closure of a graph and its dominators, by sets of nodes.
+//! Reachability in graphs, the closure of a graph and its dominators, by sets of nodes.
 #![tactic(auto)]
 
 mod closure;

@@ -6,10 +6,10 @@ ghost use Rattle.graph_walks.specs.Closed.{Follows, HasNoneIn, IsClosed, IsClosu
 use bit_matrix::{BitBlock, BitMatrix};
 use bit_set::laws::{members_of_sets, sets_ascend};
 
-/// Makes row `u` the set of all nodes to which a path of at least one edge leads from `u`, where row `u` has the nodes to
-/// which an edge leads: Warren's algorithm. It goes over the rows twice: each takes in the rows of the nodes in it that
-/// come before it, and then of those that come after it. So no row takes in another more than once, and there are at
-/// most as many unions of rows as the closure has edges. Takes no memory.
+/// Sets row `u`, which has the nodes to which an edge leads from `u`, to all nodes to which a path of at least one
+/// edge leads from `u`: Warren's algorithm. It goes over the rows twice: each is united with the rows of its nodes
+/// that come before it, and then with those that come after it. So no row is united with another more than once,
+/// and there are at most as many unions of rows as the closure has edges. Allocates nothing.
 ///
 /// ```
 /// reaches.insert(0, 1);
@@ -32,9 +32,9 @@ pub fn transitive_closure<B: BitBlock>(reaches: &mut BitMatrix<B>)
     }
 }
 
-/// Makes row `u` the set of all nodes to which a path of any number of edges leads from `u`, so of `u` itself too:
-/// [`transitive_closure`], and then each node in its own row. A row has no node past the columns, and so not its own
-/// node where there are more rows than columns; a node past the last row has no row. Takes no memory.
+/// Sets row `u` to all nodes to which a path of any number of edges leads from `u`, including `u` itself:
+/// [`transitive_closure`], and then each node in its own row. A row has no node past the columns, so not its own
+/// node if there are more rows than columns; a node past the last row has no row. Allocates nothing.
 ///
 /// ```
 /// reaches.insert(0, 1);

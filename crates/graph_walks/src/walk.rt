@@ -13,17 +13,17 @@ use bit_set::laws::{members_of_sets, sets_are_their_members, sets_ascend, sizes_
 use bit_set::{BitBlock, BitSet, SetError};
 use std::alloc::{AllocError, Global};
 
-/// How much a walk did. Contracts see both numbers; at run time they have no bytes and cost nothing.
+/// How much work a call did. Contracts see both numbers; at run time they have no bytes and cost nothing.
 #[derive(Drop)]
 pub struct Effort {
-    /// How often a node's edges were asked for.
+    /// How often a node's edges were requested.
     pub nodes: Steps,
     /// How often an edge was looked at.
     pub edges: Steps,
 }
 
 impl Effort {
-    /// Nothing done.
+    /// No work done.
     ///
     /// ```
     /// let mut effort = Effort::new();
@@ -41,9 +41,9 @@ impl Effort {
     }
 }
 
-/// The nodes to which a path leads from `start`, itself among them. Each is expanded once, and each edge
-/// from one of them is looked at once. Fails with [`SetError::Element`] only where a path leads to
-/// `usize::MAX`, at once where that is `start`, and else only where it finds no memory.
+/// The nodes to which a path leads from `start`, including itself. Each is expanded once, and each edge from one of
+/// them is looked at once. Fails with [`SetError::Element`] only if a path leads to `usize::MAX`, at once if that
+/// is `start`, and otherwise only if memory runs out.
 ///
 /// ```
 /// // The edges lead from 0 to 1 and from 1 to 2.
@@ -64,7 +64,7 @@ pub fn reachable<B: BitBlock, G: Graph>(
     reachable_counted(alloc, graph, start, &mut Effort::new())
 }
 
-/// [`reachable`], which adds to `effort` what it did.
+/// [`reachable`], which adds its work to `effort`.
 ///
 /// ```
 /// let mut effort = Effort::new();
@@ -95,8 +95,9 @@ pub fn reachable_counted<B: BitBlock, G: Graph>(
     Ok(reached)
 }
 
-/// The nodes to which a path leads from any of `starts`, these among them. As [`reachable`]: of each node
-/// the edges are looked at once, from however many starts it is reached. Of no starts it takes no memory, and succeeds.
+/// The nodes to which a path leads from any of `starts`, including these. As in [`reachable`], the edges of each
+/// node are looked at once, from however many starts it is reached. With no starts it allocates nothing and
+/// succeeds.
 ///
 /// ```
 /// // The starts are {1, 2}.
@@ -120,7 +121,7 @@ pub fn reachable_from_any<B: BitBlock, G: Graph>(
     reachable_from_any_counted(alloc, graph, starts, &mut Effort::new())
 }
 
-/// [`reachable_from_any`], which adds to `effort` what it did.
+/// [`reachable_from_any`], which adds its work to `effort`.
 ///
 /// ```
 /// let more: BitSet = reachable_from_any_counted(alloc, edges, &starts, &mut effort)?;

@@ -8,7 +8,7 @@ use crate::{BitBlock, BitMatrix};
 use bit_blocks::packed::replace_bit;
 
 impl<B: BitBlock> BitMatrix<B> {
-    /// Puts the column into the row, and returns whether it was not in. Constant time.
+    /// Inserts the column into the row, and returns whether it was absent. Constant time.
     ///
     /// ```
     /// assert!(matrix.insert(1, 2));
@@ -26,7 +26,7 @@ impl<B: BitBlock> BitMatrix<B> {
         !replace_bit(&mut self.blocks, i, true)
     }
 
-    /// Takes the column out of the row, and returns whether it was in. Constant time.
+    /// Removes the column from the row, and returns whether it was present. Constant time.
     ///
     /// ```
     /// assert!(matrix.remove(1, 2));

@@ -5,8 +5,8 @@ ghost use Rattle.bit_matrix.specs.Compared.{key_of, same_matrices};
 use crate::{BitBlock, BitMatrix};
 use bit_words::bit_vec::same_blocks;
 
-/// Matrices are equal where they have as many columns and the same rows. Compares the blocks up to the first group that
-/// differs.
+/// Matrices are equal if they have equally many columns and the same rows. Compares the blocks up to the first
+/// group that differs.
 impl<B: BitBlock> PartialEq for BitMatrix<B> {
     ghost eq = { same_matrices };
 

@@ -9,8 +9,8 @@ use bit_blocks::packed::{copy_of, ones_in_span};
 use std::alloc::{AllocError, Global};
 
 impl<B: BitBlock> BitMatrix<B> {
-    /// A matrix of the same rows. Copies each block once. Fails only where memory runs out, and never where there are no
-    /// blocks.
+    /// A matrix with the same rows. Copies each block once. Fails only if memory runs out, and never if there are
+    /// no blocks.
     pub fn clone(&self, alloc: Global) -> Result<Self, AllocError>
         ensures matrix { IfOk result (λ matrix. matrix ≡ self.now) }
         ensures empty { length self.now.rows * (blocks_for B.width self.now.columns * B.width) ≡ 0 → IsOk result }
@@ -24,11 +24,11 @@ impl<B: BitBlock> BitMatrix<B> {
         })
     }
 
-    /// The matrix that has a row for each column, and in it the rows that have that column. Where few columns are in the
-    /// rows, fewer than one in 64, reads each block and writes once for each column. Else goes by squares of as many rows
-    /// and columns as a block has bits, with operations on whole blocks: some four for each block and each time that its
-    /// bits can be halved, so 24 over 64 bits. Only the columns past the last whole block go one by one. Where there are no
-    /// blocks it takes constant time. Fails as [`new`](BitMatrix::new) does.
+    /// The matrix that has a row for each column, with the rows that have that column. If fewer than one bit in 64
+    /// is set, it reads each block and writes once for each set bit. Otherwise it transposes squares of as many
+    /// rows and columns as a block has bits, with operations on whole blocks: some four for each block and each
+    /// halving of its width, so 24 for blocks of 64 bits. Only the columns past the last whole block are done one
+    /// by one. If there are no blocks, it takes constant time. Fails as [`new`](BitMatrix::new) does.
     ///
     /// ```
     /// matrix.insert(0, 2);

@@ -9,10 +9,11 @@ use bit_blocks::packed::{block_count, push_copies};
 use std::alloc::Global;
 
 impl BitMatrix<u32> {
-    /// So many rows with nothing in them, over blocks of 32 bits. Writes each block once.
+    /// A matrix of this many empty rows, over blocks of 32 bits. Writes each block once.
     ///
-    /// [`MatrixError::Length`] comes exactly where the rows have more bits than `usize::MAX`, each at whole blocks, and
-    /// before memory is asked for; [`MatrixError::Memory`] only where that runs out, and never where there are no blocks.
+    /// Fails with [`MatrixError::Length`] exactly if the rows, each in whole blocks, have more bits than
+    /// `usize::MAX`, before it allocates; with [`MatrixError::Memory`] only if memory runs out, and never if there
+    /// are no blocks.
     ///
     /// ```
     /// let matrix = BitMatrix::new(alloc, 3, 100)?;
@@ -29,10 +30,11 @@ impl BitMatrix<u32> {
 }
 
 impl<B: BitBlock> BitMatrix<B> {
-    /// So many rows with nothing in them. Writes each block once.
+    /// A matrix of this many empty rows. Writes each block once.
     ///
-    /// [`MatrixError::Length`] comes exactly where the rows have more bits than `usize::MAX`, each at whole blocks, and
-    /// before memory is asked for; [`MatrixError::Memory`] only where that runs out, and never where there are no blocks.
+    /// Fails with [`MatrixError::Length`] exactly if the rows, each in whole blocks, have more bits than
+    /// `usize::MAX`, before it allocates; with [`MatrixError::Memory`] only if memory runs out, and never if there
+    /// are no blocks.
     pub fn new_general(alloc: Global, rows: usize, columns: usize) -> Result<Self, MatrixError>
         ensures matrix { IfOk result (λ matrix. matrix ≡ matrix_of rows columns []) }
         ensures too_large { IsErrOf result MatrixError.Length

@@ -11,7 +11,8 @@ use bit_words::bit_vec::operation::{Difference, Union};
 use std::ops::Range;
 
 impl<B: BitBlock> BitMatrix<B> {
-    /// Puts the columns of the range into the row; none where the range is empty. Writes each block of the range once.
+    /// Inserts the columns of the range into the row; none if the range is empty. Writes each block of the range
+    /// once.
     ///
     /// ```
     /// matrix.insert_range(1, 2..5);
@@ -32,7 +33,7 @@ impl<B: BitBlock> BitMatrix<B> {
         merge_span::<B, Union>(&mut self.blocks, first, first + (end - start));
     }
 
-    /// Puts each column into the row. Writes each of its blocks once.
+    /// Inserts every column into the row. Writes each of its blocks once.
     pub fn fill_row(&mut self, row: usize)
         requires { row < length self.old.rows }
         ensures matrix { self.new ≡ with_row self.old row (span 0 self.old.columns) }
@@ -42,7 +43,7 @@ impl<B: BitBlock> BitMatrix<B> {
         self.insert_range(row, 0..columns);
     }
 
-    /// Takes each column out of the row. Writes each of its blocks once.
+    /// Removes every column from the row. Writes each of its blocks once.
     pub fn clear_row(&mut self, row: usize)
         requires { row < length self.old.rows }
         ensures matrix { self.new ≡ with_row self.old row [] }

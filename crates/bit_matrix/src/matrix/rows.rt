@@ -42,7 +42,7 @@ impl<B: BitBlock> BitMatrix<B> {
         ones_in_span(self.row_blocks(row), 0, self.columns)
     }
 
-    /// A walk over the columns that are in the row, in ascending order. Constant time.
+    /// An iterator over the columns of the row, in ascending order. Constant time.
     ///
     /// ```
     /// matrix.insert_range(1, 2..5);
@@ -58,7 +58,7 @@ impl<B: BitBlock> BitMatrix<B> {
         Iter::over(self.row_blocks(row), 0)
     }
 
-    /// A walk over the columns that are in the row and are `from` or above, in ascending order. Constant time.
+    /// An iterator over the columns of the row that are `from` or above, in ascending order. Constant time.
     ///
     /// ```
     /// matrix.insert_range(1, 2..5);
@@ -93,8 +93,8 @@ impl<B: BitBlock> BitMatrix<B> {
         )
     }
 
-    /// Puts what is in the row `read` into the row `write`, and returns whether some of it was not in. One pass over the
-    /// blocks of both.
+    /// Inserts the columns of the row `read` into the row `write`, and returns whether any of them was absent. One
+    /// pass over the blocks of both.
     ///
     /// ```
     /// // What the node 0 reaches, it reaches by the node 1 too.
@@ -113,8 +113,8 @@ impl<B: BitBlock> BitMatrix<B> {
         self.merge_rows::<Union>(read, write)
     }
 
-    /// Keeps in the row `write` what is in the row `read` too, and returns whether something was not. One pass over the
-    /// blocks of both.
+    /// Keeps in the row `write` the columns that the row `read` has too, and returns whether it removed any. One
+    /// pass over the blocks of both.
     #[inline]
     pub fn intersect_rows(&mut self, read: usize, write: usize) -> bool
         requires read { read < length self.old.rows }
@@ -128,8 +128,8 @@ impl<B: BitBlock> BitMatrix<B> {
         self.merge_rows::<Intersection>(read, write)
     }
 
-    /// Takes out of the row `write` what is in the row `read`, and returns whether some of it was in. One pass over the
-    /// blocks of both.
+    /// Removes the columns of the row `read` from the row `write`, and returns whether any of them was present. One
+    /// pass over the blocks of both.
     #[inline]
     pub fn difference_rows(&mut self, read: usize, write: usize) -> bool
         requires read { read < length self.old.rows }
@@ -144,7 +144,7 @@ impl<B: BitBlock> BitMatrix<B> {
         self.merge_rows::<Difference>(read, write)
     }
 
-    /// Whether each column of the first row is in the other. Reads the blocks of both up to the one that decides.
+    /// Whether each column of the first row is in the second. Reads the blocks of both up to the one that decides.
     pub fn is_subset_row(&self, row: usize, other: usize) -> bool
         requires row { row < length self.now.rows }
         requires other { other < length self.now.rows }
@@ -158,7 +158,7 @@ impl<B: BitBlock> BitMatrix<B> {
         )
     }
 
-    /// Whether no column is in both rows. Reads the blocks of both up to the one that decides.
+    /// Whether the two rows have no column in common. Reads the blocks of both up to the one that decides.
     pub fn is_disjoint_row(&self, row: usize, other: usize) -> bool
         requires row { row < length self.now.rows }
         requires other { other < length self.now.rows }

@@ -13,8 +13,8 @@ use bit_words::bit_vec::operation::Union;
 use std::alloc::{AllocError, Global};
 
 impl<B: BitBlock> BitMatrix<B> {
-    /// So many rows that each have the elements of the set, and as many columns as the set's length. Writes each block
-    /// twice, and takes constant time where the length is 0. Fails as [`new`](BitMatrix::new) does.
+    /// A matrix of this many rows, each with the elements of the set, and as many columns as the set's length.
+    /// Writes each block twice, and takes constant time if the length is 0. Fails as [`new`](BitMatrix::new) does.
     ///
     /// ```
     /// // The set is {1, 4, 6}.
@@ -38,8 +38,8 @@ impl<B: BitBlock> BitMatrix<B> {
         Ok(matrix)
     }
 
-    /// Puts the elements of the set, each of which is below [`columns`](Self::columns), into the row, and returns
-    /// whether one of them was not in. One pass over the blocks of both.
+    /// Inserts the elements of the set, each of which must be below [`columns`](Self::columns), into the row, and
+    /// returns whether any of them was absent. One pass over the blocks of both.
     ///
     /// ```
     /// assert!(matrix.union_row_with(&set, 1));
@@ -61,8 +61,8 @@ impl<B: BitBlock> BitMatrix<B> {
         merge_others::<B, Union>(self.blocks.as_mut_slice(), others, row * stride)
     }
 
-    /// The set of the columns that are in the row, of length [`columns`](Self::columns). Writes each block twice. The
-    /// capacity is that of its blocks. Fails only where memory runs out, and never of no columns.
+    /// The set of the columns of the row, of length [`columns`](Self::columns). Writes each block twice. The
+    /// capacity is that of its blocks. Fails only if memory runs out, and never if there are no columns.
     ///
     /// ```
     /// matrix.insert_range(1, 2..5);
