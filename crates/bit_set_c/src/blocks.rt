@@ -17,7 +17,7 @@ fn all_blocks(set: &BitSet<Block>) -> &[Block]
     set.get_ref().storage()
 }
 
-/// Lends the blocks to be read, as long as the set is lent.
+/// Lends the blocks for reading, for as long as the set is lent.
 #[unsafe(no_mangle)]
 pub extern "C" fn bit_set_lend_blocks<'a>(set: &'a mut Shared, lent: &mut &'a [Block])
     requires here { IsAt set.ref_ptr set.old.at }
@@ -48,7 +48,7 @@ fn copy_front(from: &[Block], to: &mut [Block]) -> usize
     count
 }
 
-/// Copies the blocks from one on, as many as there is room for, and returns how many.
+/// Copies the blocks from an index on, as many as fit, and returns how many.
 #[unsafe(no_mangle)]
 pub extern "C" fn bit_set_copy_blocks(set: &mut Shared, from: usize, blocks: &mut [Block]) -> usize
     requires here { IsAt set.ref_ptr set.old.at }
@@ -103,8 +103,8 @@ fn put_blocks(bits: &mut BitVec<Block>, from: usize, blocks: &[Block]) -> bool
     true
 }
 
-/// Makes the blocks from one on those, as far as they go, and returns whether it could: nothing changed where there is
-/// no memory, or the length would be above `usize::MAX`. Copies them at once, and then reads each once.
+/// Replaces the blocks from an index on by the given ones, and returns whether it could: nothing changes if memory
+/// runs out, or the length would be above `usize::MAX`. Copies them all at once, and then reads each once.
 #[tactic(auto, using(bit_set::proofs::MemberLemmas::reads))]
 #[unsafe(no_mangle)]
 pub extern "C" fn bit_set_put_blocks(set: &mut Exclusive, from: usize, blocks: &[Block]) -> bool

@@ -47,8 +47,8 @@ fn turn_bytes(bytes: &mut [u8], count: usize)
     }
 }
 
-/// Copies the bytes from one on, as many as there is room for, and returns how many: a bit for each number below the
-/// length, the first of a byte at its highest bit. Past the length they are zeros.
+/// Copies the bytes from an index on, as many as fit, and returns how many: a bit for each number below the length,
+/// the first of a byte at its highest bit. Bits past the length are zeros.
 #[unsafe(no_mangle)]
 pub extern "C" fn bit_set_copy_bytes(set: &mut Shared, from: usize, bytes: &mut [u8]) -> usize
     requires here { IsAt set.ref_ptr set.old.at }
@@ -63,7 +63,8 @@ pub extern "C" fn bit_set_copy_bytes(set: &mut Shared, from: usize, bytes: &mut 
     count
 }
 
-/// Copies the bytes from one on as `bit_set_copy_bytes` does, but with the first number of a byte at its lowest bit.
+/// Copies the bytes from an index on as `bit_set_copy_bytes` does, but with the first number of a byte at its
+/// lowest bit.
 #[unsafe(no_mangle)]
 pub extern "C" fn bit_set_copy_bytes_lsb(set: &mut Shared, from: usize, bytes: &mut [u8]) -> usize
     requires here { IsAt set.ref_ptr set.old.at }

@@ -18,7 +18,7 @@ pub extern "C" fn bit_set_reserve(set: &mut Exclusive, len: usize) -> bool
     set.get().reserve_len(len).is_ok()
 }
 
-/// The same with no more than that is asked.
+/// As `bit_set_reserve`, but no more than requested.
 #[unsafe(no_mangle)]
 pub extern "C" fn bit_set_reserve_exact(set: &mut Exclusive, len: usize) -> bool
     requires here { IsAt set.ref_ptr set.old.at }

@@ -20,7 +20,7 @@ pub extern "C" fn bit_set_truncate(set: &mut Exclusive, len: usize)
     set.get().truncate(len);
 }
 
-/// Takes every member out; the length stays.
+/// Removes every member; the length stays.
 #[unsafe(no_mangle)]
 pub extern "C" fn bit_set_make_empty(set: &mut Exclusive)
     requires here { IsAt set.ref_ptr set.old.at }
@@ -35,7 +35,7 @@ pub extern "C" fn bit_set_make_empty(set: &mut Exclusive)
     set.get().make_empty();
 }
 
-/// Takes every member out and makes the length 0; the capacity stays.
+/// Removes every member and sets the length to 0; the capacity stays.
 #[unsafe(no_mangle)]
 pub extern "C" fn bit_set_reset(set: &mut Exclusive)
     requires here { IsAt set.ref_ptr set.old.at }

@@ -29,7 +29,7 @@ pub extern "C" fn bit_set_intersection_count(set: &mut Shared, other: &mut Share
     set.get().intersection_count(other.get())
 }
 
-/// How many members are none of the other set.
+/// How many members the other set lacks.
 #[unsafe(no_mangle)]
 pub extern "C" fn bit_set_difference_count(set: &mut Shared, other: &mut Shared) -> usize
     requires here { IsAt set.ref_ptr set.old.at }
@@ -41,7 +41,7 @@ pub extern "C" fn bit_set_difference_count(set: &mut Shared, other: &mut Shared)
     set.get().difference_count(other.get())
 }
 
-/// How many numbers are in just one of both sets.
+/// How many numbers are in exactly one of the two sets.
 #[unsafe(no_mangle)]
 pub extern "C" fn bit_set_symmetric_difference_count(set: &mut Shared, other: &mut Shared) -> usize
     requires here { IsAt set.ref_ptr set.old.at }

@@ -6,7 +6,7 @@ ghost use Rattle.bit_set_c.specs.{Answers.found, Handed.IsAt};
 use crate::handed::Exclusive;
 use crate::searching::or_max;
 
-/// Takes the least member out, and returns it, or `usize::MAX` where there is none.
+/// Removes the least member and returns it, or `usize::MAX` if there is none.
 #[tactic(auto, using(bit_set::proofs::ValueLemmas::members_are_below_lengths))]
 #[unsafe(no_mangle)]
 pub extern "C" fn bit_set_pop_first(set: &mut Exclusive) -> usize
@@ -25,7 +25,7 @@ pub extern "C" fn bit_set_pop_first(set: &mut Exclusive) -> usize
     or_max(set.pop_first())
 }
 
-/// Takes the greatest member out, and returns it, or `usize::MAX` where there is none.
+/// Removes the greatest member and returns it, or `usize::MAX` if there is none.
 #[tactic(auto, using(bit_set::proofs::ValueLemmas::members_are_below_lengths))]
 #[unsafe(no_mangle)]
 pub extern "C" fn bit_set_pop_last(set: &mut Exclusive) -> usize

@@ -6,7 +6,7 @@ ghost use Rattle.bit_set_c.specs.{Answers.done, Handed.IsAt};
 
 use crate::handed::{Exclusive, Shared};
 
-/// Puts in what is in the other set, and returns whether it could.
+/// Inserts the members of the other set, and returns whether it could.
 #[unsafe(no_mangle)]
 pub extern "C" fn bit_set_union_with(set: &mut Exclusive, other: &mut Shared) -> bool
     requires here { IsAt set.ref_ptr set.old.at }
@@ -24,7 +24,7 @@ pub extern "C" fn bit_set_union_with(set: &mut Exclusive, other: &mut Shared) ->
     set.get().union_with(other.get()).is_ok()
 }
 
-/// Keeps what is in the other set too, and returns whether it could.
+/// Keeps the members that the other set has too, and returns whether it could.
 #[unsafe(no_mangle)]
 pub extern "C" fn bit_set_intersect_with(set: &mut Exclusive, other: &mut Shared) -> bool
     requires here { IsAt set.ref_ptr set.old.at }
@@ -42,7 +42,7 @@ pub extern "C" fn bit_set_intersect_with(set: &mut Exclusive, other: &mut Shared
     set.get().intersect_with(other.get()).is_ok()
 }
 
-/// Takes out what is in the other set, and returns whether it could.
+/// Removes the members of the other set, and returns whether it could.
 #[unsafe(no_mangle)]
 pub extern "C" fn bit_set_difference_with(set: &mut Exclusive, other: &mut Shared) -> bool
     requires here { IsAt set.ref_ptr set.old.at }
@@ -60,7 +60,7 @@ pub extern "C" fn bit_set_difference_with(set: &mut Exclusive, other: &mut Share
     set.get().difference_with(other.get()).is_ok()
 }
 
-/// Keeps what is in just one of both sets, and returns whether it could.
+/// Leaves what is in exactly one of the two sets, and returns whether it could.
 #[unsafe(no_mangle)]
 pub extern "C" fn bit_set_symmetric_difference_with(set: &mut Exclusive, other: &mut Shared) -> bool
     requires here { IsAt set.ref_ptr set.old.at }
@@ -78,7 +78,7 @@ pub extern "C" fn bit_set_symmetric_difference_with(set: &mut Exclusive, other: 
     set.get().symmetric_difference_with(other.get()).is_ok()
 }
 
-/// Moves what is in the other set into this, and returns whether it could.
+/// Moves the members of the other set into this one, and returns whether it could.
 #[unsafe(no_mangle)]
 pub extern "C" fn bit_set_append(set: &mut Exclusive, other: &mut Exclusive) -> bool
     requires here { IsAt set.ref_ptr set.old.at }

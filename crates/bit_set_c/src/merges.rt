@@ -45,7 +45,7 @@ fn copy_merged(
     )
 }
 
-/// Copies the blocks of what is in either set, from one on, as many as there is room for, and returns how many.
+/// Copies the blocks of what is in either set, from an index on, as many as fit, and returns how many.
 #[unsafe(no_mangle)]
 pub extern "C" fn bit_set_copy_union(
     set: &mut Shared,
@@ -67,7 +67,7 @@ pub extern "C" fn bit_set_copy_union(
     copy_merged(set.get(), other.get(), Merge::Union, from, blocks)
 }
 
-/// Copies the blocks of what is in both sets, from one on, as many as there is room for, and returns how many.
+/// Copies the blocks of what is in both sets, from an index on, as many as fit, and returns how many.
 #[unsafe(no_mangle)]
 pub extern "C" fn bit_set_copy_intersection(
     set: &mut Shared,
@@ -89,7 +89,7 @@ pub extern "C" fn bit_set_copy_intersection(
     copy_merged(set.get(), other.get(), Merge::Intersection, from, blocks)
 }
 
-/// Copies the blocks of what is in the first set alone, from one on, as many as there is room for, and returns how many.
+/// Copies the blocks of what is only in the first set, from an index on, as many as fit, and returns how many.
 #[unsafe(no_mangle)]
 pub extern "C" fn bit_set_copy_difference(
     set: &mut Shared,
@@ -111,7 +111,8 @@ pub extern "C" fn bit_set_copy_difference(
     copy_merged(set.get(), other.get(), Merge::Difference, from, blocks)
 }
 
-/// Copies the blocks of what is in just one of both sets, from one on, as many as there is room for, and returns how many.
+/// Copies the blocks of what is in exactly one of the two sets, from an index on, as many as fit, and returns how
+/// many.
 #[unsafe(no_mangle)]
 pub extern "C" fn bit_set_copy_symmetric_difference(
     set: &mut Shared,

@@ -6,7 +6,7 @@ ghost use Rattle.bit_set_c.specs.{Answers.done, Handed.IsAt};
 
 use crate::handed::{Exclusive, Shared};
 
-/// Puts each number of the range in, and returns whether it could.
+/// Inserts each number of the range, and returns whether it could.
 #[unsafe(no_mangle)]
 pub extern "C" fn bit_set_insert_range(set: &mut Exclusive, start: usize, end: usize) -> bool
     requires here { IsAt set.ref_ptr set.old.at }
@@ -25,7 +25,7 @@ pub extern "C" fn bit_set_insert_range(set: &mut Exclusive, start: usize, end: u
     set.get().insert_range(start..end).is_ok()
 }
 
-/// Takes each number of the range out.
+/// Removes each number of the range.
 #[unsafe(no_mangle)]
 pub extern "C" fn bit_set_remove_range(set: &mut Exclusive, start: usize, end: usize)
     requires here { IsAt set.ref_ptr set.old.at }
@@ -43,7 +43,7 @@ pub extern "C" fn bit_set_remove_range(set: &mut Exclusive, start: usize, end: u
     set.get().remove_range(start..end);
 }
 
-/// Takes each number of the range out that is in, puts each other in, and returns whether it could.
+/// Removes each number of the range that is present, inserts each other, and returns whether it could.
 #[unsafe(no_mangle)]
 pub extern "C" fn bit_set_toggle_range(set: &mut Exclusive, start: usize, end: usize) -> bool
     requires here { IsAt set.ref_ptr set.old.at }
@@ -59,7 +59,7 @@ pub extern "C" fn bit_set_toggle_range(set: &mut Exclusive, start: usize, end: u
     set.get().toggle_range(start..end).is_ok()
 }
 
-/// Whether every number of the range is a member, and so whether the range is empty.
+/// Whether every number of the range is a member; true if the range is empty.
 #[unsafe(no_mangle)]
 pub extern "C" fn bit_set_contains_all_in_range(set: &mut Shared, start: usize, end: usize) -> bool
     requires here { IsAt set.ref_ptr set.old.at }
@@ -71,7 +71,7 @@ pub extern "C" fn bit_set_contains_all_in_range(set: &mut Shared, start: usize, 
     set.get().contains_all_in_range(start..end)
 }
 
-/// Whether a number of the range is a member.
+/// Whether any number of the range is a member.
 #[unsafe(no_mangle)]
 pub extern "C" fn bit_set_contains_any_in_range(set: &mut Shared, start: usize, end: usize) -> bool
     requires here { IsAt set.ref_ptr set.old.at }

@@ -40,7 +40,7 @@ pub extern "C" fn bit_set_length(set: &mut Shared) -> usize
     set.get().get_ref().len()
 }
 
-/// Below which number a member goes in without memory.
+/// The number below which inserting a member allocates nothing.
 #[unsafe(no_mangle)]
 pub extern "C" fn bit_set_capacity(set: &mut Shared) -> usize
     requires here { IsAt set.ref_ptr set.old.at }
@@ -65,7 +65,7 @@ fn hash_members(set: &BitSet<Block>) -> u64
     state ^ (state >> 32)
 }
 
-/// A hash of the members alone: sets that are equal have the same.
+/// A hash that depends only on the members: equal sets have the same hash.
 #[unsafe(no_mangle)]
 pub extern "C" fn bit_set_hash(set: &mut Shared) -> u64
     requires here { IsAt set.ref_ptr set.old.at }

@@ -21,7 +21,7 @@ fn answer_of(outcome: Result<bool, AllocError>) -> i32
     }
 }
 
-/// Puts in what is in the other set, and says whether some of it was not in.
+/// Inserts the members of the other set, and says whether any of them was absent.
 #[unsafe(no_mangle)]
 pub extern "C" fn bit_set_union_changes(set: &mut Exclusive, other: &mut Shared) -> i32
     requires here { IsAt set.ref_ptr set.old.at }
@@ -48,7 +48,7 @@ pub extern "C" fn bit_set_union_changes(set: &mut Exclusive, other: &mut Shared)
     answer_of(set.get().union_changes(other.get()))
 }
 
-/// Keeps what is in the other set too, and says whether something was not.
+/// Keeps the members that the other set has too, and says whether it removed any.
 #[unsafe(no_mangle)]
 pub extern "C" fn bit_set_intersection_changes(set: &mut Exclusive, other: &mut Shared) -> i32
     requires here { IsAt set.ref_ptr set.old.at }
@@ -73,7 +73,7 @@ pub extern "C" fn bit_set_intersection_changes(set: &mut Exclusive, other: &mut 
     answer_of(set.get().intersection_changes(other.get()))
 }
 
-/// Takes out what is in the other set, and says whether some of it was in.
+/// Removes the members of the other set, and says whether any of them was present.
 #[unsafe(no_mangle)]
 pub extern "C" fn bit_set_difference_changes(set: &mut Exclusive, other: &mut Shared) -> i32
     requires here { IsAt set.ref_ptr set.old.at }
@@ -98,7 +98,7 @@ pub extern "C" fn bit_set_difference_changes(set: &mut Exclusive, other: &mut Sh
     answer_of(set.get().difference_changes(other.get()))
 }
 
-/// Keeps what is in just one of both sets, and says whether that changed the set.
+/// Leaves what is in exactly one of the two sets, and says whether that changed the set.
 #[unsafe(no_mangle)]
 pub extern "C" fn bit_set_symmetric_difference_changes(
     set: &mut Exclusive,
@@ -124,7 +124,7 @@ pub extern "C" fn bit_set_symmetric_difference_changes(
     answer_of(set.get().symmetric_difference_changes(other.get()))
 }
 
-/// Puts in what is in the other set and not in `except`, and says whether some of it was not in.
+/// Inserts the members of the other set that are not in `except`, and says whether any of them was absent.
 #[unsafe(no_mangle)]
 pub extern "C" fn bit_set_union_with_difference(
     set: &mut Exclusive,
@@ -155,7 +155,7 @@ pub extern "C" fn bit_set_union_with_difference(
     answer_of(set.get().union_with_difference(other.get(), except.get()))
 }
 
-/// Puts in what is both in the other set and in `also`, and says whether some of it was not in.
+/// Inserts what the other set and `also` have in common, and says whether any of it was absent.
 #[unsafe(no_mangle)]
 pub extern "C" fn bit_set_union_with_intersection(
     set: &mut Exclusive,
@@ -189,7 +189,7 @@ pub extern "C" fn bit_set_union_with_intersection(
     answer_of(set.get().union_with_intersection(other.get(), also.get()))
 }
 
-/// Makes the members those of the other set that are not in `except`, and says whether they were others before.
+/// Sets the members to those of the other set that are not in `except`, and says whether that changed them.
 #[unsafe(no_mangle)]
 pub extern "C" fn bit_set_become_difference(
     set: &mut Exclusive,

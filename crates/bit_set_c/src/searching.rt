@@ -14,7 +14,7 @@ pub(crate) fn or_max(member: Option<usize>) -> usize
     member.unwrap_or(usize::MAX)
 }
 
-/// The least member, or `usize::MAX` where there is none.
+/// The least member, or `usize::MAX` if there is none.
 #[unsafe(no_mangle)]
 pub extern "C" fn bit_set_first(set: &mut Shared) -> usize
     requires here { IsAt set.ref_ptr set.old.at }
@@ -27,7 +27,7 @@ pub extern "C" fn bit_set_first(set: &mut Shared) -> usize
     or_max(set.get().first())
 }
 
-/// The greatest member, or `usize::MAX` where there is none.
+/// The greatest member, or `usize::MAX` if there is none.
 #[unsafe(no_mangle)]
 pub extern "C" fn bit_set_last(set: &mut Shared) -> usize
     requires here { IsAt set.ref_ptr set.old.at }
@@ -40,7 +40,7 @@ pub extern "C" fn bit_set_last(set: &mut Shared) -> usize
     or_max(set.get().last())
 }
 
-/// The least member that is `from` or above, or `usize::MAX` where there is none.
+/// The least member that is `from` or above, or `usize::MAX` if there is none.
 #[unsafe(no_mangle)]
 pub extern "C" fn bit_set_next(set: &mut Shared, from: usize) -> usize
     requires here { IsAt set.ref_ptr set.old.at }
@@ -52,7 +52,7 @@ pub extern "C" fn bit_set_next(set: &mut Shared, from: usize) -> usize
     or_max(set.get().next(from))
 }
 
-/// The greatest member below `end`, or `usize::MAX` where there is none.
+/// The greatest member below `end`, or `usize::MAX` if there is none.
 #[unsafe(no_mangle)]
 pub extern "C" fn bit_set_previous(set: &mut Shared, end: usize) -> usize
     requires here { IsAt set.ref_ptr set.old.at }
@@ -64,7 +64,7 @@ pub extern "C" fn bit_set_previous(set: &mut Shared, end: usize) -> usize
     or_max(set.get().previous(end))
 }
 
-/// The least number that is `from` or above and no member: `usize::MAX` is none.
+/// The least number that is `from` or above and not a member; `usize::MAX` never is one.
 #[unsafe(no_mangle)]
 pub extern "C" fn bit_set_next_missing(set: &mut Shared, from: usize) -> usize
     requires here { IsAt set.ref_ptr set.old.at }
@@ -75,7 +75,7 @@ pub extern "C" fn bit_set_next_missing(set: &mut Shared, from: usize) -> usize
     set.get().next_missing(from)
 }
 
-/// The member from `from` on that `n` others come before, or `usize::MAX` where there is none.
+/// The member at or above `from` with `n` others between, or `usize::MAX` if there is none.
 #[unsafe(no_mangle)]
 pub extern "C" fn bit_set_nth(set: &mut Shared, from: usize, n: usize) -> usize
     requires here { IsAt set.ref_ptr set.old.at }

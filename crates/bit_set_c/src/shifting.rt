@@ -19,8 +19,8 @@ fn answer_of(outcome: Result<(), SetError>) -> i32
     }
 }
 
-/// Moves each member up by the distance: 1 where it could, -1 where there is no memory, -2 where one would become
-/// `usize::MAX` or more.
+/// Moves each member up by the distance: 1 if it could, -1 if memory runs out, -2 if one would become `usize::MAX`
+/// or more.
 #[unsafe(no_mangle)]
 pub extern "C" fn bit_set_shift_up(set: &mut Exclusive, distance: usize) -> i32
     requires here { IsAt set.ref_ptr set.old.at }
@@ -40,7 +40,7 @@ pub extern "C" fn bit_set_shift_up(set: &mut Exclusive, distance: usize) -> i32
     answer_of(set.get().shift_up(distance))
 }
 
-/// Moves each member down by the distance; those below it are gone. The length stays.
+/// Moves each member down by the distance; those below the distance are removed. The length stays.
 #[unsafe(no_mangle)]
 pub extern "C" fn bit_set_shift_down(set: &mut Exclusive, distance: usize)
     requires here { IsAt set.ref_ptr set.old.at }

@@ -7,8 +7,8 @@ ghost use Rattle.bit_set_c.specs.{Answers.{given, given_range}, Handed.IsAt};
 
 use crate::handed::Shared;
 
-/// Looks for the least number from `from` on at which `count` numbers in a row begin that are no members, and returns
-/// whether there is one, which goes to `gap`.
+/// Looks for the least number at or above `from` at which `count` absent numbers in a row begin, and returns
+/// whether there is one, which is written to `gap`.
 #[unsafe(no_mangle)]
 pub extern "C" fn bit_set_first_gap(
     set: &mut Shared,
@@ -32,8 +32,9 @@ pub extern "C" fn bit_set_first_gap(
     }
 }
 
-/// Looks for the first run of members from `from` on, the longest range of numbers that are all members, and returns
-/// whether there is one, which goes to `start` and `end`. One that begins before `from` is cut there.
+/// Looks for the first run of members at or above `from`, the longest range of numbers that are all members, and
+/// returns whether there is one, which is written to `start` and `end`. A run that begins before `from` is cut
+/// there.
 #[unsafe(no_mangle)]
 pub extern "C" fn bit_set_next_run(
     set: &mut Shared,

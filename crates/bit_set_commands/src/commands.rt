@@ -7,23 +7,23 @@ use std::cmp::Ordering;
 /// What `run` is asked to do.
 #[derive(Debug, Drop, PartialEq, Eq)]
 pub enum Command {
-    /// Put a number into a set.
+    /// Insert a number into a set.
     Insert(SetName, usize),
-    /// Take a number out of a set.
+    /// Remove a number from a set.
     Remove(SetName, usize),
     /// Whether a number is in a set.
     Contains(SetName, usize),
-    /// Put some numbers into a set, one after another.
+    /// Insert some numbers into a set, one after another.
     Extend(SetName, Numbers),
-    /// Take out the numbers that are not below this one.
+    /// Remove the numbers that are not below this one.
     Truncate(SetName, usize),
-    /// Take out all numbers; the set keeps its length.
+    /// Remove all numbers; the set keeps its length.
     Empty(SetName),
-    /// Take out all numbers; the set has length 0.
+    /// Remove all numbers; the length of the set becomes 0.
     Reset(SetName),
-    /// Reserve capacity, so that numbers below this one go into a set without memory.
+    /// Reserve capacity, so that inserting numbers below this one into a set allocates nothing.
     Reserve(SetName, usize),
-    /// Reserve capacity, so that numbers below this one go into a set without memory, and no more.
+    /// Reserve exactly the capacity with which inserting numbers below this one into a set allocates nothing.
     ReserveExact(SetName, usize),
     /// Give back the capacity that a set does not need for its numbers.
     Shrink(SetName),
@@ -33,50 +33,50 @@ pub enum Command {
     IsEmpty(SetName),
     /// The numbers in a set.
     Items(SetName),
-    /// Make the second set hold what the first does.
+    /// Copy the first set to the second.
     Copy(SetName, SetName),
-    /// Make the first set what the two become: in either, in both, in the first alone, or in just one.
+    /// Set the first set to what is in either, in both, only in the first, or in exactly one.
     InPlace(Merge, SetName, SetName),
-    /// Put the numbers of the second set into the first, and take them out of the second.
+    /// Move the numbers of the second set into the first.
     Append(SetName, SetName),
-    /// Move the numbers that are not below this one from the first set to the second, in the place of what that held.
+    /// Move the numbers that are not below this one from the first set to the second, replacing what that held.
     SplitOff(SetName, usize, SetName),
-    /// What two sets become: in either, in both, in the first alone, or in just one.
+    /// What is in either set, in both, only in the first, or in exactly one.
     Walk(Merge, SetName, SetName),
     /// Whether each number of the first set is in the second.
     Subset(SetName, SetName),
     /// Whether each number of the second set is in the first.
     Superset(SetName, SetName),
-    /// Whether no number is in both sets.
+    /// Whether the two sets have no number in common.
     Disjoint(SetName, SetName),
     /// Whether two sets have the same numbers.
     Equal(SetName, SetName),
     /// How two sets compare, as the lists of their numbers in ascending order.
     Compare(SetName, SetName),
-    /// What is left of a walk over a set after so many of its numbers: how many, and which.
+    /// What is left of an iterator over a set after some of its numbers: how many, and which.
     RestIter(SetName, usize),
-    /// What is left of a walk over what two sets become after so many of its numbers: how many, and which.
+    /// What is left of an iterator over a merge of two sets after some of its numbers: how many, and which.
     RestWalk(Merge, SetName, SetName, usize),
 }
 
 /// What `run` returns for a command.
 #[derive(Debug, Drop, PartialEq, Eq)]
 pub enum Reply {
-    /// Yes or no: whether the set changed, or whether what was asked holds.
+    /// Whether the set changed, or the result of a test.
     Truth(bool),
     /// It is done.
     Done,
     /// How many.
     Number(usize),
-    /// The numbers of a set, or of what two sets become, ascending.
+    /// The numbers of a set, or of a merge of two sets, ascending.
     Items(Numbers),
     /// How two sets compare.
     Order(Ordering),
-    /// How many numbers are left of a walk, and which, ascending.
+    /// How many numbers an iterator has left, and which, ascending.
     Rest(usize, Numbers),
-    /// A number cannot be an element, and it is not put in.
+    /// A number cannot be an element, and is not inserted.
     Element,
-    /// A set cannot be copied or appended to itself, changed in place by itself or split off to itself, and
-    /// nothing changed.
+    /// A set cannot be copied or appended to itself, merged in place with itself or split off to itself; nothing
+    /// changed.
     Same,
 }

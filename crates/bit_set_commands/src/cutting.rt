@@ -5,8 +5,7 @@ ghost use Rattle.bit_set_commands.specs.Cuts.{Lacks};
 ghost use Rattle.bit_set_commands.specs.Lines.{lines_of};
 ghost use Rattle.bit_set_commands.specs.Words.{words_of, words_left};
 
-/// What is before the first such byte and what is after it; `None` where there is none. One scan, up to that
-/// byte.
+/// What is before the first such byte and what is after it; `None` if there is none. One scan, up to that byte.
 #[inline]
 pub(crate) fn split_once(text: &[u8], byte: u8) -> Option<(&[u8], &[u8])>
     ensures whole { IfNone result (Lacks byte text.now) }
@@ -17,7 +16,7 @@ pub(crate) fn split_once(text: &[u8], byte: u8) -> Option<(&[u8], &[u8])>
     Some((&text[..at], &text[at + 1..]))
 }
 
-/// The first line of the input, and what comes after it; `None` at an empty input.
+/// The first line of the input, and what comes after it; `None` for an empty input.
 #[inline]
 pub fn next_line(input: &[u8]) -> Option<(&[u8], &[u8])>
     ensures lines { MatchOption result
@@ -31,7 +30,7 @@ pub fn next_line(input: &[u8]) -> Option<(&[u8], &[u8])>
     Some(split_once(input, b'\n').unwrap_or((input, &[])))
 }
 
-/// The first word of the text, and what comes after the space behind it; `None` where there is no space.
+/// The first word of the text, and what comes after the space that follows it; `None` if there is no space.
 #[inline]
 pub(crate) fn first_word(text: &[u8]) -> (&[u8], Option<&[u8]>)
     ensures words { words_of text.now ≡ result.0.now ∷ words_left result.1 }

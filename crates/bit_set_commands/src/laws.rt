@@ -1,4 +1,4 @@
-//! What the definitions of the contracts come to, as facts that are proved of them.
+//! Consequences of the contracts' definitions, stated as proved facts.
 
 ghost use Rattle.std.specs.Prelude.{◌≡◌, ℕ, false, List, [], Contains, Ok, Err};
 ghost use Rattle.bit_set_commands.specs.declared.commands.Command.{Command};
@@ -8,26 +8,26 @@ ghost use Rattle.bit_set_commands.specs.Reading.{is_plain, reading};
 ghost use Rattle.bit_set_commands.specs.Spelling.{line_of, CanBeHad};
 ghost use Rattle.bit_set_commands.specs.Words.{words_of, AreWords};
 
-/// Every input has its lines, and has them in one way; an empty input has none.
+/// Every input is divided into lines in exactly one way; an empty input has none.
 pub fn lines_are_unique()
     ensures are { (input : List ℕ) → AreLines input (lines_of input) }
     ensures only { (input : List ℕ) (lines : List (List ℕ)) → AreLines input lines → lines ≡ lines_of input }
     ensures none { lines_of [] ≡ [] }
 {}
 
-/// Every line has its words, and has them in one way.
+/// Every line is divided into words in exactly one way.
 pub fn words_are_unique()
     ensures are { (line : List ℕ) → AreWords line (words_of line) }
     ensures only { (line : List ℕ) (words : List (List ℕ)) → AreWords line words → words ≡ words_of line }
 {}
 
-/// Each command has a line that is read as it.
+/// For each command there is a line that is read as that command.
 pub fn commands_are_read_back()
     ensures { (command : Command) → CanBeHad command → reading (line_of command) ≡ Ok command }
 {}
 
-/// A line with an empty word is a bad command, and so is one with a byte that no command has, as a byte 13,
-/// a tab or one that is not ASCII.
+/// A line with an empty word is a bad command, and so is one with a byte that occurs in no command, such as byte
+/// 13, a tab or one that is not ASCII.
 pub fn strange_lines_are_bad_commands()
     ensures empty_word { (line : List ℕ) → Contains (words_of line) [] → reading line ≡ Err BadCommand }
     ensures strange_byte { (line : List ℕ) (b : ℕ) → Contains line b → is_plain b ≡ false

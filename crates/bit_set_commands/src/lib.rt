@@ -1,4 +1,5 @@
-//! The commands of the program `bitset`: how a line is read as one, and how a reply is written. No set is in here.
+//! The commands of the program `bitset`: how a line is read as one, and how a reply is written. This crate has no
+//! sets.
 #![tactic(auto)]
 
 mod commands;

@@ -22,7 +22,7 @@ impl Model for SetName {
 }
 
 impl SetName {
-    /// The set that a letter names: `a` is the first, `p` the last, and no other byte names one.
+    /// The set that a letter names: `a` is the first, `p` the last, and no other byte names a set.
     #[inline]
     pub fn from_letter(letter: u8) -> Option<Self>
         ensures named { IsSome result ↔ (97 ≤ letter × letter ≤ 112) }

@@ -3,7 +3,7 @@ ghost use Rattle.std.specs.Prelude.{◌≡◌, ℕ, List};
 
 use std::marker::Model;
 
-/// A list of numbers, which a contract sees as that list alone.
+/// A list of numbers, which a contract sees as just that list.
 #[derive(Debug, Drop)]
 pub struct Numbers {
     items: Vec<usize>,
@@ -16,7 +16,7 @@ impl Model for Numbers {
 }
 
 impl Numbers {
-    /// The list that the vector holds. It keeps the vector, and takes no memory.
+    /// The list that the vector holds. Takes ownership of the vector, and allocates nothing.
     #[inline]
     pub fn from_vec(items: Vec<usize>) -> Self
         ensures { result ≡ items.items }

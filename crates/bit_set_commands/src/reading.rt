@@ -14,17 +14,17 @@ use crate::verbs::{SetWalk, Verb, verb_of, walk_of};
 use crate::{Command, Numbers, SetName};
 use std::alloc::{AllocError, Global};
 
-/// Why a line is no command.
+/// Why a line is not a command.
 #[derive(Clone, Copy, Debug, PartialEq, Eq)]
 pub enum BadLine {
     /// Its words spell no command.
     BadCommand,
-    /// They spell a command with a number that no `usize` holds.
+    /// They spell a command with a number that does not fit a `usize`.
     BadNumber,
 }
 
-/// The command that the line spells, or why it spells none. A word that does not fit is reported before a number too
-/// large, wherever in the line they are. One pass. Memory is taken for the numbers of an `extend` alone.
+/// The command that the line spells, or why it spells none. A word that does not fit is reported before a number
+/// too large, wherever in the line they are. One pass. Allocates only for the numbers of an `extend`.
 pub fn read_line(alloc: Global, line: &[u8]) -> Result<Result<Command, BadLine>, AllocError>
     ensures read { IfOk result (λ read. read ≡ reading line.now) }
     ensures memory { OnErr result

@@ -9,7 +9,7 @@ use itoa::Buffer;
 use std::alloc::AllocError;
 use std::cmp::Ordering;
 
-/// Appends the text of the reply. Fails only for memory, and may then have appended a part of it.
+/// Appends the text of the reply. Fails only if memory runs out, and may then have appended a part of it.
 pub fn append_reply(out: &mut Vec<u8>, reply: &Reply) -> Result<(), AllocError>
     ensures { OnOk result (out.new.items ≡ out.old.items ++ text_of reply.now) }
 {
@@ -28,7 +28,7 @@ pub fn append_reply(out: &mut Vec<u8>, reply: &Reply) -> Result<(), AllocError>
     }
 }
 
-/// The text of a line that is no command.
+/// The reply to a line that is not a command.
 pub fn bad_text(bad: BadLine) -> &'static [u8]
     ensures { result.now ≡ text_of_bad bad }
 {

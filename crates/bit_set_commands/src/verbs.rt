@@ -37,12 +37,12 @@ pub(crate) enum Verb {
     Rest,
 }
 
-/// A walk, of which `rest` says what is left.
+/// An iterator, of which `rest` says what is left.
 #[derive(Clone, Copy)]
 pub(crate) enum SetWalk {
     /// Over one set.
     One,
-    /// Over what two sets become.
+    /// Over a merge of two sets.
     Two(Merge),
 }
 

@@ -1,4 +1,4 @@
-//! What the definitions of the contracts come to, as facts that are proved of them.
+//! Consequences of the contracts' definitions, stated as proved facts.
 
 ghost use Rattle.std.specs.Prelude.{IfOk, OnOk, ◌≡◌, ℕ, List, [], ◌∷◌, codes, length, map, Err};
 ghost use Rattle.bit_set_commands.specs.declared.reading.BadLine.{BadLine};
@@ -14,7 +14,7 @@ pub use bit_set_commands::laws::{
 };
 use std::alloc::Global;
 
-/// What some inputs give, by the definitions alone: each line beside its reply.
+/// The output for some inputs, by the definitions alone: each line beside its reply.
 pub fn outputs_are_as_shown()
     ensures sets { Gives (
         ("insert a 3", "true") ∷
@@ -226,8 +226,8 @@ pub fn outputs_are_as_shown()
     ensures nothing { output [] ≡ [] }
 {}
 
-/// An output has a line for each line of its input: its reply, on the sets that the lines before it left.
-/// A bad line leaves them as they were.
+/// An output has a line for each line of its input: its reply, on the sets that the lines before it left. A bad
+/// line leaves the sets unchanged.
 pub fn each_line_has_one_reply()
     ensures as_many { (input : List ℕ) → length (lines_of (output input)) ≡ length (lines_of input) }
     ensures replies { (input : List ℕ)
@@ -237,8 +237,8 @@ pub fn each_line_has_one_reply()
     ensures bad { (sets : Sets) (bad : BadLine) → sets_after sets (Err bad) ≡ sets }
 {}
 
-/// The same commands on two tables with equal sets, over any two types of blocks: where memory is found, the
-/// replies are the same, those of the commands, and so are the sets afterwards.
+/// The same commands on two tables with equal sets, over any two block types: if allocations succeed, the replies
+/// are the same, those of the commands, and so are the sets afterwards.
 pub fn replies_agree<A: BitBlock, B: BitBlock>(
     alloc: Global,
     first: &mut Table<A>,

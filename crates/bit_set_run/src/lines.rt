@@ -11,9 +11,9 @@ use std::io::{Read, Write};
 /// Reads lines to the end of the reader, executes their commands on sixteen empty sets over blocks of type `B`, and
 /// writes a line for each.
 ///
-/// The whole output is made before any of it is written, and the writer is flushed behind it. At most 1,048,577 reads
+/// The whole output is made before any of it is written, and then the writer is flushed. At most 1,048,577 reads
 /// are made. At [`LinesFault::Read`], [`LinesFault::TooLarge`] and [`LinesFault::Memory`] nothing was written; at
-/// [`LinesFault::Write`] a beginning of the output may have been. No failed read or write is tried again.
+/// [`LinesFault::Write`] a prefix of the output may have been. No failed read or write is retried.
 ///
 /// ```
 /// let mut lines = b"insert a 3\nitems a\n".as_slice();

@@ -11,7 +11,8 @@ use bit_set::BitBlock;
 use bit_set_commands::{BadLine, append_reply, bad_text, next_line, read_line};
 use std::alloc::{AllocError, Global};
 
-/// What the program writes for the input: for each of its lines a text and a newline. An empty input takes no memory.
+/// What the program writes for the input: for each of its lines a text and a newline. For an empty input it
+/// allocates nothing.
 pub(crate) fn output<B: BitBlock>(alloc: Global, input: &[u8]) -> Result<Vec<u8>, AllocError>
     ensures text { IfOk result (λ text. text.items ≡ output input.now) }
     ensures fails { OnErr result (input.now ≢ []) }

@@ -1,4 +1,4 @@
-//! Commands that change a set by another.
+//! Commands that change a set by means of another.
 
 ghost use Rattle.std.specs.Prelude.{◌≡◌, map, IfOk, OnErr, OnOk};
 ghost use Rattle.bit_set_run.specs.Capacities.{ChangesCapacities, KeepsCapacities, PairCapacities};
@@ -12,7 +12,7 @@ use bit_set::{BitBlock, BitSet};
 use std::alloc::{AllocError, Global};
 use std::mem;
 
-/// What a command does to a set and another.
+/// What a command does to a set and another one.
 #[derive(Clone, Copy)]
 pub(crate) enum PairChange {
     /// The set becomes the other.
@@ -25,7 +25,7 @@ pub(crate) enum PairChange {
     SplitOff(usize),
 }
 
-/// A set is changed by another, where these are two. It is one command, over the sets themselves.
+/// Changes a set by means of another, which must be a different one. It is one command, over the sets themselves.
 pub(crate) fn change_by_another<B: BitBlock>(
     alloc: Global,
     sets: &mut [BitSet<B>; 16],

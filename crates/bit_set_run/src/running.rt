@@ -13,10 +13,11 @@ use thiserror::Error;
 /// Why a run of commands stopped.
 #[derive(Clone, Copy, Debug, PartialEq, Eq, Error)]
 pub enum RunFault {
-    /// Memory ran out at the command of this place, counted from 0. Those before it were executed and have replies.
+    /// Memory ran out at the command with this index, counted from 0. Those before it were executed and have
+    /// replies.
     ///
-    /// `usize::MAX` is the place of no command. [`run`] never returns it; `?` gives it to the [`AllocError`] or the
-    /// [`AllocFailed`] of another call.
+    /// `usize::MAX` is the index of no command. [`run`] never returns it; `?` uses it to convert the [`AllocError`]
+    /// or the [`AllocFailed`] of another call.
     #[error("memory refused")]
     Memory(usize),
 }
@@ -40,11 +41,11 @@ impl<T: Drop> From<AllocFailed<T>> for RunFault {
 /// Executes the commands on the table, one after another, and appends a reply for each.
 ///
 /// At [`RunFault::Memory`] the commands before the one named have been executed and have their replies. It and
-/// those after it have changed nothing, but that a [`Command::Extend`] has put in the items before the one that
-/// could not go in. A reply's capacity is reserved before its command runs: where there is capacity for the
-/// replies, only an insert, an extend, a copy, an operation in place, an append, a split off at a number above 0,
-/// capacity past all numbers of a set, and `Items`, a walk, a rest and a shrink that have a number to show or to
-/// keep can find no memory.
+/// those after it have changed nothing, except that a [`Command::Extend`] has inserted the items before the one
+/// that could not be inserted. A reply's capacity is reserved before its command runs: if there is capacity for the
+/// replies, memory can run out only in an insert, an extend, a copy, an operation in place, an append, a split off
+/// at a number above 0, a reservation past all numbers of a set, and in an `Items`, an iterator, a rest and a
+/// shrink that have a number to show or to keep.
 ///
 /// ```
 /// // `a` is the name of the first set.

@@ -17,8 +17,8 @@ pub struct Exit {
     pub text: &'static str,
 }
 
-/// Does what the program does: replies to the lines of the reader over the type of blocks that the word names, or
-/// over `u32` where there is no word.
+/// Does what the program does: replies to the lines of the reader, over the block type that the word names, or over
+/// `u32` if there is no word.
 ///
 /// | Status | When |
 /// |---|---|

@@ -10,7 +10,7 @@ use std::error::Error;
 use std::fmt;
 use std::io::{Read, Write};
 
-/// Why lines got no replies, or not all.
+/// Why lines got no replies, or not all of them.
 #[derive(Clone, Copy, Debug, PartialEq, Eq)]
 pub enum LinesFault {
     /// A read failed.
@@ -24,7 +24,7 @@ pub enum LinesFault {
 }
 
 impl LinesFault {
-    /// What the program says of it on standard error. Constant time.
+    /// What the program says about it on standard error. Constant time.
     ///
     /// ```
     /// assert_eq!(LinesFault::TooLarge.text(), "input too large");

@@ -25,7 +25,7 @@ impl<B: BitBlock> Model for Table<B> {
 }
 
 impl<B: BitBlock> Table<B> {
-    /// Sixteen empty sets. It takes no memory, and constant time.
+    /// Sixteen empty sets. Constant time, and allocates nothing.
     ///
     /// ```
     /// // `a` is the name of the first set.

@@ -1,4 +1,4 @@
-//! Sets by their names, and the walks over two of them, which may be one.
+//! Sets by their names, and the iterators over two of them, which may be the same.
 
 ghost use Rattle.std.specs.Prelude.{◌≡◌, ◌≢◌, [], drop, map, IfOk, OnErr};
 ghost use Rattle.bit_set.specs.Sets.{merge_of_sets};
@@ -43,7 +43,7 @@ pub(crate) fn walk<B: BitBlock>(
     }
 }
 
-/// What is left of a walk over what the sets become.
+/// What is left of an iterator over the merge of the sets.
 pub(crate) fn rest_of_walk<B: BitBlock>(
     alloc: Global,
     sets: &[BitSet<B>; 16],

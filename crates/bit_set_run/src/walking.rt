@@ -1,4 +1,4 @@
-//! Walks over numbers: all that is left of one, or what is left past some.
+//! Iterators over numbers: all that is left of one, or what is left after some.
 
 ghost use Rattle.std.specs.Prelude.{◌≡◌, ◌≢◌, ℕ, List, [], Option, drop, length, IfOk, OnErr};
 ghost use Rattle.std.specs.Iterator.{IsFinite, YieldsFirst};
@@ -10,11 +10,11 @@ use bit_set::bit_vec::operation::Operation;
 use bit_set::{BitBlock, Intersection, Iter, TwoSets};
 use std::alloc::{AllocError, Global};
 
-/// A walk over numbers, which comes to an end.
+/// An iterator over numbers that ends.
 pub(crate) trait NumberWalk: Iterator<Item = usize> {
     ghost left: { Self → List ℕ };
 
-    /// How many numbers are left, as a clone of the walk counts them.
+    /// How many numbers are left, as a clone of the iterator counts them.
     fn count_left(&self) -> usize
         ensures { result ≡ length (left self.now) };
 
@@ -79,7 +79,7 @@ fn numbers_of<W: NumberWalk>(alloc: Global, walk: W) -> Result<Numbers, AllocErr
     Ok(Numbers::from_vec(numbers))
 }
 
-/// All that is left of a walk.
+/// All that is left of an iterator.
 pub(crate) fn items<W: NumberWalk>(alloc: Global, walk: W) -> Result<Reply, AllocError>
     ensures reply { IfOk result (λ reply. reply ≡ Items (W.left walk)) }
     ensures fails { OnErr result (W.left walk ≢ []) }
@@ -96,7 +96,7 @@ fn pass_over<W: NumberWalk>(walk: &mut W, count: usize)
     }
 }
 
-/// What is left of a walk after so many of its numbers, or after all where there are fewer.
+/// What is left of an iterator after this many of its numbers, or after all if there are fewer.
 pub(crate) fn rest<W: NumberWalk>(
     alloc: Global,
     mut walk: W,

@@ -18,7 +18,7 @@ pub extern "C" fn bit_matrix_contains(matrix: &mut SharedMatrix, row: usize, col
     matrix.get().contains(row, column)
 }
 
-/// Puts the column into the row, and returns whether it was not in.
+/// Inserts the column into the row, and returns whether it was absent.
 #[unsafe(no_mangle)]
 pub extern "C" fn bit_matrix_insert(matrix: &mut ExclusiveMatrix, row: usize, column: usize) -> bool
     requires here { IsAt matrix.ref_ptr matrix.old.at }
@@ -34,7 +34,7 @@ pub extern "C" fn bit_matrix_insert(matrix: &mut ExclusiveMatrix, row: usize, co
     matrix.get().insert(row, column)
 }
 
-/// Takes the column out of the row, and returns whether it was in.
+/// Removes the column from the row, and returns whether it was present.
 #[unsafe(no_mangle)]
 pub extern "C" fn bit_matrix_remove(matrix: &mut ExclusiveMatrix, row: usize, column: usize) -> bool
     requires here { IsAt matrix.ref_ptr matrix.old.at }

@@ -27,8 +27,8 @@ fn copy_columns(matrix: &BitMatrix<Block>, row: usize, from: usize, columns: &mu
     done
 }
 
-/// Copies the columns that are in the row and are `from` or above, in ascending order and as many as there is room for,
-/// and returns how many.
+/// Copies the columns of the row that are `from` or above, in ascending order, as many as fit, and returns how
+/// many.
 #[unsafe(no_mangle)]
 pub extern "C" fn bit_matrix_copy_members(
     matrix: &mut SharedMatrix,
@@ -82,8 +82,8 @@ fn copy_row(matrix: &BitMatrix<Block>, row: usize, from: usize, blocks: &mut [Bl
     count
 }
 
-/// Copies the blocks of the row from one on, as many as there is room for, and returns how many. One step for each block,
-/// and one for each column that is in.
+/// Copies the blocks of the row from an index on, as many as fit, and returns how many. One step for each block,
+/// and one for each column that is present.
 #[unsafe(no_mangle)]
 pub extern "C" fn bit_matrix_copy_blocks(
     matrix: &mut SharedMatrix,

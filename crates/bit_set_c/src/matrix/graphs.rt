@@ -9,7 +9,7 @@ use crate::matrix::making::boxed_matrix;
 use graph_walks::{dominators, reflexive_transitive_closure, transitive_closure};
 use std::alloc::Global;
 
-/// Makes each row the set of the nodes to which a path of at least one edge leads from it.
+/// Sets each row to the nodes to which a path of at least one edge leads from it.
 #[unsafe(no_mangle)]
 pub extern "C" fn bit_matrix_transitive_closure(matrix: &mut ExclusiveMatrix)
     requires here { IsAt matrix.ref_ptr matrix.old.at }
@@ -22,7 +22,7 @@ pub extern "C" fn bit_matrix_transitive_closure(matrix: &mut ExclusiveMatrix)
     transitive_closure(matrix.get());
 }
 
-/// Makes each row the set of the nodes to which a path of any number of edges leads from it, also of none.
+/// Sets each row to the nodes to which a path of any number of edges, including none, leads from it.
 #[unsafe(no_mangle)]
 pub extern "C" fn bit_matrix_reflexive_transitive_closure(matrix: &mut ExclusiveMatrix)
     requires here { IsAt matrix.ref_ptr matrix.old.at }
@@ -35,8 +35,8 @@ pub extern "C" fn bit_matrix_reflexive_transitive_closure(matrix: &mut Exclusive
     reflexive_transitive_closure(matrix.get());
 }
 
-/// The dominators of each node: row `v` has the node `d` exactly where every path from `entry` to `v` goes through `d`;
-/// or none, as of `bit_matrix_new` of as many columns as there are rows.
+/// The dominators of each node: row `v` has the node `d` exactly where every path from `entry` to `v` goes through
+/// `d`; or none where `bit_matrix_new` makes none for as many columns as rows.
 #[unsafe(no_mangle)]
 pub extern "C" fn bit_matrix_dominators(
     alloc: Global,

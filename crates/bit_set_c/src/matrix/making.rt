@@ -26,8 +26,8 @@ pub(crate) fn boxed_matrix(alloc: Global, out: &mut OwnedMatrix, matrix: BitMatr
     }
 }
 
-/// So many rows with nothing in them, or none where there is no memory or the rows, each at whole blocks, have more bits
-/// than a `usize` counts.
+/// A matrix of this many empty rows, or none if memory runs out or the rows, each in whole blocks, have more bits
+/// than a `usize` can count.
 #[unsafe(no_mangle)]
 pub extern "C" fn bit_matrix_new(
     alloc: Global,
@@ -46,8 +46,8 @@ pub extern "C" fn bit_matrix_new(
     }
 }
 
-/// So many rows that each have the members of the set, and as many columns as the set's length; or none, as of
-/// `bit_matrix_new`.
+/// A matrix of this many rows, each with the members of the set, and as many columns as the set's length; or none
+/// where `bit_matrix_new` makes none.
 #[unsafe(no_mangle)]
 pub extern "C" fn bit_matrix_from_set(
     alloc: Global,
@@ -70,7 +70,7 @@ pub extern "C" fn bit_matrix_from_set(
     }
 }
 
-/// A matrix of its own with the same rows, or none where there is no memory.
+/// A separate matrix with the same rows, or none if memory runs out.
 #[unsafe(no_mangle)]
 pub extern "C" fn bit_matrix_clone(
     alloc: Global,
@@ -89,7 +89,8 @@ pub extern "C" fn bit_matrix_clone(
     }
 }
 
-/// The matrix that has a row for each column, and in it the rows that have that column; or none, as of `bit_matrix_new`.
+/// The matrix that has a row for each column, with the rows that have that column; or none where `bit_matrix_new`
+/// makes none.
 #[unsafe(no_mangle)]
 pub extern "C" fn bit_matrix_transpose(
     alloc: Global,
@@ -111,7 +112,7 @@ pub extern "C" fn bit_matrix_transpose(
     }
 }
 
-/// The set of the columns that are in the row, of a length of all columns, or none where there is no memory.
+/// The set of the columns of the row, with the number of columns as its length, or none if memory runs out.
 #[unsafe(no_mangle)]
 pub extern "C" fn bit_matrix_row_to_set(
     alloc: Global,
@@ -136,7 +137,7 @@ pub extern "C" fn bit_matrix_row_to_set(
     }
 }
 
-/// Gives the memory of a matrix back; of none there is nothing to do.
+/// Gives the memory of a matrix back; does nothing for a null pointer.
 #[unsafe(no_mangle)]
 pub extern "C" fn bit_matrix_free(matrix: OwnedMatrix) {
     matrix.free();

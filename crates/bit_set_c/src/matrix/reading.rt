@@ -53,7 +53,7 @@ fn count_rows(matrix: &BitMatrix<Block>) -> usize
     count
 }
 
-/// How many columns are in all rows together, `usize::MAX` where they are as many or more.
+/// How many columns are in all rows together, or `usize::MAX` if that is less.
 #[unsafe(no_mangle)]
 pub extern "C" fn bit_matrix_count_all(matrix: &mut SharedMatrix) -> usize
     requires here { IsAt matrix.ref_ptr matrix.old.at }
@@ -63,7 +63,7 @@ pub extern "C" fn bit_matrix_count_all(matrix: &mut SharedMatrix) -> usize
     count_rows(matrix.get())
 }
 
-/// The least column that is in the row and is `from` or above, or `usize::MAX` where there is none.
+/// The least column of the row that is `from` or above, or `usize::MAX` if there is none.
 #[unsafe(no_mangle)]
 pub extern "C" fn bit_matrix_next(matrix: &mut SharedMatrix, row: usize, from: usize) -> usize
     requires here { IsAt matrix.ref_ptr matrix.old.at }
@@ -78,7 +78,7 @@ pub extern "C" fn bit_matrix_next(matrix: &mut SharedMatrix, row: usize, from: u
     or_max(matrix.iter_from(row, from).next())
 }
 
-/// Whether each column of the first row is in the other.
+/// Whether each column of the first row is in the second.
 #[unsafe(no_mangle)]
 pub extern "C" fn bit_matrix_is_subset_row(
     matrix: &mut SharedMatrix,
@@ -95,7 +95,7 @@ pub extern "C" fn bit_matrix_is_subset_row(
     matrix.get().is_subset_row(row, other)
 }
 
-/// Whether no column is in both rows.
+/// Whether the two rows have no column in common.
 #[unsafe(no_mangle)]
 pub extern "C" fn bit_matrix_is_disjoint_row(
     matrix: &mut SharedMatrix,
@@ -112,7 +112,7 @@ pub extern "C" fn bit_matrix_is_disjoint_row(
     matrix.get().is_disjoint_row(row, other)
 }
 
-/// Whether both matrices have as many columns and the same rows.
+/// Whether both matrices have equally many columns and the same rows.
 #[unsafe(no_mangle)]
 pub extern "C" fn bit_matrix_equals(matrix: &mut SharedMatrix, other: &mut SharedMatrix) -> bool
     requires here { IsAt matrix.ref_ptr matrix.old.at }

@@ -7,7 +7,7 @@ ghost use Rattle.bit_set_c.specs.Handed.{IsAt};
 
 use crate::handed::{ExclusiveMatrix, Shared};
 
-/// Puts what is in the row `read` into the row `write`, and returns whether some of it was not in.
+/// Inserts the columns of the row `read` into the row `write`, and returns whether any of them was absent.
 #[unsafe(no_mangle)]
 pub extern "C" fn bit_matrix_union_rows(
     matrix: &mut ExclusiveMatrix,
@@ -28,7 +28,7 @@ pub extern "C" fn bit_matrix_union_rows(
     matrix.get().union_rows(read, write)
 }
 
-/// Keeps in the row `write` what is in the row `read` too, and returns whether something was not.
+/// Keeps in the row `write` the columns that the row `read` has too, and returns whether it removed any.
 #[unsafe(no_mangle)]
 pub extern "C" fn bit_matrix_intersect_rows(
     matrix: &mut ExclusiveMatrix,
@@ -49,7 +49,7 @@ pub extern "C" fn bit_matrix_intersect_rows(
     matrix.get().intersect_rows(read, write)
 }
 
-/// Takes out of the row `write` what is in the row `read`, and returns whether some of it was in.
+/// Removes the columns of the row `read` from the row `write`, and returns whether any of them was present.
 #[unsafe(no_mangle)]
 pub extern "C" fn bit_matrix_difference_rows(
     matrix: &mut ExclusiveMatrix,
@@ -70,8 +70,8 @@ pub extern "C" fn bit_matrix_difference_rows(
     matrix.get().difference_rows(read, write)
 }
 
-/// Puts the members of the set, each of which is below the number of columns, into the row, and returns whether one of
-/// them was not in.
+/// Inserts the members of the set, each of which must be below the number of columns, into the row, and returns
+/// whether any of them was absent.
 #[unsafe(no_mangle)]
 pub extern "C" fn bit_matrix_union_row_with(
     matrix: &mut ExclusiveMatrix,
@@ -94,7 +94,7 @@ pub extern "C" fn bit_matrix_union_row_with(
     matrix.get().union_row_with(set.get(), row)
 }
 
-/// Puts the columns of the range into the row; none where the range is empty.
+/// Inserts the columns of the range into the row; none if the range is empty.
 #[unsafe(no_mangle)]
 pub extern "C" fn bit_matrix_insert_range(
     matrix: &mut ExclusiveMatrix,
@@ -114,7 +114,7 @@ pub extern "C" fn bit_matrix_insert_range(
     matrix.get().insert_range(row, start..end);
 }
 
-/// Puts each column into the row.
+/// Inserts every column into the row.
 #[unsafe(no_mangle)]
 pub extern "C" fn bit_matrix_fill_row(matrix: &mut ExclusiveMatrix, row: usize)
     requires here { IsAt matrix.ref_ptr matrix.old.at }
@@ -127,7 +127,7 @@ pub extern "C" fn bit_matrix_fill_row(matrix: &mut ExclusiveMatrix, row: usize)
     matrix.get().fill_row(row);
 }
 
-/// Takes each column out of the row.
+/// Removes every column from the row.
 #[unsafe(no_mangle)]
 pub extern "C" fn bit_matrix_clear_row(matrix: &mut ExclusiveMatrix, row: usize)
     requires here { IsAt matrix.ref_ptr matrix.old.at }
