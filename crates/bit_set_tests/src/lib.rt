@@ -1,4 +1,4 @@
-//! The tests of `bit_set` but for those of `bit_set_walk_tests`, by its public calls alone.
+//! The tests of `bit_set` except those of `bit_set_walk_tests`, using only its public calls.
 #![tactic(auto)]
 
 #[cfg(test)]

@@ -1,5 +1,5 @@
-//! A block of 24 bits over a `u32`: a lawful block whose width is no power of two and not that of
-//! the type below it. For tests alone.
+//! A block of 24 bits over a `u32`: a lawful block whose width is not a power of two, and less than that of the
+//! type below it. Only for tests.
 #![tactic(auto)]
 
 ghost use Rattle.std.specs.Prelude.{◌≡◌, ◌+◌, ◌-◌, ◌^◌, ◌<◌, ◌≤◌, refl, bit_and, bit_or, bit_xor};

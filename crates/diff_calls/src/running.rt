@@ -275,8 +275,8 @@ fn copy_words(words: &[usize], places: &mut [usize]) {
     }
 }
 
-/// Runs a script over blocks of so many bits, or of `usize` where that is 0. Returns how many words its calls return,
-/// and writes those that find a place; `usize::MAX` where it finds no memory.
+/// Runs a script over blocks of this many bits, or of `usize` if that is 0. Returns how many words its calls
+/// return, and writes those that fit; `usize::MAX` if memory runs out.
 #[unsafe(no_mangle)]
 pub extern "C" fn diff_run(
     alloc: Global,
@@ -300,7 +300,7 @@ pub extern "C" fn diff_run(
     answers.words().len()
 }
 
-/// The same of a script on matrices.
+/// The same for a script on matrices.
 #[unsafe(no_mangle)]
 pub extern "C" fn diff_run_matrices(
     alloc: Global,

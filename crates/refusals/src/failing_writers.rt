@@ -49,8 +49,8 @@ fn pieces<B: BitBlock>(text: Text, set: &BitSet<B>) -> usize {
     if is_right { count } else { 0 }
 }
 
-/// Whether Display of the set, and Debug of it and of its bit vector, come in pieces and each fail just where their
-/// formatter does.
+/// Whether Display of the set, and Debug of it and of its bit vector, write in pieces and each fail exactly where
+/// their formatter does.
 pub fn of_set<B: BitBlock>(set: &BitSet<B>) -> [usize; 6] {
     [
         usize::from(pieces(Text::Set, set) > 1),

@@ -20,8 +20,8 @@ pub trait Work: Copy {
     fn turn(self, alloc: Global, sets: &mut Sets, n: usize) -> Result<usize, Fault>;
 }
 
-/// Does the work so many times, and adds up what it returns. Before each turn 1 is removed: if nothing wrote to the set,
-/// the compiler could make the call once for all turns.
+/// Does the work this many times, and adds up what it returns. Before each turn 1 is removed: if nothing wrote to
+/// the set, the compiler could make the call once for all turns.
 pub fn turns_of<W: Work>(
     alloc: Global,
     work: W,

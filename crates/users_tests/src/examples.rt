@@ -1,4 +1,5 @@
-//! The examples of the doc comments of the libraries that use sets, as they are there but for `expect`, which costs less.
+//! The examples of the doc comments of the libraries that use sets, as they are there except for `expect`, which
+//! costs less.
 use crate::expect::{expect, expect_eq, ok};
 use automata::{Dfa, DfaError, Nfa, accepts, determinize, equivalent};
 use bit_matrix::{BitMatrix, MatrixError};

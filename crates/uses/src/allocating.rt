@@ -6,8 +6,8 @@ ghost use Rattle.bit_set.specs.Sets.{elements, has};
 
 use bit_set::{BitBlock, BitSet, SetError};
 
-/// Takes the lowest free number below `limit` into use and gives it, or None where all of them are in use.
-/// On an error nothing changed; a capacity of `limit` rules errors out.
+/// Takes the lowest free number below `limit` into use and returns it, or None if all of them are in use. On an
+/// error nothing changed; a capacity of `limit` rules errors out.
 pub fn take_lowest<B: BitBlock>(
     used: &mut BitSet<B>,
     limit: usize,
@@ -30,8 +30,8 @@ pub fn take_lowest<B: BitBlock>(
     Ok(Some(id))
 }
 
-/// Claims the first `count` free pages in a row that end by `limit`, and gives the first of them; None where there are no
-/// such pages. Where it claims none, the pages stay as they were.
+/// Claims the first `count` free pages in a row that end by `limit`, and returns the first of them; None if there
+/// are no such pages, and then the pages are unchanged.
 pub fn claim_run<B: BitBlock>(
     used: &mut BitSet<B>,
     count: usize,

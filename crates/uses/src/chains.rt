@@ -23,7 +23,7 @@ pub fn any_from<B: BitBlock>(set: &BitSet<B>, n: usize) -> bool
     set.iter().any(|x| n <= x)
 }
 
-/// Puts the numbers of a row in.
+/// Inserts the numbers of a row.
 pub fn put_row<B: BitBlock>(set: &mut BitSet<B>, row: &[usize]) -> Result<(), SetError>
     ensures { OnOk result (IsUnion (elements set.old.values) row.now (elements set.new.values)) }
 {
@@ -89,7 +89,7 @@ pub fn is_union<B: BitBlock>(a: &BitSet<B>, b: &BitSet<B>, whole: &BitSet<B>) ->
     a.union(b).eq(whole.iter())
 }
 
-/// The least of a that is not in b.
+/// The least member of a that is not in b.
 pub fn first_without<B: BitBlock>(a: &BitSet<B>, b: &BitSet<B>) -> Option<usize>
     ensures some { IfSome result (λ x. IsTrue (has (elements a.now.values) x)
         × (has (elements b.now.values) x ≡ false)

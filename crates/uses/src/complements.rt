@@ -1,11 +1,11 @@
-//! What is not in a set.
+//! Absent numbers.
 ghost use Rattle.std.specs.Prelude.{◌≡◌, ℕ, ◌+◌, ◌&&◌, length, nat_le, nat_lt, not, IfOk};
 ghost use Rattle.bit_set.specs.Sets.{elements, has, those_below, IsAscending};
 
 use bit_set::{BitBlock, BitSet, SetError};
 use std::alloc::{AllocError, Global};
 
-/// What is below `n` and not in the set.
+/// The numbers below `n` that are not in the set.
 pub fn complement_below<B: BitBlock>(
     alloc: Global,
     set: &BitSet<B>,
@@ -37,7 +37,7 @@ pub fn absent<B: BitBlock>(
     Ok(set)
 }
 
-/// The ports from `low` on and below `high` that are not in use, in ascending order.
+/// The ports from `low` up to `high` that are not in use, in ascending order.
 pub fn free_ports<B: BitBlock>(
     alloc: Global,
     used: &BitSet<B>,

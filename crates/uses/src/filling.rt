@@ -1,4 +1,4 @@
-//! Sets that are filled, and out of which numbers are taken.
+//! Sets that are filled, and from which numbers are removed.
 ghost use Rattle.std.specs.Prelude.{◌≡◌, ℕ, ◌+◌, ◌%◌, ◌<◌, ◌≤◌, ◌==◌, ◌&&◌, ◌||◌, nat_le, nat_lt, not, IfOk};
 ghost use Rattle.std.specs.List.{list_any};
 ghost use Rattle.bit_set.specs.Sets.{elements, has};
@@ -6,7 +6,7 @@ ghost use Rattle.bit_set.specs.Sets.{elements, has};
 use bit_set::{BitBlock, BitSet, SetError};
 use std::alloc::Global;
 
-/// The numbers below `n`, but for those from `low` on and below `high`.
+/// The numbers below `n`, except those from `low` up to `high`.
 pub fn with_hole<B: BitBlock>(
     alloc: Global,
     n: usize,
@@ -22,7 +22,7 @@ pub fn with_hole<B: BitBlock>(
     Ok(set)
 }
 
-/// Takes out each number of another set, and the one after it.
+/// Removes each number of another set, and the one after it.
 pub fn remove_pairs<B: BitBlock>(set: &mut BitSet<B>, firsts: &BitSet<B>)
     ensures { (x : ℕ) → has (elements set.new.values) x ≡ (has (elements set.old.values) x
         && not (list_any (λ first. first == x || first + 1 == x) (elements firsts.now.values))) }
@@ -33,7 +33,7 @@ pub fn remove_pairs<B: BitBlock>(set: &mut BitSet<B>, firsts: &BitSet<B>)
     }
 }
 
-/// Takes the multiples of `step` below `end` out.
+/// Removes the multiples of `step` below `end`.
 #[tactic(auto, using(bit_set::proofs::CallerLemmas::steps))]
 pub fn remove_multiples<B: BitBlock>(set: &mut BitSet<B>, step: usize, end: usize)
     requires step { 0 < step }

@@ -4,7 +4,7 @@ ghost use Rattle.bit_set.specs.Sets.{elements, has};
 
 use bit_set::{BitBlock, BitSet, SetError};
 
-/// Keeps what the other has too.
+/// Keeps the members that the other set has too.
 pub fn keep_common<A: BitBlock, B: BitBlock>(set: &mut BitSet<A>, other: &BitSet<B>)
     ensures { (x : ℕ) → has (elements set.new.values) x
         ≡ (has (elements set.old.values) x && has (elements other.now.values) x) }
@@ -12,7 +12,7 @@ pub fn keep_common<A: BitBlock, B: BitBlock>(set: &mut BitSet<A>, other: &BitSet
     set.retain(|x| other.contains(x));
 }
 
-/// Parts the members by a test.
+/// Splits the members by a test.
 pub fn part<B: BitBlock>(
     set: &BitSet<B>,
     even: &mut BitSet<B>,

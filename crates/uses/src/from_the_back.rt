@@ -1,4 +1,4 @@
-//! Members from the greatest on.
+//! Members in descending order.
 ghost use Rattle.std.specs.Prelude.{◌≡◌, ℕ, ◌<◌, ◌≤◌, false, length, min, reverse, take, IfOk, IsTrue, MatchOption};
 ghost use Rattle.bit_set.specs.Members.{IsSubset};
 ghost use Rattle.bit_set.specs.Sets.{elements, has};
@@ -17,7 +17,7 @@ pub fn greatest_k<B: BitBlock>(
     set.iter().rev().take(k).collect(alloc)
 }
 
-/// The greatest member below `n`, or None where no member is below it.
+/// The greatest member below `n`, or None if no member is below it.
 pub fn last_below<B: BitBlock>(set: &BitSet<B>, n: usize) -> Option<usize>
     ensures { MatchOption result
         ((x : ℕ) → IsTrue (has (elements set.now.values) x) → n ≤ x)
@@ -32,7 +32,7 @@ pub fn last_below<B: BitBlock>(set: &BitSet<B>, n: usize) -> Option<usize>
     None
 }
 
-/// Takes the greatest member out, again and again, until no more than `most` are left.
+/// Removes the greatest member, again and again, until no more than `most` are left.
 pub fn keep_least<B: BitBlock>(set: &mut BitSet<B>, most: usize)
     ensures count { length (elements set.new.values) ≡ min most (length (elements set.old.values)) }
     ensures kept { IsSubset (elements set.new.values) (elements set.old.values) }

@@ -1,4 +1,4 @@
-//! Loops over sets. Each is proved by its invariant alone, but for those with an `Answers.antt` in `proofs/`.
+//! Loops over sets. Each needs only its invariant, except those with an `Answers.antt` in `proofs/`.
 ghost use Rattle.std.specs.Prelude.{◌≡◌, ℕ, ◌+◌, ◌^◌, ◌<◌, ◌≤◌, ◌↔◌, length, slice_index_or, sum, IfNone, IfOk, IfSome, IsTrue, OnOk};
 ghost use Rattle.bit_set.specs.Members.{IsUnion};
 ghost use Rattle.bit_set.specs.Sets.{elements, has};
@@ -6,7 +6,7 @@ ghost use Rattle.bit_set.specs.Sets.{elements, has};
 use bit_set::{BitBlock, BitSet, SetError};
 use std::alloc::Global;
 
-/// The sum of the members, where it fits a `usize`.
+/// The sum of the members, if it fits a `usize`.
 pub fn sum_of_members<B: BitBlock>(set: &BitSet<B>) -> Option<usize>
     ensures some { IfSome result (λ total. total ≡ sum (elements set.now.values)) }
     ensures none { IfNone result (2 ^ 64 ≤ sum (elements set.now.values)) }
@@ -30,7 +30,7 @@ pub fn all_below<B: BitBlock>(set: &BitSet<B>, n: usize) -> bool
     true
 }
 
-/// Puts the members of another set in, which may have another block type.
+/// Inserts the members of another set, which may have another block type.
 #[tactic(auto, using(std::proofs::lemmas::Bool::Decides::nat_tests))]
 pub fn insert_members<A: BitBlock, B: BitBlock>(
     set: &mut BitSet<A>,
@@ -44,7 +44,7 @@ pub fn insert_members<A: BitBlock, B: BitBlock>(
     Ok(())
 }
 
-/// Whether some member has the number after it in the set too.
+/// Whether the number after some member is a member too.
 #[tactic(auto, using(bit_set::proofs::CallerLemmas::set_steps))]
 pub fn has_neighbours<B: BitBlock>(set: &BitSet<B>) -> bool
     ensures { IsTrue result ↔ ((m : ℕ) × IsTrue (has (elements set.now.values) m)

@@ -9,7 +9,7 @@ use bit_matrix::{BitBlock, BitMatrix};
 use bit_set::BitSet;
 use std::alloc::{AllocError, Global};
 
-/// Takes the column out of each row.
+/// Removes the column from each row.
 pub fn remove_column<B: BitBlock>(matrix: &mut BitMatrix<B>, column: usize)
     requires { column < matrix.old.columns }
     ensures members { (r c : ℕ) → r < length matrix.old.rows

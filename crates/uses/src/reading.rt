@@ -7,7 +7,7 @@ ghost use Rattle.bit_set.specs.Sets.{elements, has};
 use bit_set::{BitBlock, BitSet, SetError};
 use std::alloc::Global;
 
-/// The set that its bytes spell.
+/// The set that its bytes represent.
 pub fn through_bytes<B: BitBlock>(alloc: Global, set: &BitSet<B>) -> Result<BitSet<u32>, SetError>
     ensures { IfOk result (λ copy. IsSameSet (elements copy.values) (elements set.now.values)) }
 {
@@ -15,7 +15,7 @@ pub fn through_bytes<B: BitBlock>(alloc: Global, set: &BitSet<B>) -> Result<BitS
     BitSet::from_bytes(alloc, &bytes)
 }
 
-/// Puts a number in, and returns the bytes: the bits that are 1 are those of the members.
+/// Inserts a number, and returns the bytes: the bits that are 1 are those of the members.
 pub fn bytes_with<B: BitBlock>(
     alloc: Global,
     set: &mut BitSet<B>,
@@ -28,7 +28,7 @@ pub fn bytes_with<B: BitBlock>(
     Ok(set.to_bytes(alloc)?)
 }
 
-/// Puts all of the numbers in, or none.
+/// Inserts all of the numbers, or none.
 pub fn insert_all<B: BitBlock>(set: &mut BitSet<B>, items: &[usize]) -> Result<(), SetError>
     ensures ok { OnOk result (IsUnion (elements set.old.values) items.now (elements set.new.values)) }
     ensures err { OnErr result (elements set.new.values ≡ elements set.old.values) }

@@ -1,4 +1,5 @@
-//! Loops to a fixed point: each number leads to what is in its row, and a set is to have all to which its members lead.
+//! Loops to a fixed point: each number leads to those in its row, and the set gets everything to which its members
+//! lead.
 ghost use Rattle.std.specs.Prelude.{◌≡◌, ◌+◌, ◌<◌, ◌≤◌, ◌^◌, if◌then◌else◌, false, true, IfOk, IsTrue, OnErr, OnOk, length, slice_index_or};
 ghost use Rattle.bit_set.specs.Bits.{Bits};
 ghost use Rattle.bit_set.specs.Members.{HasNone, IsSubset, IsUnion, IsUnionWithDifference};
@@ -80,9 +81,10 @@ fn take_all<B: BitBlock>(
     Ok(())
 }
 
-/// Puts in all to which the members lead, by a set of those whose rows are still to come: the least set that has what was
-/// in, and with each member what is in its row. Fails only where memory runs out, for the copy of the set or at a row that
-/// is longer than the capacity of the set or of the copy; the set then has what it had and part of what it was to have.
+/// Inserts everything to which the members lead, by a set of those whose rows are still to come: the result is the
+/// least set that has the old members, and with each member its row. Fails only if memory runs out, for the copy of
+/// the set or at a row that is longer than the capacity of the set or of the copy; the set then has its old members
+/// and part of the new ones.
 pub fn reach_by_rows<B: BitBlock>(
     alloc: Global,
     set: &mut BitSet<B>,
@@ -136,9 +138,9 @@ fn take_in_rows<B: BitBlock>(set: &mut BitSet<B>, rows: &[BitSet<B>]) -> Result<
     Ok(grew)
 }
 
-/// The same, by rounds over all rows until one changes nothing. It takes no memory but for the set itself, and fails only
-/// where that runs out, at a row that is longer than the capacity of the set; the set then has what it had and part of what
-/// it was to have.
+/// The same result, by rounds over all rows until one changes nothing. Allocates only for the set itself, and fails
+/// only if memory runs out, at a row that is longer than the capacity of the set; the set then has its old members
+/// and part of the new ones.
 pub fn close_by_rows<B: BitBlock>(set: &mut BitSet<B>, rows: &[BitSet<B>]) -> Result<(), AllocError>
     ensures more { IsSubset (elements set.old.values) (elements set.new.values) }
     ensures closed { OnOk result (IsClosed rows.now (elements set.new.values)) }

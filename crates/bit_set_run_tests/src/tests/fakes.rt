@@ -1,4 +1,4 @@
-//! Readers and writers that go in pieces, count their calls and fail where they are told to.
+//! Readers and writers that work in pieces, count their calls and fail where a test wants it.
 
 use std::io;
 use std::io::{ErrorKind, Read, Write};

@@ -1,4 +1,4 @@
-//! Words that automata are asked for.
+//! Words that are given to automata.
 use super::edges::{Edges, automaton};
 use crate::expect::{expect, ok};
 use automata::{Dfa, DfaError, Nfa, accepts, determinize};
