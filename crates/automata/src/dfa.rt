@@ -73,7 +73,8 @@ impl<B: BitBlock> Dfa<B> {
         }
     }
 
-    // Where the symbol leads from the state: to `states` where it is none of the symbols, and from `states` itself.
+    // Where the symbol leads from the state: to `states` if it is none of the symbols, and also from `states`
+    // itself.
     pub(crate) fn step(&self, state: usize, symbol: usize) -> usize
         ensures value { result ≡ step_of self.now state symbol }
         ensures inside { result ≤ self.now.states }
@@ -93,7 +94,7 @@ impl<B: BitBlock> Dfa<B> {
     }
 }
 
-// The state to which the word leads from state 0, or `None` where one of its symbols is no symbol of the table.
+// The state to which the word leads from state 0, or `None` if one of its symbols is not in the table.
 fn end_of(next: &[usize], states: usize, symbols: usize, word: &[usize]) -> Option<usize>
     requires { IsTable states symbols next.now }
     ensures outside { IfNone result (¬ IsWordOver symbols word.now) }

@@ -53,8 +53,8 @@ pub fn equivalent<B: BitBlock>(
     Ok(None)
 }
 
-// A matrix with nothing in it that has a row for each state of the one automaton and a column for each of the other,
-// where each has one state more than these.
+// An empty matrix with a row for each state of one automaton and a column for each of the other, and one more of
+// each.
 fn no_pairs<B: BitBlock>(
     alloc: Global,
     left: usize,
@@ -100,7 +100,7 @@ fn first_pairs<B: BitBlock>(
     Ok(queue)
 }
 
-// The pairs to which symbols lead from one pair, at the end of the queue where they were not met before.
+// Adds to the queue the pairs to which symbols lead from one pair, if they were not met before.
 fn add_successors<B: BitBlock>(
     a: &Dfa<B>,
     b: &Dfa<B>,
@@ -130,7 +130,7 @@ fn add_successors<B: BitBlock>(
     Ok(())
 }
 
-// The pair at the end of the queue, where it was not met before.
+// Adds the pair to the queue, if it was not met before.
 fn add<B: BitBlock>(
     pair: Pair,
     queue: &mut Vec<Pair>,

@@ -25,7 +25,7 @@ impl From<AllocError> for DfaError {
     }
 }
 
-// So that `?` serves a push to a `Vec` and an insert into a map as well.
+// So that `?` also works for a push to a `Vec` and an insert into a map.
 impl<T: Drop> From<AllocFailed<T>> for DfaError {
     ghost use Rattle.automata.specs.declared.fault.DfaError.TheVariants.{Memory};
 

@@ -1,4 +1,4 @@
-// Automata without determinism.
+// Nondeterministic automata.
 ghost use Rattle.std.specs.Prelude.{◌≡◌, ◌≤◌, ◌↔◌, ℕ, IfOk, IsOk, IsTrue, OnOk, length};
 ghost use Rattle.bit_set.specs.Sets.{elements};
 ghost use Rattle.automata.specs.Bounds.{AreWithin, IsLongest, IsRowWithin};
@@ -94,7 +94,7 @@ impl<B: BitBlock> Nfa<B> {
         self.longest
     }
 
-    // Makes `into` the set of the states to which the symbol leads from those in `states`.
+    // Sets `into` to the states to which the symbol leads from those in `states`.
     pub(crate) fn step(
         &self,
         symbol: usize,
@@ -133,7 +133,7 @@ pub fn accepts<B: BitBlock>(alloc: Global, nfa: &Nfa<B>, word: &[usize]) -> Resu
     Ok(!states.is_disjoint(&nfa.accepting))
 }
 
-// Follows the word from a set of states, each symbol by one step. Takes no memory.
+// Follows the word from a set of states, one step for each symbol. Allocates nothing.
 fn follow<B: BitBlock>(
     moves: &[Vec<BitSet<B>>],
     word: &[usize],

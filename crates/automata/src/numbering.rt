@@ -59,7 +59,7 @@ impl<B: BitBlock> Numbering<B> {
         &self.sets[number]
     }
 
-    // The number of the set, which is the next one where it was not met before, if that is below `most`.
+    // The number of the set; if it was not met before, this is the next number, provided that it is below `most`.
     pub(crate) fn number_of(
         &mut self,
         alloc: Global,

@@ -7,8 +7,8 @@ ghost use Rattle.automata.specs.Runs.{IsImage, row_of, row_of_sets, rows_of_sets
 use bit_set::{BitBlock, BitSet};
 use std::alloc::AllocError;
 
-// Makes `into` the set of the states to which the symbol leads from those in `states`. Takes memory only where `into`
-// has not the capacity for each set of the row.
+// Sets `into` to the states to which the symbol leads from those in `states`. Allocates only if `into` lacks the
+// capacity for each set of the row.
 pub(crate) fn step<B: BitBlock>(
     moves: &[Vec<BitSet<B>>],
     symbol: usize,
@@ -29,7 +29,7 @@ pub(crate) fn step<B: BitBlock>(
     }
 }
 
-// Makes `into` the set of the states to which the row leads from those in `states`.
+// Sets `into` to the states to which the row leads from those in `states`.
 fn image<B: BitBlock>(
     row: &[BitSet<B>],
     states: &BitSet<B>,

@@ -38,7 +38,7 @@ impl<B: BitBlock> fmt::Debug for BitMatrix<B> {
     }
 }
 
-// Writes the columns that are left between braces.
+// Writes the remaining columns between braces.
 fn write_row<B: BitBlock, W: fmt::Write>(row: Iter<'_, B>, f: &mut fmt::Formatter<W>) -> fmt::Result
     ensures { DisplaysOnOk W.write_str_gives f.old result (Some (items_text row.entry)) f.new }
 {
@@ -51,7 +51,7 @@ fn write_row<B: BitBlock, W: fmt::Write>(row: Iter<'_, B>, f: &mut fmt::Formatte
     f.write_str("}")
 }
 
-// Writes each column that is left behind a comma and a space.
+// Writes each remaining column after a comma and a space.
 fn write_rest<B: BitBlock, W: fmt::Write>(
     rest: Iter<'_, B>,
     f: &mut fmt::Formatter<W>,

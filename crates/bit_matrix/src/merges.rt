@@ -1,5 +1,5 @@
-// Merges of blocks with others of one list, or of another list, each by the digits of every block. Each keeps, in one
-// block, whether one of them changed: the compiler takes it out where nothing reads it.
+// Merges of blocks with others of one list, or of another list, each by the digits of every block. Each keeps, in
+// one block, whether one of them changed: the compiler removes it if nothing reads it.
 ghost use Rattle.std.specs.Prelude.{◌≡◌, ℕ, ◌+◌, ◌*◌, ◌<◌, ◌≤◌, ◌↔◌, All, false, get_or, length, map};
 ghost use Rattle.bit_blocks.specs.BlockMerges.{other_at, AreKept, CanMerge, HasMerged};
 ghost use Rattle.bit_matrix.specs.Merges.{IsMergedPart, IsTrackedBlock, IsTrackedMerge, AreApart};
@@ -8,7 +8,7 @@ use crate::BitBlock;
 use bit_blocks::packed::{block_at, or_mismatch, put_in, same};
 use bit_words::bit_vec::operation::Operation;
 
-// What block `k` becomes where it is merged with the other of its index, and a block that is 0 just where `seen` is and it
+// The merge of block `k` with the other of its index, and a block that is 0 exactly if `seen` is 0 and block `k`
 // stays.
 #[inline(always)]
 fn merged_at<B: BitBlock, O: Operation>(blocks: &[B], others: &[B], k: usize, seen: B) -> (B, B)
@@ -22,8 +22,8 @@ fn merged_at<B: BitBlock, O: Operation>(blocks: &[B], others: &[B], k: usize, se
     (merged, or_mismatch(seen, block, merged))
 }
 
-// Each of the `count` blocks from `start` on becomes its merge with the other of its index. Returns a block that is 0 just
-// where `seen` is and none changed.
+// Each of the `count` blocks from `start` on becomes its merge with the other of its index. Returns a block that is
+// 0 exactly if `seen` is 0 and none changed.
 #[inline(always)]
 fn merge_each<B: BitBlock, O: Operation>(
     blocks: &mut [B],
@@ -68,7 +68,7 @@ fn merge_four<B: BitBlock, O: Operation>(blocks: &mut [B], others: &[B], start: 
     four
 }
 
-// Does so with so many fours.
+// Does so with this many groups of four.
 #[inline(always)]
 fn merge_fours<B: BitBlock, O: Operation>(
     blocks: &mut [B],
@@ -90,7 +90,7 @@ fn merge_fours<B: BitBlock, O: Operation>(
     mismatch
 }
 
-// Does so with so many groups of sixteen, from the first block on.
+// Does so with this many groups of sixteen, from the first block on.
 #[inline(always)]
 fn merge_groups<B: BitBlock, O: Operation>(
     blocks: &mut [B],
@@ -111,8 +111,8 @@ fn merge_groups<B: BitBlock, O: Operation>(
     mismatch
 }
 
-// Each block, as far as there are others, becomes its merge with the other of its index. Returns whether one changed. All
-// but three blocks at most are merged by four.
+// Each block, as far as there are others, becomes its merge with the other of its index. Returns whether one
+// changed. All but at most three blocks are merged by fours.
 #[inline(always)]
 fn merge_blocks<B: BitBlock, O: Operation>(blocks: &mut [B], others: &[B]) -> bool
     requires can { CanMerge B.is_block blocks.old (length others.now) (All B.is_block others.now) }
@@ -150,7 +150,7 @@ pub(crate) fn merge_others<B: BitBlock, O: Operation>(
     merge_blocks::<B, O>(part, others)
 }
 
-// Each of so many blocks from `start` on becomes its merge with itself. Returns whether one changed.
+// Each of this many blocks from `start` on becomes its merge with itself. Returns whether one changed.
 fn merge_same<B: BitBlock, O: Operation>(blocks: &mut [B], start: usize, count: usize) -> bool
     requires within { start + count ≤ length blocks.old }
     requires each { All B.is_block blocks.old }

@@ -87,7 +87,7 @@ impl<'a, B: BitBlock> Iterator for Iter<'a, B> {
             self.rest = rest;
             self.index += B::bits();
         }
-        // `index` is a multiple of the width, so where the width is a power of two this adds as an or does.
+        // `index` is a multiple of the width, so this adds as an or does if the width is a power of two.
         Some(self.index + take_lowest_one(&mut self.block))
     }
 }

@@ -33,7 +33,7 @@ impl<B: BitBlock> fmt::Debug for BitSet<B> {
     }
 }
 
-// Writes each element that is left behind a comma and a space.
+// Writes each remaining element after a comma and a space.
 fn write_rest<B: BitBlock, W: fmt::Write>(
     rest: Iter<'_, B>,
     f: &mut fmt::Formatter<W>,

@@ -1,4 +1,4 @@
-// Why a set does not take something in. The faults of the JSON form are in `json`.
+// Why a set does not accept something. The faults of the JSON form are in `json`.
 ghost use Rattle.std.specs.Prelude.{◌≡◌, alloc_error};
 
 use crate::bit_vec::BitsError;
@@ -30,7 +30,7 @@ impl From<AllocError> for SetError {
     }
 }
 
-// So that `?` serves a push to a `Vec` as well.
+// So that `?` also works for a push to a `Vec`.
 impl<T: Drop> From<AllocFailed<T>> for SetError {
     ghost use Rattle.bit_set.specs.declared.faults.SetError.TheVariants.{Memory};
 

@@ -51,7 +51,7 @@ impl From<AllocError> for JsonError {
     }
 }
 
-// So that `?` serves a push to a `Vec` as well.
+// So that `?` also works for a push to a `Vec`.
 impl<T: Drop> From<AllocFailed<T>> for JsonError {
     ghost use Rattle.bit_set.specs.declared.json.JsonError.TheVariants.{Memory};
 

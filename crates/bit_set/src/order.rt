@@ -58,8 +58,8 @@ impl<B: BitBlock> Ord for BitSet<B> {
 
     ghost matches_eq = { λ s t. texts_ties (elements s.values) (elements t.values) };
 
-    // Each call here but the comparisons of blocks comes last, so that none saves registers: a search in a map compares
-    // small sets, or sets that differ in their first block.
+    // Each call here except the comparisons of blocks is a tail call, so that none saves registers: a search in a
+    // map compares small sets, or sets that differ in their first block.
     fn cmp(&self, other: &Self) -> Ordering {
         let (left, right) = (self.get_ref().storage(), other.get_ref().storage());
         if block_or_zero(left, 0) != block_or_zero(right, 0) {
@@ -103,7 +103,7 @@ fn order_in_block<B: BitBlock>(a: &BitSet<B>, b: &BitSet<B>, at: usize) -> Order
 {
     let (left, right) = (a.get_ref().storage(), b.get_ref().storage());
     let index = lowest_mismatch(block_or_zero(left, at), block_or_zero(right, at));
-    // The least number that just one of them has.
+    // The least number that exactly one of them has.
     let number = at * B::bits() + index;
     if a.contains(number) {
         order_of_holder(b, number)
@@ -112,8 +112,8 @@ fn order_in_block<B: BitBlock>(a: &BitSet<B>, b: &BitSet<B>, at: usize) -> Order
     }
 }
 
-// How a set compares to the other, where it has the least number that just one of them has: it is
-// less where the other goes on past that number.
+// How a set compares to the other, if it has the least number that exactly one of them has: it is less if the other
+// has a greater member.
 fn order_of_holder<B: BitBlock>(other: &BitSet<B>, number: usize) -> Ordering
     ensures { MatchOrdering result
         ((k : ℕ) × (number ≤ k) × (has (elements other.now.values) k ≡ true)) ⊥

@@ -52,7 +52,7 @@ impl<B: BitBlock> BitSet<B> {
         Ok(set)
     }
 
-    // Puts in the numbers that a text lists. The set has none and is long enough for them.
+    // Inserts the numbers that a text lists. The set is empty and long enough for them.
     fn insert_ranges(&mut self, text: &[u8])
         requires reads { (rs : List (Range ℕ)) × (ranges_in text.now ≡ Ok rs) × (end_of rs ≤ length self.old.values) }
         requires none { HasNone (elements self.old.values) }
@@ -64,7 +64,7 @@ impl<B: BitBlock> BitSet<B> {
         let mut rest = all_items(text);
         'items: while let Some(items) = rest {
             let (item, after) = first_item(items);
-            // The text was read before, and so there is capacity too.
+            // The text was read before, so there is capacity for it.
             let range = read_range(item).unwrap();
             self.insert_range(range).unwrap();
             rest = after;
@@ -72,7 +72,7 @@ impl<B: BitBlock> BitSet<B> {
     }
 }
 
-// One more than the greatest number that a text lists, and 0 where there is none.
+// One more than the greatest number that a text lists, or 0 if there is none.
 fn end_of_ranges(text: &[u8]) -> Result<usize, RangesError>
     ensures read { IfOk result (λ end. (rs : List (Range ℕ)) × (ranges_in text.now ≡ Ok rs) × (end ≡ end_of rs)) }
     ensures fault { IfErr result (λ fault. ranges_in text.now ≡ Err fault) }
@@ -87,7 +87,7 @@ fn end_of_ranges(text: &[u8]) -> Result<usize, RangesError>
     Ok(end)
 }
 
-// The text where it has an item.
+// The text, if it has an item.
 fn all_items(text: &[u8]) -> Option<&[u8]>
     ensures some { IfSome result (λ items. (items.now ≡ text.now) × (text.now ≢ [])) }
     ensures none { IfNone result (text.now ≡ []) }
@@ -95,7 +95,7 @@ fn all_items(text: &[u8]) -> Option<&[u8]>
     (!text.is_empty()).then_some(text)
 }
 
-// The first item, and the text of the others; `None` where there are none.
+// The first item, and the text of the others; `None` if there are none.
 fn first_item(text: &[u8]) -> (&[u8], Option<&[u8]>)
     ensures items { MatchOption result.1 (items_of text.now ≡ result.0.now ∷ [])
         (λ rest. items_of text.now ≡ result.0.now ∷ items_of rest.now) }
@@ -116,7 +116,7 @@ fn after_space(text: &[u8]) -> &[u8]
     }
 }
 
-// What is before the first such byte and what is after it; `None` where there is none.
+// What is before the first such byte and what is after it; `None` if there is none.
 fn split_once(text: &[u8], byte: u8) -> Option<(&[u8], &[u8])>
     ensures whole { IfNone result (All (λ b. b ≢ byte) text.now) }
     ensures first { IfSome result (λ parts. All (λ b. b ≢ byte) parts.0.now) }
@@ -161,7 +161,7 @@ fn read_number(digits: &[u8]) -> Result<usize, RangesError>
         if !digit.is_ascii_digit() {
             return Err(RangesError::Text);
         }
-        // `usize::MAX` stands for what is too large.
+        // `usize::MAX` stands for a number that is too large.
         number = number
             .saturating_mul(10)
             .saturating_add(usize::from(*digit - b'0'));

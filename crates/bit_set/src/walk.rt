@@ -47,7 +47,7 @@ impl<'a, B: BitBlock> Model for Iter<'a, B> {
 }
 
 impl<'a, B: BitBlock> Iter<'a, B> {
-    // The walk over all indexes of a bit vector at which it is true.
+    // The iterator over all indexes at which a bit vector is true.
     #[inline]
     pub(crate) fn over(bits: &'a BitVec<B>) -> Self
         ensures { IsAtStart B.width bits.now.values result }
@@ -108,8 +108,8 @@ impl<'a, B: BitBlock> Iterator for Iter<'a, B> {
         let back_index = self.back_index;
         let (block, index, back) = (&mut self.block, &mut self.index, &mut self.back);
         if !self.nonzero.refill(block, index, back, back_index) {
-            // On to the last block, however far it is: those before it are zeros, and `size_hint` counts the
-            // blocks past `index`.
+            // Moves to the last block, however far it is: those before it are zeros, and `size_hint` counts the
+            // blocks after `index`.
             self.index = back_index;
             return None;
         }
@@ -131,7 +131,7 @@ impl<'a, B: BitBlock> Iterator for Iter<'a, B> {
 
 impl<B: BitBlock> BitSet<B> {
     /// An iterator over the elements, in ascending order. Constant time.
-    // Where it is a call, the walk that it returns goes through memory.
+    // If it is not inlined, the iterator that it returns goes through memory.
     #[inline(always)]
     pub fn iter(&self) -> Iter<'_, B>
         ensures left { result.left ≡ elements self.now.values }

@@ -1,4 +1,4 @@
-// The blocks of a set, lent to be read, and copied out and in.
+// The blocks of a set, lent for reading, and copied out and in.
 ghost use Rattle.std.specs.Prelude.{◌≡◌, ◌≢◌, ℕ, ◌+◌, ◌*◌, ◌^◌, ◌<◌, ◌≤◌, ◌-◌, ◌++◌, false, drop, get_or, length, max, min, replicate, slice_index, take, OnErr, OnOk};
 ghost use Rattle.bit_blocks.specs.{Bits.blocks_of, Digits.is_one, Ranges.in_range};
 ghost use Rattle.bit_words.specs.Growth.{Grows};
@@ -60,14 +60,14 @@ pub extern "C" fn bit_set_copy_blocks(set: &mut Shared, from: usize, blocks: &mu
     copy_front(blocks_from(set.get(), from), blocks)
 }
 
-// Makes the list at least `len` long, and returns whether there was memory for it.
+// Makes the list at least `len` long, and returns whether memory sufficed.
 fn lengthen(bits: &mut BitVec<Block>, len: usize) -> bool
     ensures values { OnOk (done result) (bits.new.values
         ≡ bits.old.values ++ replicate (len - length bits.old.values) false) }
     ensures grows { Grows len (done result) bits.old bits.new }
 {
     let old = bits.len();
-    // For the proof alone: the capacity holds the list.
+    // Only for the proof: the capacity holds the list.
     prove!(old <= bits.capacity());
     len <= old || bits.grow(len - old, false).is_ok()
 }
@@ -85,7 +85,7 @@ fn put_blocks(bits: &mut BitVec<Block>, from: usize, blocks: &[Block]) -> bool
     ensures grows { Grows (span_end (from * width) ((from + length blocks.now) * width)) (done result)
         bits.old bits.new }
 {
-    // For the proof alone: the capacity holds the list, and is a `usize`.
+    // Only for the proof: the capacity holds the list, and is a `usize`.
     prove!(bits.len() <= bits.capacity());
     if blocks.is_empty() {
         return true;

@@ -10,7 +10,7 @@ use crate::handed::Shared;
 use bit_set::bit_vec::block_or_zero;
 use bit_set::{BitBlock, BitSet};
 
-// Byte `q` of some blocks, which is zero past them.
+// Byte `q` of some blocks, or zero past them.
 fn byte_at(blocks: &[Block], q: usize) -> u8
     ensures { (j : ℕ) → j < 8 → is_one result j
         ≡ is_one (get_or blocks.now (q / (width / 8)) 0) (8 * (q % (width / 8)) + j) }
@@ -35,7 +35,7 @@ fn copy_bytes(set: &BitSet<Block>, from: usize, bytes: &mut [u8]) -> usize
     count
 }
 
-// Turns the bits of each of the first bytes round.
+// Reverses the bits of each of the first bytes.
 fn turn_bytes(bytes: &mut [u8], count: usize)
     requires { count ≤ length bytes.old }
     ensures turned { (q j : ℕ) → q < count → j < 8

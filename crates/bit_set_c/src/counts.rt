@@ -1,4 +1,4 @@
-// How many members two sets have between them. Both may be one set.
+// How many members the merges of two sets have. Both may be the same set.
 ghost use Rattle.std.specs.Prelude.{◌≡◌, length};
 ghost use Rattle.bit_set.specs.Sets.{difference, elements, intersection, symmetric_difference, union};
 ghost use Rattle.bit_set_c.specs.{Handed.IsAt};

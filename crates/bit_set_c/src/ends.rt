@@ -1,4 +1,4 @@
-// Calls that take the least or the greatest member out.
+// Calls that remove the least or the greatest member.
 ghost use Rattle.std.specs.{Prelude.{◌≡◌, ◌+◌, MatchOption, if◌then◌else◌, is_some, length}, Iterator.{YieldsFirst, YieldsLast}};
 ghost use Rattle.bit_set.specs.{Members.{HasNone, TakesGreatest, TakesLeast}, Sets.elements};
 ghost use Rattle.bit_set_c.specs.{Answers.found, Handed.IsAt};

@@ -1,4 +1,4 @@
-// Calls that make a set, in place, what it and another become. They must be two sets.
+// Calls that merge a set in place with another. They must be two different sets.
 ghost use Rattle.std.specs.Prelude.{◌≡◌, max, OnErr, OnOk, [], length};
 ghost use Rattle.bit_words.specs.Growth.{Grows};
 ghost use Rattle.bit_set.specs.{Members.{HasNone, IsDifference, IsIntersection, IsSymmetricDifference, IsUnion}, Sets.{difference, elements, intersection, symmetric_difference, union}};

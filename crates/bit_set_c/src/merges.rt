@@ -1,4 +1,4 @@
-// The blocks of what two sets make, copied out. Both may be one set.
+// The blocks of a merge of two sets, copied out. Both may be the same set.
 ghost use Rattle.std.specs.Prelude.{◌≡◌, ℕ, ◌+◌, ◌*◌, ◌<◌, drop, get_or, length, max, min, slice_index};
 ghost use Rattle.bit_blocks.specs.{Bits.blocks_of, Digits.is_one, Merges.merge_of_values};
 ghost use Rattle.bit_set.specs.Sets.{elements, has};

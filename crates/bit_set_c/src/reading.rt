@@ -1,4 +1,4 @@
-// What a set says of itself.
+// Calls that read a set.
 ghost use Rattle.std.specs.Prelude.{◌≡◌, ◌≤◌, ◌↔◌, IsTrue, [], length};
 ghost use Rattle.bit_blocks.specs.Bits.{IsCapacityOfBlocks};
 ghost use Rattle.bit_set.specs.{Members.{HasNone, IsCounted}, Sets.elements};

@@ -1,5 +1,5 @@
-// Calls that make a set, in place, what it and others become, and say whether that changed it: 1 where it did, 0 where not,
-// -1 where there is no memory. The set that is changed must be none of the others.
+// Calls that merge a set in place with others, and say whether that changed it: 1 if it did, 0 if not, -1 if memory
+// runs out. The set that is changed must differ from the others.
 ghost use Rattle.std.specs.Prelude.{◌≡◌, ◌+◌, ◌≤◌, max, not, if◌then◌else◌, IfOk, OnOk, length, false};
 ghost use Rattle.bit_words.specs.Growth.{Grows};
 ghost use Rattle.bit_set.specs.Members.{IsDifference, IsIntersection, IsSymmetricDifference, IsUnion, IsUnionWithDifference, IsUnionWithIntersection};
@@ -9,7 +9,7 @@ ghost use Rattle.bit_set_c.specs.{Answers.{changed, spelled}, Handed.IsAt};
 use crate::handed::{Exclusive, Shared};
 use std::alloc::AllocError;
 
-// What C gets of a merge that may find no memory.
+// What C receives for a merge in which memory may run out.
 fn answer_of(outcome: Result<bool, AllocError>) -> i32
     ensures outcome { changed result ≡ outcome }
     ensures exact { result ≡ spelled (changed result) }

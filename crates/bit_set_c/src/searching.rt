@@ -1,4 +1,5 @@
-// Calls that look for a member, or for a number that is none. `usize::MAX` stands for no member, since it is never one.
+// Calls that search for a member, or for an absent number. `usize::MAX` stands for no member, since it is never
+// one.
 ghost use Rattle.std.specs.Prelude.{◌≡◌, ◌<◌, ◌≤◌, IfSome, MatchOption, get_or, length, max, not};
 ghost use Rattle.bit_blocks.specs.Searches.{FindsBefore, FindsFrom, IsFirstFrom};
 ghost use Rattle.bit_set.specs.{Choices.{IsFirstOf, IsGreatest, IsLastOf, IsLeast}, Members.HasNone, Sets.{elements, has, those_below, those_from}};
@@ -6,7 +7,7 @@ ghost use Rattle.bit_set_c.specs.{Answers.found, Handed.IsAt};
 
 use crate::handed::Shared;
 
-// What C gets of a member, or of none.
+// What C receives for a member, or for none.
 pub(crate) fn or_max(member: Option<usize>) -> usize
     requires { IfSome member (λ m. m < usize.MAX) }
     ensures { found result ≡ member }

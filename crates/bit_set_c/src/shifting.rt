@@ -7,7 +7,7 @@ ghost use Rattle.bit_set_c.specs.{Answers.moved, Handed.IsAt};
 use crate::handed::Exclusive;
 use bit_set::SetError;
 
-// What C gets of a call that puts in what may be no element.
+// What C receives for a call that inserts what may not be an element.
 fn answer_of(outcome: Result<(), SetError>) -> i32
     ensures { moved result ≡ outcome }
 {

@@ -1,4 +1,4 @@
-// Calls that look for numbers in a row: members, or numbers that are none.
+// Calls that search for numbers in a row: members, or absent numbers.
 ghost use Rattle.std.specs.Prelude.{◌≡◌, ℕ, ◌≤◌, IfSome, List, MatchOption, [], ◌∷◌, false, length, max};
 ghost use Rattle.std.specs.declared.ops.Range.{Range};
 ghost use Rattle.bit_blocks.specs.Searches.{FindsFrom};

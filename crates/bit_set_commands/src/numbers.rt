@@ -1,4 +1,4 @@
-// The numbers of a command or a reply, in a vector. How they are read or written is not in here.
+// The numbers of a command or a reply, in a vector. How they are read or written is elsewhere.
 ghost use Rattle.std.specs.Prelude.{◌≡◌, ℕ, List};
 
 use std::marker::Model;

@@ -113,7 +113,7 @@ fn read<T: Operands, F: FnOnce(T) -> Command>(words: &[u8], make: F) -> Result<C
     Ok(make(T::read(words)?))
 }
 
-// A set's name and the numbers to put into it.
+// A set's name and the numbers to insert into it.
 fn read_extend(alloc: Global, words: &[u8]) -> Result<Result<Command, BadLine>, AllocError>
     ensures { IfOk result (λ read. read
         ≡ within_range numbers_of (command_of (NameAndNumbers Extend) (words_of words.now))) }
@@ -137,7 +137,7 @@ fn read_name(word: &[u8]) -> Result<SetName, BadLine>
     }
 }
 
-// What is read of words, all of which it takes.
+// What is read from words, all of which it uses.
 trait Operands: Copy {
     // What words spell, however large its numbers.
     ghost spelled: { List (List ℕ) → Option Self };
@@ -174,7 +174,7 @@ impl Operands for usize {
     }
 }
 
-// One word, a space and what is read behind it.
+// One word, a space and what is read after it.
 impl<S: Operands, T: Operands> Operands for (S, T) {
     ghost spelled = { followed S.spelled T.spelled };
 
@@ -188,7 +188,7 @@ impl<S: Operands, T: Operands> Operands for (S, T) {
         };
         match S::read(word) {
             Err(BadLine::BadCommand) => Err(BadLine::BadCommand),
-            // A number too large, which is reported only where all words fit.
+            // A number too large, which is reported only if all words fit.
             Err(BadLine::BadNumber) => T::read(others).and(Err(BadLine::BadNumber)),
             Ok(first) => Ok((first, T::read(others)?)),
         }
@@ -234,7 +234,7 @@ fn read_number(word: &[u8]) -> Result<usize, BadLine>
     number.ok_or(BadLine::BadNumber)
 }
 
-// The number with one more digit behind it, where a `usize` holds both.
+// The number with one more digit at its end, if a `usize` holds it.
 #[inline]
 fn with_digit(number: Option<usize>, digit: u8) -> Option<usize>
     requires { IsAsciiDigit digit }

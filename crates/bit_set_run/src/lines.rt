@@ -1,4 +1,4 @@
-// An input read, its output made and written, by one call. Each of the three steps is in a file of its own.
+// An input read, its output made and written, by one call. Each of the three steps is in a separate file.
 ghost use Rattle.bit_set_run.specs.Ended.{HasEnded};
 
 use crate::LinesFault;

@@ -49,7 +49,7 @@ fn reply_to_line<B: BitBlock>(
     }
 }
 
-// Appends the text of the reply to a line that is no command.
+// Appends the text of the reply to a line that is not a command.
 fn append_bad_line(text: &mut Vec<u8>, bad: BadLine) -> Result<(), AllocError>
     ensures { OnOk result (text.new.items ≡ text.old.items ++ (text_of_bad bad ++ 10 ∷ [])) }
 {

@@ -46,7 +46,7 @@ pub(crate) fn change_by_another<B: BitBlock>(
     if to == from {
         return Ok(Reply::Same);
     }
-    // The other set is taken out of its place, so that both can be lent at once. It takes no memory.
+    // The other set is moved out of its place, so that both can be lent at once. This allocates nothing.
     let mut other = mem::replace(&mut sets[from], BitSet::new_general(alloc));
     let changed = change_pair(alloc, &mut sets[to], &mut other, change);
     sets[from] = other;

@@ -76,7 +76,7 @@ pub fn run<B: BitBlock>(
     Ok(())
 }
 
-// One command, and its reply behind the others.
+// One command, and its reply after the others.
 fn execute<B: BitBlock>(
     alloc: Global,
     table: &mut Table<B>,

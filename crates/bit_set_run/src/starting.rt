@@ -41,7 +41,7 @@ pub fn start<R: Read, W: Write>(
     reader: &mut R,
     writer: &mut W,
 ) -> Exit
-    // The words are looked at first, and nothing else is done where they are not the program's.
+    // The words are checked first, and nothing else is done if they are not the program's.
     ensures misused { (result.status ≡ 2) ↔ (takes (map string_bytes words.now) ≡ false) }
     ensures misused_text { result.status ≡ 2 → result.text.now ≡ usage }
     ensures misused_unread { result.status ≡ 2 → reader.new ≡ reader.old }
@@ -114,7 +114,7 @@ enum BlockType {
     U128,
 }
 
-// The type that the words choose, `u32` where there is no word; `None` where they are not the program's.
+// The type that the words choose, `u32` if there is no word; `None` if they are not the program's.
 fn block_type(words: &[String]) -> Option<BlockType>
     ensures chosen { result ≡ type_of_words (map string_bytes words.now) }
 {

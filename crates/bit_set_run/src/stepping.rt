@@ -26,7 +26,7 @@ pub(crate) fn step<B: BitBlock>(
     ensures sets { OnOk result (map elements_of sets.new ≡ (step (map elements_of sets.old) command.now).sets) }
     ensures fails { OnErr result (FailsAt (map elements_of sets.old) command.now (map elements_of sets.new)) }
 
-    // A table's contract sees no capacities, so these two are of this function alone.
+    // A table's contract sees no capacities, so these two clauses are only of this function.
     ensures capacities { OnOk result (ChangesCapacities B.width sets.old command.now sets.new) }
     ensures capacities_left { OnErr result (KeepsCapacities sets.old command.now sets.new) }
 {

@@ -1,4 +1,4 @@
-// An input read to its end and an output written, each failed call just once. What the bytes mean is not in here.
+// An input read to its end and an output written; no failed call is retried. The meaning of the bytes is elsewhere.
 ghost use Rattle.std.specs.Prelude.{◌≡◌, ◌≢◌, ℕ, ◌+◌, IfOk, IfErr, OnOk, OnErr, Err, Some};
 ghost use Rattle.std.specs.Io.KnownBytes.{Appends};
 ghost use Rattle.bit_set_run.specs.Exits.{text_at};
@@ -70,10 +70,11 @@ impl<T: Drop> From<AllocFailed<T>> for LinesFault {
 // How many bytes an input may have.
 const LIMIT: usize = 1_048_576;
 
-// How many bytes a read asks for at most.
+// The most bytes that a read requests.
 const PIECE: usize = 8192;
 
-// Reads to the end. A read that goes on brings a byte, so at most one read more is made than an input has bytes.
+// Reads to the end. A read that succeeds returns at least one byte, so at most one more read is made than the input
+// has bytes.
 pub(crate) fn read_input<R: Read>(alloc: Global, reader: &mut R) -> Result<Vec<u8>, LinesFault>
     ensures ok { IfOk result (λ input. GaveAll (R.remaining reader.old) (R.remaining reader.new) input.items) }
     ensures read { result ≡ Err LinesFault.Read → GaveUntil (R.remaining reader.old) (R.remaining reader.new) limit }
@@ -100,7 +101,7 @@ pub(crate) fn read_input<R: Read>(alloc: Global, reader: &mut R) -> Result<Vec<u
     Err(LinesFault::TooLarge)
 }
 
-// Writes all of the text and flushes. A write that failed is not tried again.
+// Writes all of the text and flushes. A failed write is not retried.
 pub(crate) fn write_output<W: Write>(writer: &mut W, text: &[u8]) -> Result<(), LinesFault>
     ensures ok { OnOk result (Appends (W.contents writer.old) (W.contents writer.new) text.now) }
     ensures write { OnErr result (HoldsBeginning (W.contents writer.old) (W.contents writer.new) text.now) }

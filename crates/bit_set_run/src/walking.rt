@@ -67,7 +67,7 @@ impl<B: BitBlock> NumberWalk for Intersection<'_, B> {
     }
 }
 
-// The numbers that are left of a walk. Where there are none it asks for no memory.
+// The numbers that an iterator has left. If there are none, it allocates nothing.
 fn numbers_of<W: NumberWalk>(alloc: Global, walk: W) -> Result<Numbers, AllocError>
     ensures all { IfOk result (λ numbers. numbers ≡ W.left walk) }
     ensures fails { OnErr result (W.left walk ≢ []) }
@@ -87,7 +87,7 @@ pub(crate) fn items<W: NumberWalk>(alloc: Global, walk: W) -> Result<Reply, Allo
     Ok(Reply::Items(numbers_of(alloc, walk)?))
 }
 
-// Takes so many numbers of a walk, or all where there are fewer.
+// Takes this many numbers of an iterator, or all if there are fewer.
 fn pass_over<W: NumberWalk>(walk: &mut W, count: usize)
     ensures { W.left walk.new ≡ drop count (W.left walk.old) }
 {

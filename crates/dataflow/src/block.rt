@@ -1,4 +1,4 @@
-// What the solver has to know of a block of code.
+// What the solver must know about a block of code.
 ghost use Rattle.std.specs.Prelude.{◌≡◌, ℕ, length};
 ghost use Rattle.bit_set.specs.Sets.{elements};
 ghost use Rattle.dataflow.specs.Flow.{Flow};

@@ -7,7 +7,7 @@ use bit_set::BitBlock;
 use smallvec::SmallVec;
 use std::alloc::{AllocError, Global};
 
-// The blocks into which one block flows. Few of them take no memory.
+// The blocks into which one block flows. A few of them need no allocation.
 pub(crate) type Row = SmallVec<usize, 4>;
 
 // A row for each block, with the blocks of which it is a source.
@@ -25,7 +25,7 @@ pub(crate) fn dependents_of<B: BitBlock, N: Block<B>>(
     Ok(rows)
 }
 
-// So many rows, each with nothing.
+// This many empty rows.
 fn empty_rows(alloc: Global, count: usize) -> Result<Vec<Row>, AllocError>
     ensures long { IfOk result (λ rows. length rows.items ≡ count) }
     ensures empty { IfOk result (λ rows. (s : ℕ) → row_at (rows_of rows.items) s ≡ []) }
@@ -38,7 +38,7 @@ fn empty_rows(alloc: Global, count: usize) -> Result<Vec<Row>, AllocError>
     Ok(rows)
 }
 
-// Puts the block into the row of each of its sources.
+// Inserts the block into the row of each of its sources.
 fn add_dependent(sources: &[usize], number: usize, rows: &mut [Row]) -> Result<(), AllocError>
     ensures { OnOk result (AddsDependent sources.now number (rows_of rows.old) (rows_of rows.new)) }
 {

@@ -117,7 +117,7 @@ fn starts_empty(predecessors: &[usize], blocks: usize) -> bool
     predecessors.is_empty() || predecessors.iter().any(|p| *p >= blocks)
 }
 
-// Each set becomes the numbers below `count` that it has not.
+// Each set becomes the numbers below `count` that it lacks.
 fn complement_each<B: BitBlock>(count: usize, sets: &mut [BitSet<B>]) -> Result<(), AllocError>
     ensures complements { OnOk result (AreComplements count (lists_of sets.old) (lists_of sets.new)) }
     ensures none { length sets.old ≡ 0 → IsOk result }
@@ -128,7 +128,7 @@ fn complement_each<B: BitBlock>(count: usize, sets: &mut [BitSet<B>]) -> Result<
     Ok(())
 }
 
-// The set becomes the numbers below `count` that it has not, in place and in one pass.
+// The set becomes the numbers below `count` that it lacks, in place and in one pass.
 fn complement<B: BitBlock>(count: usize, set: &mut BitSet<B>) -> Result<(), AllocError>
     ensures { OnOk result (IsComplement count (elements set.old.values) (elements set.new.values)) }
 {

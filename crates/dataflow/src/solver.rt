@@ -43,7 +43,7 @@ pub fn solve<B: BitBlock, N: Block<B>>(
     Ok(sets)
 }
 
-// The length of the longest set that a block generates, and 0 of no blocks.
+// The length of the longest set that a block generates, or 0 if there are no blocks.
 fn longest<B: BitBlock, N: Block<B>>(blocks: &[N]) -> usize
     ensures { result ≡ fold (λ most block. max most (N.generated_length block)) 0 blocks.now }
 {
@@ -109,7 +109,7 @@ fn settle<B: BitBlock, N: Block<B>>(
     Ok(())
 }
 
-// The set of a block takes in what enters the block and is not killed. Returns whether it grew.
+// Inserts into the set of a block what enters the block and is not killed. Returns whether it grew.
 fn take_in<B: BitBlock, N: Block<B>>(
     alloc: Global,
     block: &N,
@@ -123,8 +123,9 @@ fn take_in<B: BitBlock, N: Block<B>>(
         → length (set_at (lists_of sets.old) number) < length (set_at (lists_of sets.new) number)) }
     ensures few { IfOk result (λ grew. grew ≡ true → length (set_at (lists_of sets.new) number) < 2 ^ 64) }
 {
-    // The set is taken out of its place, so that it can be changed while the others are read. It takes no memory. A block
-    // that is its own source reads the empty set there: what the block has needs not go in.
+    // The set is moved out of its place, so that it can be changed while the others are read. This allocates
+    // nothing. A block that is its own source reads the empty set there: what the block has need not be inserted
+    // again.
     let mut own = mem::replace(&mut sets[number], BitSet::new_general(alloc));
     let grew = transfer(block.sources(), block.killed(), sets, &mut own)?;
     bounded(&own);
@@ -132,7 +133,8 @@ fn take_in<B: BitBlock, N: Block<B>>(
     Ok(grew)
 }
 
-// Puts in what the sets of the sources have and is not killed. Returns whether some of it was not in. One pass a source.
+// Inserts what the sets of the sources have and is not killed. Returns whether any of it was absent. One pass for
+// each source.
 fn transfer<B: BitBlock>(
     sources: &[usize],
     killed: &BitSet<B>,

@@ -64,7 +64,7 @@ pub(crate) fn next_waiting(waiting: &BitSet<usize>, from: usize) -> Option<usize
     }
 }
 
-// The dependents of a block wait again. There is capacity for each, so that it takes no memory.
+// The dependents of a block wait again. There is capacity for each, so it allocates nothing.
 pub(crate) fn put_back(
     dependents: &[usize],
     count: usize,

@@ -22,9 +22,9 @@ use std::marker::Model;
 /// tested.
 #[derive(Drop)]
 pub struct Slots<B: BitBlock> {
-    // As long as there are slots, and those that are free are in.
+    // Its length is the number of slots, and its elements are the free ones.
     free: BitSet<B>,
-    // Of the slots below `searched` none is free, but perhaps `given`.
+    // No slot below `searched` is free, except perhaps `given`.
     given: usize,
     searched: usize,
 }
@@ -186,7 +186,7 @@ impl<B: BitBlock> Slots<B> {
         Some(first)
     }
 
-    // The first of so many free slots in a row, the lowest.
+    // The first of the lowest run of this many free slots.
     fn lowest_run(&self, count: usize) -> Option<usize>
         ensures lowest { MatchOption result
             ((first : ℕ) → IsFreeRun self.now count first → ⊥) (IsLowestRun self.now count) }
@@ -229,8 +229,7 @@ impl<B: BitBlock> Slots<B> {
     }
 }
 
-// Where `searched` is once the slot is taken that was the lowest free one from `slot` on: past it, where no slot lies
-// between.
+// The new `searched` after the lowest free slot at or above `slot` was taken: past it, if no slot lies between.
 #[inline]
 fn after_taking(searched: usize, slot: usize, taken: usize) -> usize
     ensures { (n : ℕ) → n < result → searched ≤ n → (slot ≤ n) × (n ≤ taken) }
@@ -242,8 +241,8 @@ fn after_taking(searched: usize, slot: usize, taken: usize) -> usize
     }
 }
 
-// Where `given` and `searched` are once `slot` is given back, and before that `given` is free, or is not. Of two slots
-// below `searched` that are free then, the search begins at the higher one.
+// The new `given` and `searched` after `slot` was given back, by whether `given` was free before. If two slots
+// below `searched` are then free, the search begins at the higher one.
 #[inline]
 fn after_giving(given: usize, searched: usize, slot: usize, is_free: bool) -> (usize, usize)
     ensures { (n : ℕ) → n < result.1 → n ≢ result.0

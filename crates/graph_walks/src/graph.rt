@@ -1,4 +1,4 @@
-// What a walk has to know of a graph.
+// What a search must know about a graph.
 ghost use Rattle.std.specs.Prelude.{◌≡◌, ◌≤◌, ℕ, IfNone, IfSome, List, Option, length, map};
 ghost use Rattle.std.specs.Iterator.{IsFinite, YieldsFirst};
 ghost use Rattle.graph_walks.specs.Paths.{rows_of, successors};

@@ -53,7 +53,7 @@ pub fn reflexive_transitive_closure<B: BitBlock>(reaches: &mut BitMatrix<B>)
     put_each_in_its_row(reaches);
 }
 
-// Puts each row's own node into it, where that is a column.
+// Inserts each row's own node into it, if that is a column.
 fn put_each_in_its_row<B: BitBlock>(matrix: &mut BitMatrix<B>)
     ensures matrix { IsMatrix matrix.old }
     ensures bits { (u v : ℕ) → has_at matrix.new u v ≡ (has_at matrix.old u v
@@ -66,8 +66,8 @@ fn put_each_in_its_row<B: BitBlock>(matrix: &mut BitMatrix<B>)
     }
 }
 
-// The row takes in the row of each node that is in it, of those from `from` on and below `to`, in ascending order; nodes
-// that come in on the way, further on, too.
+// Unites the row with the row of each of its nodes from `from` up to `to`, in ascending order, including greater
+// nodes that are inserted on the way.
 fn take_in<B: BitBlock>(reaches: &mut BitMatrix<B>, row: usize, from: usize, to: usize)
     requires row { row < length reaches.old.rows }
     requires to { to ≤ length reaches.old.rows }
@@ -95,7 +95,7 @@ fn next_in<B: BitBlock>(reaches: &BitMatrix<B>, row: usize, from: usize, to: usi
 {
     members_of_sets();
     sets_ascend();
-    // Says besides that each row ascends.
+    // Also says that each row ascends.
     let _ = reaches.rows();
     match reaches.iter_from(row, from).next() {
         Some(node) if node < to => Some(node),

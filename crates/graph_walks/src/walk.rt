@@ -166,7 +166,7 @@ fn listed<B: BitBlock>(alloc: Global, set: &BitSet<B>) -> Result<Vec<usize>, All
     Ok(list)
 }
 
-// Puts in all that paths lead to from the nodes of the set, which are those on the stack.
+// Inserts all nodes to which paths lead from those of the set, which are those on the stack.
 fn explore<B: BitBlock, G: Graph>(
     graph: G,
     reached: &mut BitSet<B>,
@@ -193,7 +193,7 @@ fn explore<B: BitBlock, G: Graph>(
     Ok(())
 }
 
-// Puts in what an iterator gives, and on the stack what is new.
+// Inserts the items of an iterator, and pushes the new ones on the stack.
 fn take_on<B: BitBlock, I: Iterator<Item = usize> + Drop>(
     items: I,
     reached: &mut BitSet<B>,
@@ -221,8 +221,8 @@ fn take_on<B: BitBlock, I: Iterator<Item = usize> + Drop>(
     Ok(())
 }
 
-// Puts the item in, and returns whether it is new. Most edges lead to what is in already, and the caller branches on
-// the result in any case: so the set is read first, and written only where the item is new.
+// Inserts the item, and returns whether it is new. Most edges lead to nodes that are already present, and the
+// caller branches on the result in any case: so the set is read first, and written only if the item is new.
 #[inline]
 fn put_new<B: BitBlock>(reached: &mut BitSet<B>, item: usize) -> Result<bool, SetError>
     ensures returned { IfOk result (λ new. new ≡ not (has (elements reached.old.values) item)) }

@@ -52,8 +52,8 @@ impl<B: BitBlock> BitMatrix<B> {
         Ok(transposed)
     }
 
-    // How many whole blocks of each row are transposed by squares: all of them where at least one bit in 64 is 1, and else
-    // none.
+    // How many whole blocks of each row are transposed by squares: all of them if at least one bit in 64 is 1, and
+    // otherwise none.
     fn strips(&self) -> usize
         ensures { result * B.width ≤ self.now.columns }
     {
@@ -88,7 +88,7 @@ impl<B: BitBlock> BitMatrix<B> {
     }
 }
 
-// Puts each row into those whose index is a column from `from` on that is in it.
+// Inserts each row into those whose index is one of its columns from `from` on.
 fn insert_columns<B: BitBlock>(transposed: &mut BitMatrix<B>, matrix: &BitMatrix<B>, from: usize)
     requires rows { length transposed.old.rows ≡ matrix.now.columns }
     requires columns { transposed.old.columns ≡ length matrix.now.rows }
@@ -102,7 +102,7 @@ fn insert_columns<B: BitBlock>(transposed: &mut BitMatrix<B>, matrix: &BitMatrix
     }
 }
 
-// Puts `row` into each row whose index is a column from `from` on in the row `row` of the other matrix.
+// Inserts `row` into each row whose index is a column from `from` on in the row `row` of the other matrix.
 fn insert_in_each<B: BitBlock>(
     transposed: &mut BitMatrix<B>,
     matrix: &BitMatrix<B>,

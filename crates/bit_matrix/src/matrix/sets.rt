@@ -1,4 +1,4 @@
-// Calls on a row and a set: a set is put into a row, or made of one.
+// Calls on a row and a set: a set is inserted into a row, or made from one.
 ghost use Rattle.std.specs.Prelude.{◌≡◌, ℕ, ◌*◌, ◌<◌, ◌≤◌, ◌↔◌, ◌||◌, All, IfOk, IsErrOf, IsOk, IsTrue, false, get_or, length, map, not, replicate, true};
 ghost use Rattle.bit_blocks.specs.{Bits.{blocks_for, capacity_of}, Storage.value_at};
 ghost use Rattle.bit_set.specs.{Order.same_sets, Sets.{elements, has, union}};

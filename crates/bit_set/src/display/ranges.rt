@@ -55,7 +55,7 @@ impl<'a, B: BitBlock> fmt::Display for Ranges<'a, B> {
     }
 }
 
-// Writes a run, which has a number.
+// Writes a run, which is not empty.
 fn write_run<W: fmt::Write>(run: Range<usize>, f: &mut fmt::Formatter<W>) -> fmt::Result
     requires { run.start < run.end }
     ensures { DisplaysOnOk W.write_str_gives f.old result (Some (run_text run)) f.new }
@@ -69,7 +69,7 @@ fn write_run<W: fmt::Write>(run: Range<usize>, f: &mut fmt::Formatter<W>) -> fmt
     Ok(())
 }
 
-// Writes each run that is left behind a comma and a space.
+// Writes each remaining run after a comma and a space.
 fn write_rest<B: BitBlock, W: fmt::Write>(
     rest: Runs<'_, B>,
     f: &mut fmt::Formatter<W>,

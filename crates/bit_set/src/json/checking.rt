@@ -1,4 +1,4 @@
-// Reading of a value, with every test that it must pass. Nothing here asks for memory.
+// Reading a value, with every check that it must pass. Nothing here allocates.
 ghost use Rattle.std.specs.Prelude.{◌≡◌, ◌↔◌, ℕ, All, IsTrue, IfOk, IfErr, MatchOption, Some, length};
 ghost use Rattle.bit_blocks.specs.Bits.{blocks_for};
 ghost use Rattle.serde_json.specs.View.{view, items_view};
@@ -7,7 +7,7 @@ ghost use Rattle.bit_set.specs.{Json.{HasShape, HasZeroTail, IsFirstFault, Spell
 use super::{JsonBlock, JsonError};
 use serde_json::Value;
 
-// The entries of a value that spells a set, and its length.
+// The entries of a value that represents a set, and its length.
 pub(super) fn entries_and_len<B: JsonBlock>(value: &Value) -> Result<(&[Value], usize), JsonError>
     ensures ok { IfOk result (λ found. Spells B.width (view value.now) (numbers_of found.0.now) found.1) }
     ensures entries { IfOk result (λ found. All (IsEntry B.width) found.0.now) }
@@ -24,7 +24,7 @@ pub(super) fn entries_and_len<B: JsonBlock>(value: &Value) -> Result<(&[Value], 
     Ok((entries, len))
 }
 
-// What is at `storage` and at `nbits`, where the value has the shape.
+// The values at `storage` and at `nbits`, if the value has the right shape.
 fn parts(value: &Value) -> Option<(&[Value], &Value)>
     ensures { MatchOption result (¬ HasShape (view value.now))
         (λ found. AreParts (view value.now) (items_view found.0.now) (view found.1.now)) }
@@ -41,7 +41,7 @@ fn parts(value: &Value) -> Option<(&[Value], &Value)>
     Some((entries.as_slice(), nbits))
 }
 
-// Whether the value is an object with just so many members.
+// Whether the value is an object with exactly this many members.
 fn has_members(value: &Value, count: usize) -> bool
     ensures { IsTrue result ↔ (members_in (view value.now) ≡ Some count) }
 {
@@ -51,7 +51,7 @@ fn has_members(value: &Value, count: usize) -> bool
     }
 }
 
-// The length, where that and each entry is a number that can be there.
+// The length, if it and each entry are valid numbers.
 fn length_of<B: JsonBlock>(entries: &[Value], nbits: &Value) -> Option<usize>
     ensures { MatchOption result ((n : ℕ) → ¬ HasLength B.width entries.now (view nbits.now) n)
         (HasLength B.width entries.now (view nbits.now)) }
@@ -70,7 +70,7 @@ fn are_entries<B: JsonBlock>(entries: &[Value]) -> bool
     entries.iter().all(|entry| block_in::<B>(entry).is_some())
 }
 
-// The block of an entry, where it is the number of one.
+// The block of an entry, if it is the number of one.
 fn block_in<B: JsonBlock>(entry: &Value) -> Option<B>
     ensures { MatchOption result (¬ IsEntry B.width entry.now)
         (λ block. B.is_block block × (number_in (view entry.now) ≡ Some (B.number block))) }

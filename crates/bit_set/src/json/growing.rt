@@ -1,4 +1,4 @@
-// Making of the bits that were read.
+// Making the bits that were read.
 ghost use Rattle.std.specs.{Prelude.{◌≡◌, ◌≢◌, ◌+◌, ◌^◌, ◌<◌, ℕ, All, IfOk, IsOk, false, get_or, length}, Int.bit_at};
 ghost use Rattle.bit_blocks.specs.{Bits.{blocks_for, blocks_of, capacity_of}, Digits.is_one};
 ghost use Rattle.bit_set.specs.{Json.HasZeroTail, Entries.{IsEntry, numbers_of}};
@@ -31,7 +31,7 @@ pub(super) fn bits_of_entries<B: JsonBlock>(
     Ok(bits)
 }
 
-// Makes the values from `index` on, which are false, those of the block's bits, one step for each 1.
+// Sets the values from `index` on, which are false, to the block's bits, in one step for each 1.
 fn put_ones<B: BitBlock>(bits: &mut BitVec<B>, index: usize, mut block: B)
     requires of_block { B.is_block block }
     requires counted { length bits.old.values < 2 ^ 64 }

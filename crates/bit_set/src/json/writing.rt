@@ -1,4 +1,4 @@
-// Writing of blocks and a length as a value.
+// Writing blocks and a length as a value.
 ghost use Rattle.std.specs.Prelude.{◌≡◌, All, IfOk, codes, map};
 ghost use Rattle.serde_json.specs.{Data.{array, member, no_members, number, object, unsigned}, View.{items_view, view}};
 ghost use Rattle.bit_set.specs.Entries.{AreNumbers};
@@ -19,7 +19,7 @@ pub(super) fn numbers<B: JsonBlock>(alloc: Global, blocks: &[B]) -> Result<Vec<V
     Ok(entries)
 }
 
-// The two members within the one.
+// The inner object with its two members.
 pub(super) fn form(alloc: Global, storage: Vec<Value>, nbits: usize) -> Result<Value, AllocError>
     ensures { IfOk result (λ value. view value ≡ object (member (codes "bit_vec")
         (object (member (codes "nbits") (number (unsigned nbits))

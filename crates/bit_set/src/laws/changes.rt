@@ -1,4 +1,4 @@
-// Laws of what operations in place tell.
+// Laws of what operations in place return.
 ghost use Rattle.std.specs.Prelude.{◌≡◌, ◌↔◌, ℕ, List, [], true};
 ghost use Rattle.sets.specs.Order.{same_sets};
 ghost use Rattle.sets.specs.Sets.{IsAscending, difference, intersection, is_disjoint, is_subset, symmetric_difference, union};

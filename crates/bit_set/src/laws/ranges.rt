@@ -1,4 +1,4 @@
-// Laws of what is in a range and what is not, and of the searches for the nearest member.
+// Laws of the members and the absent numbers of a range, and of searches for the nearest member.
 ghost use Rattle.std.specs.{Prelude.{◌≡◌, ℕ, ◌+◌, ◌/◌, ◌≤◌, ◌++◌, ◌↔◌, MatchOption, None, Option, Some, IsTrue, List, [], length, slice_get, Bool}, Iterator.{Drains, YieldsThen}};
 ghost use Rattle.bit_blocks.specs.Searches.{FindsBefore, FindsFrom};
 ghost use Rattle.sets.specs.{Choices.{IsFirstOf, IsGreatest, IsLastOf, IsLeast}, Members.HasNone, Ranges.{span, those_in_range}};

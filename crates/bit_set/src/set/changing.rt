@@ -12,10 +12,10 @@ ghost use Rattle.bit_set.specs.{Changes.{outcome_of_result, outcome_of_insert, O
 use crate::{BitBlock, BitSet, SetError};
 use std::alloc::AllocError;
 
-// By how many values the items of `extend` have to make a list grow before it grows ahead of the next.
+// By how many values the items of `extend` must lengthen a list before it grows ahead of the next ones.
 const LEAST_GROWN: usize = 64;
 
-// How many values it grows ahead at most: 64 KB of bits.
+// The most values by which it grows ahead: 64 KB of bits.
 const MOST_AHEAD: usize = 1 << 19;
 
 impl<B: BitBlock> BitSet<B> {
@@ -44,8 +44,8 @@ impl<B: BitBlock> BitSet<B> {
         Ok(!self.bits.replace(value, true))
     }
 
-    // Makes the length one more than a value at or past it. It is no part of `insert`, which is then
-    // small enough to become a part of its caller's loop.
+    // Sets the length to one more than a value at or past it. It is separate from `insert`, which is then small
+    // enough to be inlined into its caller's loop.
     #[cold]
     #[inline(never)]
     fn lengthen_past(&mut self, value: usize) -> Result<(), SetError>
@@ -62,7 +62,7 @@ impl<B: BitBlock> BitSet<B> {
         if value == usize::MAX {
             return Err(SetError::Element);
         }
-        // For the proof alone: the call of `capacity` brings in its clauses, by which the capacity is that of whole
+        // Only for the proof: the call of `capacity` brings in its clauses, by which the capacity is that of whole
         // blocks and holds the list.
         prove!(len <= self.bits.capacity());
         self.bits.grow(value - len + 1, false)?;
@@ -104,9 +104,10 @@ impl<B: BitBlock> BitSet<B> {
         Ok(())
     }
 
-    // Puts an item of `extend` in, and returns the length of the list, which was `len`: the loop has it at hand, and reads
-    // it from the list only where that grew. The list had `start` values before the first item, and may become longer than
-    // the items ask: it goes ahead by what it had grown for the items before, and so the first costs what it needs alone.
+    // Inserts an item of `extend`, and returns the length of the list, which was `len`: the loop keeps it in a
+    // variable, and reads it from the list only after a growth. The list had `start` values before the first item,
+    // and may become longer than the items need: it grows ahead by as much as it had grown for the items before, so
+    // the first costs only what it needs.
     #[inline]
     fn put_ahead(&mut self, start: usize, len: usize, item: usize) -> Result<usize, SetError>
         requires from { start ≤ len }
@@ -123,7 +124,7 @@ impl<B: BitBlock> BitSet<B> {
         ensures grows { Grows (item + 1) result self.old self.new }
         ensures past_blocks { IfErr result (λ fault. IsPastBlocks fault B.width (length self.old.values) item) }
     {
-        // For the proof alone: the call of `len` brings in its clauses, by which the capacity holds the list.
+        // Only for the proof: the call of `len` brings in its clauses, by which the capacity holds the list.
         prove!(len <= self.bits.len());
         let mut longer = len;
         if item >= len {
@@ -135,7 +136,8 @@ impl<B: BitBlock> BitSet<B> {
         Ok(longer)
     }
 
-    // Makes the list longer by so many values, by 64 KB at most, and within the capacity; nothing where they are few.
+    // Lengthens the list by this many values, by at most 64 KB, and within the capacity; does nothing if they are
+    // few.
     #[inline]
     fn go_ahead(&mut self, most: usize)
         ensures elements { elements self.new.values ≡ elements self.old.values }
@@ -148,7 +150,7 @@ impl<B: BitBlock> BitSet<B> {
         }
     }
 
-    // The same where they are not few.
+    // Does so if they are not few.
     #[cold]
     #[inline(never)]
     fn grow_within(&mut self, most: usize)
@@ -162,7 +164,7 @@ impl<B: BitBlock> BitSet<B> {
         let _grown = self.bits.grow(ahead, false);
     }
 
-    // Cuts the list behind the last item of `extend`, which it may have gone ahead of only where it grew by more than
+    // Cuts the list after the last item of `extend`; it can have grown ahead only if it grew by more than
     // `LEAST_GROWN` values.
     #[inline]
     fn cut_ahead(&mut self, start: usize)
@@ -178,7 +180,7 @@ impl<B: BitBlock> BitSet<B> {
         }
     }
 
-    // Cuts the list behind its last value that is true, and keeps the first `least` values.
+    // Cuts the list after its last true value, but keeps the first `least` values.
     #[cold]
     #[inline(never)]
     fn cut_to_last(&mut self, least: usize)

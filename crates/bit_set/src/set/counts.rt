@@ -1,4 +1,4 @@
-// How many elements two sets have between them.
+// How many elements the merges of two sets have.
 ghost use Rattle.std.specs.Prelude.{◌≡◌, length};
 ghost use Rattle.sets.specs.Sets.{difference, elements, intersection, merge_of_sets, symmetric_difference, union};
 
@@ -6,7 +6,7 @@ use crate::bit_vec::Merge;
 use crate::{BitBlock, BitSet};
 
 impl<B: BitBlock> BitSet<B> {
-    // How many elements a merge of both sets has. It goes into its caller, which knows the merge.
+    // How many elements a merge of both sets has. It is inlined into its caller, which knows the merge.
     #[inline(always)]
     fn merged_count(&self, other: &Self, merge: Merge) -> usize
         ensures { result ≡ length (merge_of_sets merge (elements self.now.values) (elements other.now.values)) }

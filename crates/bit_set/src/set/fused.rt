@@ -1,4 +1,4 @@
-// Calls that make a set what it and two others give, and tell whether that changed it. They write no block before the first
+// Calls that merge a set with two others, and return whether that changed it. They write no block before the first
 // that changes.
 ghost use Rattle.std.specs.Prelude.{◌≡◌, ◌+◌, ◌≤◌, max, not, if◌then◌else◌, IfOk, OnOk, length, false};
 ghost use Rattle.bit_words.specs.Growth.{Grows};

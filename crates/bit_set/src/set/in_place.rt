@@ -1,4 +1,4 @@
-// Calls that make a set, in place, what it and another become.
+// Calls that merge a set in place with another.
 ghost use Rattle.std.specs.Prelude.{◌≡◌, ◌-◌, ◌++◌, max, OnOk, length, replicate, false};
 ghost use Rattle.bit_words.specs.Growth.{Grows};
 ghost use Rattle.sets.specs.Members.{IsDifference, IsIntersection, IsMerged, IsSymmetricDifference, IsUnion};
@@ -11,7 +11,7 @@ use crate::{BitBlock, BitSet};
 use std::alloc::AllocError;
 
 impl<B: BitBlock> BitSet<B> {
-    // Makes the list at least `len` long: it goes on with false.
+    // Makes the list at least `len` long, extending it by false.
     #[inline]
     pub(crate) fn lengthen(&mut self, len: usize) -> Result<(), AllocError>
         ensures ok { OnOk result (self.new.values ≡ self.old.values ++ replicate (len - length self.old.values) false) }
@@ -24,8 +24,8 @@ impl<B: BitBlock> BitSet<B> {
         Ok(())
     }
 
-    // Each value becomes its merge with that of `other`. The shorter list goes on with false, so that
-    // the longer length stays. It goes into its caller, which knows the merge.
+    // Each value becomes its merge with that of `other`. The shorter list is extended by false, so that the longer
+    // length stays. It is inlined into its caller, which knows the merge.
     #[inline(always)]
     fn merge_with(&mut self, other: &Self, merge: Merge) -> Result<(), AllocError>
         ensures elements { OnOk result (elements self.new.values

@@ -61,7 +61,7 @@ impl<B: BitBlock> BitSet<B> {
     }
 }
 
-// The greatest length of the sets, and 0 of none.
+// The greatest length of the sets, or 0 if there are none.
 fn longest<B: BitBlock>(sets: &[BitSet<B>]) -> usize
     ensures { result ≡ longest sets.now }
 {
@@ -72,7 +72,7 @@ fn longest<B: BitBlock>(sets: &[BitSet<B>]) -> usize
     most
 }
 
-// The least length of the sets, and 0 of none.
+// The least length of the sets, or 0 if there are none.
 fn shortest<B: BitBlock>(sets: &[BitSet<B>]) -> usize
     ensures { result ≡ shortest sets.now }
 {
@@ -86,8 +86,8 @@ fn shortest<B: BitBlock>(sets: &[BitSet<B>]) -> usize
     least
 }
 
-// A list of length `len` of what `value` becomes at each index by merges with the values of the sets. It goes into its
-// caller, which knows the merge.
+// A list of length `len`: at each index `value` merged with the values of the sets. It is inlined into its caller,
+// which knows the merge.
 #[inline(always)]
 fn merged<B: BitBlock>(
     alloc: Global,
@@ -110,7 +110,7 @@ fn merged<B: BitBlock>(
     Ok(bits)
 }
 
-// The values of a chunk of the list become what they do by merges with those of the sets; the others stay.
+// Merges the values of a chunk of the list with those of the sets; the others stay.
 #[inline(always)]
 fn merge_chunk<B: BitBlock>(bits: &mut BitVec<B>, sets: &[BitSet<B>], merge: Merge, chunk: usize)
     requires some { chunk * B.width * B.width < length bits.old.values }

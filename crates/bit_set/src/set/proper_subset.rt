@@ -1,4 +1,4 @@
-// Whether every element is one of another set, which has more.
+// Whether every element is in another set, which has more.
 ghost use Rattle.std.specs.Prelude.{◌≡◌, ◌<◌, ◌&&◌, ◌↔◌, ℕ, All, IsTrue, get_or, map, not};
 ghost use Rattle.bit_blocks.specs.{BlockMerges.MergesToFalse, declared.block.merge.Merge.Merge};
 ghost use Rattle.sets.specs.{Runs.IsProperSubset, Sets.{elements, is_subset}};
@@ -29,7 +29,7 @@ impl<B: BitBlock> BitSet<B> {
     }
 }
 
-// Whether each 1 of the blocks is one of the others, where those before `start` are the same.
+// Whether each 1 of the blocks is a 1 of the others; those before `start` are the same.
 fn is_within_from<B: BitBlock>(blocks: &[B], others: &[B], start: usize) -> bool
     requires each { All B.is_block blocks.now }
     requires others { All B.is_block others.now }

@@ -9,7 +9,7 @@ use crate::{BitBlock, BitSet, SetError};
 use std::ops::Range;
 
 impl<B: BitBlock> BitSet<B> {
-    // Makes the list at least as long as the range reaches; nothing where that is empty.
+    // Makes the list at least as long as the end of the range; does nothing if that is empty.
     #[inline]
     fn lengthen_for(&mut self, range: &Range<usize>) -> Result<(), SetError>
         ensures same { OnOk result (elements self.new.values ≡ elements self.old.values) }
@@ -28,8 +28,8 @@ impl<B: BitBlock> BitSet<B> {
         Ok(())
     }
 
-    // Puts in the numbers of a range that ends past the list. Each new block is written once: the memory is there
-    // before the list changes, and so neither growth fails.
+    // Inserts the numbers of a range that ends past the list. Each new block is written once: the memory is
+    // reserved before the list changes, so neither growth fails.
     #[inline(never)]
     fn insert_past(&mut self, range: Range<usize>) -> Result<(), SetError>
         requires some { range.start < range.end }

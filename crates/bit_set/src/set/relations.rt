@@ -1,4 +1,4 @@
-// Calls that say how the elements of two sets lie to each other.
+// Calls that relate the elements of two sets.
 ghost use Rattle.std.specs.Prelude.{◌≡◌, ◌↔◌, IsTrue};
 ghost use Rattle.sets.specs.{Members.{IsDisjoint, IsSubset}, Sets.{elements, is_subset, is_disjoint}};
 

@@ -1,5 +1,5 @@
-// Calls that make a set, in place, what it and others become, and tell whether that changed it. They write no block before
-// the first that change.
+// Calls that merge a set in place with others, and return whether that changed it. They write no block before the
+// first that changes.
 ghost use Rattle.std.specs.Prelude.{◌≡◌, ◌+◌, ◌≤◌, max, not, if◌then◌else◌, IfOk, OnOk, length, false};
 ghost use Rattle.bit_words.specs.Growth.{Grows};
 ghost use Rattle.sets.specs.Members.{IsCounted, IsDifference, IsIntersection, IsMerged, IsSymmetricDifference, IsUnion, IsUnionWithDifference};
@@ -12,8 +12,8 @@ use crate::{BitBlock, BitSet};
 use std::alloc::AllocError;
 
 impl<B: BitBlock> BitSet<B> {
-    // Each value becomes its merge with that of `other`, and whether that changed the set is returned. It goes into its
-    // caller, which knows the merge.
+    // Each value becomes its merge with that of `other`. Returns whether that changed the set. It is inlined into
+    // its caller, which knows the merge.
     #[inline(always)]
     fn merge_changes(&mut self, other: &Self, merge: Merge) -> Result<bool, AllocError>
         ensures elements { OnOk result (elements self.new.values

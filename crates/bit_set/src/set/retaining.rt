@@ -6,8 +6,8 @@ ghost use Rattle.bit_set.specs.{Changes.{Change, Changes, Outcome.Done}, Retaine
 use crate::bit_vec::{block_or_zero, take_lowest_one, with_bit};
 use crate::{BitBlock, BitSet};
 
-// The block with those of its ones at which `keep` returns true, called at the index of each in ascending order. The
-// first digit has the index `index`.
+// The block with those of its ones for which `keep` returns true, called for the index of each in ascending order.
+// The first digit has the index `index`.
 #[inline]
 fn kept_ones<B: BitBlock, F: FnMut(usize) -> bool>(block: B, index: usize, keep: &mut F) -> B
     requires callable { F.IsAlwaysCallable keep.old }

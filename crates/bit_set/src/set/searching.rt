@@ -1,4 +1,4 @@
-// Calls that look for the next element, or the next number that is none, in either direction.
+// Calls that search for the next element, or the next absent number, in either direction.
 ghost use Rattle.std.specs.Prelude.{◌<◌, ◌≤◌, IfSome, MatchOption, length, max, not};
 ghost use Rattle.bit_blocks.specs.Searches.{FindsBefore, FindsFrom, IsFirstFrom};
 ghost use Rattle.sets.specs.{Choices.{IsFirstOf, IsGreatest, IsLastOf, IsLeast}, Members.HasNone, Sets.{elements, has, those_below, those_from}};

@@ -38,14 +38,14 @@ impl<B: BitBlock> BitSet<B> {
         Ok(())
     }
 
-    // How long a list is that keeps the elements moved up by `distance`.
+    // The length of a list that can hold the elements moved up by `distance`.
     fn end_of_raised(&self, distance: usize) -> Result<usize, SetError>
         ensures ok { IfOk result (λ end. (end ≡ bound_of (raised (elements self.now.values) distance))) }
         ensures err { IfErr result (λ fault. (fault ≡ SetError.Element)
             × (usize.MAX < bound_of (raised (elements self.now.values) distance))) }
         ensures fits { IsWithinCapacity self.now }
     {
-        // For the proof alone: the call of `capacity` brings in its clause that it holds the list.
+        // Only for the proof: the call of `capacity` brings in its clause that it holds the list.
         prove!(self.bits.len() <= self.bits.capacity());
         let Some(last) = self.last() else {
             return Ok(0);

@@ -1,4 +1,4 @@
-// The walk over a set's elements, from the back.
+// The iterator over a set's elements, from the back.
 ghost use Rattle.std.specs.{Prelude.{◌≡◌, MatchOption, None}, Iterator.{Adapters.{RevKeepsRuns, rev_source}, Runs.YieldsInReverse}, List.last_or};
 ghost use Rattle.sets.specs.{Choices.{IsGreatest, IsLastOf}, Members.HasNone};
 ghost use Rattle.bit_set.specs.Walk.{AdvancesBack};
@@ -35,7 +35,8 @@ impl<'a, B: BitBlock> Iter<'a, B> {
     /// let set = BitSet::from_bytes(alloc, &[0b0100_1010])?;
     /// assert!(set.iter().rev().eq([6, 4, 1]));
     /// ```
-    // By std's own a caller does not know what it gives. Where each walk said that, loops over it would stay open.
+    // With std's own method a caller would not know what it yields; if each iterator said so, loops over it would
+    // stay open.
     #[inline]
     pub fn rev(self) -> Rev<Self>
         ensures source { rev_source result ≡ self.entry }
@@ -51,7 +52,7 @@ impl<'a, B: BitBlock> DoubleEndedIterator for Iter<'a, B> {
 
     /// The greatest element that is left, and `None` for good once there is none. Both ends draw on the same
     /// elements. Moves to the last nonzero block by the summary; constant time within a block of the six types.
-    // Where it is a call, the walk goes through memory.
+    // If it is not inlined, the iterator goes through memory.
     #[inline(always)]
     fn next_back(&mut self) -> Option<usize> {
         let index = self.index;

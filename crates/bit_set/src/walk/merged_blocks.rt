@@ -9,10 +9,10 @@ use crate::bit_vec::operation::Operation;
 use crate::bit_vec::{BitVec, Blocks, count_merged_blocks};
 use std::marker::{Model, PhantomData};
 
-// Up to so many ones a block, the branch that leaves a block costs more than steps without one.
+// Up to this many ones in a block, the branch that leaves a block costs more than steps without one.
 const FEW: usize = 6;
 
-// Two sides that are pulled as one, an ended side too.
+// Two sides that are pulled together, even after one has ended.
 #[derive(Drop)]
 pub(crate) struct Pairs<'a, B: BitBlock, O: Operation> {
     first: Blocks<'a, B>,
@@ -56,7 +56,7 @@ impl<'a, B: BitBlock, O: Operation> Pairs<'a, B, O> {
         }
     }
 
-    // The next block, where `None` stays, and whether the walk is taken to be over blocks with few ones.
+    // The next block, or `None` for good, and whether the blocks are assumed to have few ones.
     #[inline]
     pub(crate) fn pull_with_kind(&mut self) -> (Option<B>, bool)
         ensures steps { PullsBlock B.width B.number self.old result.0 self.new }
@@ -65,14 +65,14 @@ impl<'a, B: BitBlock, O: Operation> Pairs<'a, B, O> {
         let first = self.first.next();
         let second = self.second.next();
         let block = merge_of_blocks::<B, O>(first, second);
-        // Two blocks of zeros say nothing.
+        // Two blocks of zeros say nothing about that.
         let is_sparse = has_few_ones(block) && (has_ones(first) || has_ones(second));
         (block, is_sparse)
     }
 
-    // The next block where it is wanted; else some block, and nothing is pulled. `None`, and nothing pulled, once a
-    // side has ended. There `pull_with_kind` alone goes on: a pull that finds the end of both is then counted once.
-    // That test is a branch too, but one that is predicted.
+    // The next block if it is wanted; otherwise some block, and nothing is pulled. `None`, with nothing pulled,
+    // once a side has ended: from there only `pull_with_kind` continues, so that a pull that finds the end of both
+    // is counted once. That test is a branch too, but a predicted one.
     #[inline(always)]
     pub(crate) fn pull_if(&mut self, wanted: bool) -> Option<B>
         ensures steps { PullsBlockIf B.width B.number wanted self.old result self.new }
@@ -104,7 +104,7 @@ impl<'a, B: BitBlock, O: Operation> Pairs<'a, B, O> {
         count_merged_blocks::<B, O>(self.first.as_slice(), self.second.as_slice())
     }
 
-    // What is ahead, the pulls going on.
+    // What is ahead, with the count of pulls continued.
     #[inline]
     pub(crate) fn clone(&self) -> Self
         ensures { result ≡ self.now }
@@ -136,7 +136,7 @@ fn has_ones<B: BitBlock>(block: Option<B>) -> bool {
     }
 }
 
-// What a pull of both sides gives. The side that has ended goes on with zeros.
+// The result of a pull of both sides. A side that has ended is extended by zeros.
 #[inline]
 fn merge_of_blocks<B: BitBlock, O: Operation>(first: Option<B>, second: Option<B>) -> Option<B>
     requires first { IfSome first B.is_block }

@@ -1,4 +1,4 @@
-// The walk over the numbers of a range that are not in a set.
+// The iterator over the absent numbers of a range.
 ghost use Rattle.std.specs.{Prelude.{◌≡◌, ℕ, ◌+◌, ◌-◌, ◌&&◌, not, IfSome, Some, length}, Iterator.{UpTo, item_count, Runs.YieldsInOrder, SizeHint.IsWithinCount}};
 ghost use Rattle.bit_blocks.specs.Ranges.{in_range};
 ghost use Rattle.sets.specs.{Ranges.{span, those_in_range}, Sets.{difference, elements, has}};
@@ -37,7 +37,7 @@ impl<'a, B: BitBlock> Model for Missing<'a, B> {
 }
 
 impl<'a, B: BitBlock> Missing<'a, B> {
-    // The walk over the numbers from `start` on and below `end` at which a bit vector is not true.
+    // The iterator over the numbers from `start` up to `end` at which a bit vector is not true.
     #[inline]
     fn over(bits: &'a BitVec<B>, start: usize, end: usize) -> Self
         ensures { StartsMissing B.width bits.now.values start end result }

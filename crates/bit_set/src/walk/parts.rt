@@ -1,4 +1,4 @@
-// The walks over a part of a set's elements.
+// The iterators over a part of a set's elements.
 ghost use Rattle.std.specs.{Prelude.{◌≡◌, ℕ, ◌-◌, ◌*◌, ◌/◌, ◌<◌, ◌&&◌, All, get_or, length, map, max, min, nat_le}, Iterator.Runs.YieldsInOrder};
 ghost use Rattle.bit_blocks.specs.{Digits.is_one, Ranges.in_range};
 ghost use Rattle.sets.specs.{Ranges.those_in_range, Sets.{elements, has, those_from}};
@@ -46,7 +46,7 @@ impl<B: BitBlock> BitSet<B> {
 }
 
 impl<'a, B: BitBlock> Iter<'a, B> {
-    // The walk over those of these places that are `from` or above.
+    // The iterator over those of these places that are `from` or above.
     #[inline]
     pub(crate) fn over_from(bits: &'a BitVec<B>, from: usize) -> Self
         ensures { IsAtStartFrom B.width bits.now.values from result }
@@ -62,7 +62,7 @@ impl<'a, B: BitBlock> Iter<'a, B> {
         }
     }
 
-    // The walk over those of these places that are `start` or above and below `end`.
+    // The iterator over those of these places that are at least `start` and below `end`.
     #[inline]
     pub(crate) fn over_part(bits: &'a BitVec<B>, start: usize, end: usize) -> Self
         ensures { IsAtStartOfPart B.width bits.now.values start end result }

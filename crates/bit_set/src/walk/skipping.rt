@@ -1,4 +1,4 @@
-// The walk over a set's elements, past many of them at once.
+// The iterator over a set's elements, skipping many of them at once.
 ghost use Rattle.std.specs.Prelude.{◌≤◌, length};
 ghost use Rattle.sets.specs.Sets.{IsAscending};
 ghost use Rattle.bit_set.specs.{Indexes.Passes, Walk.Skips};
@@ -30,8 +30,8 @@ impl<'a, B: BitBlock> Iter<'a, B> {
         self.next()
     }
 
-    // What is left ascends, by which `n` members are below the one that `nth` gives. It does nothing: what is read brings
-    // in what holds of the walk.
+    // What is left ascends, so `n` members are below the one that `nth` returns. It does nothing: its reads bring
+    // the iterator's invariants into the proof.
     #[inline(always)]
     fn ascends(&self)
         ensures { IsAscending self.now.left }
@@ -39,8 +39,8 @@ impl<'a, B: BitBlock> Iter<'a, B> {
         let _index = self.index;
     }
 
-    // Passes what is left of the block in hand if that is no more than `most` elements, and then blocks past it, as
-    // many at once as a block has bits. Returns how many elements it passed.
+    // Skips what is left of the block in hand if that is no more than `most` elements, and then blocks after it, as
+    // many at once as a block has bits. Returns how many elements it skipped.
     #[inline]
     fn pass_blocks(&mut self, most: usize) -> usize
         ensures within { result ≤ most }

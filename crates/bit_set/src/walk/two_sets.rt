@@ -1,4 +1,4 @@
-// The walk over what two sets become, by a type for each operation.
+// The iterator over a merge of two sets, with a type for each operation.
 ghost use Rattle.std.specs.{Prelude.{◌≡◌, IfSome, length}, Iterator.{UpTo, item_count, Runs.YieldsInOrder, SizeHint.IsWithinCount}};
 ghost use Rattle.sets.specs.{Members.{IsDifference, IsMerged, IsSymmetricDifference, IsUnion}, Sets.{elements, merge_of_sets, union, difference, symmetric_difference}};
 ghost use Rattle.bit_set.specs.Walk.{AdvancesByEach, GoesOn, StartsOverTwo};
@@ -48,7 +48,7 @@ impl<'a, B: BitBlock, O: Operation> Model for TwoSets<'a, B, O> {
 }
 
 impl<'a, B: BitBlock, O: Operation> TwoSets<'a, B, O> {
-    // The walk over what two sets become.
+    // The iterator over a merge of two sets.
     #[inline]
     pub(crate) fn over(first: &'a BitSet<B>, second: &'a BitSet<B>) -> Self
         ensures left { result.left ≡ merge_of_sets O.merge (elements first.now.values) (elements second.now.values) }
@@ -66,8 +66,8 @@ impl<'a, B: BitBlock, O: Operation> TwoSets<'a, B, O> {
         }
     }
 
-    // Goes on to the next block where the one in hand is used up and the source has it without a branch. How many ones
-    // a block has is random, so that a processor predicts the branch badly.
+    // Advances to the next block, if the one in hand is used up and the source has a next one, without a branch.
+    // How many ones a block has is random, so that a processor predicts the branch badly.
     #[inline(always)]
     fn advance_branchless(&mut self)
         ensures { GoesOn B.width self.old self.new }
@@ -119,7 +119,7 @@ impl<'a, B: BitBlock, O: Operation> Iterator for TwoSets<'a, B, O> {
             self.block = self.source.pull_with_kind().0?;
             self.index += B::bits();
         }
-        // `index` is a multiple of the width, so where the width is a power of two this adds as an or does.
+        // `index` is a multiple of the width, so this adds as an or does if the width is a power of two.
         Some(self.index + take_lowest_one(&mut self.block))
     }
 

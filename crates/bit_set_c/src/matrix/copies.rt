@@ -47,7 +47,7 @@ pub extern "C" fn bit_matrix_copy_members(
     copy_columns(matrix.get(), row, from, columns)
 }
 
-// Makes the blocks those of the row from one on; all of them are blocks of the row.
+// Copies the blocks of the row from an index on; all of them are blocks of the row.
 fn put_columns(matrix: &BitMatrix<Block>, row: usize, from: usize, blocks: &mut [Block])
     requires row { row < length matrix.now.rows }
     requires inside { from * width ≤ matrix.now.columns }
@@ -55,7 +55,7 @@ fn put_columns(matrix: &BitMatrix<Block>, row: usize, from: usize, blocks: &mut 
         → is_one (slice_index blocks.new k) j ≡ has_at matrix.now row ((from + k) * width + j) }
     ensures len { length blocks.new ≡ length blocks.old }
 {
-    // For the proof alone: the columns are a `usize`.
+    // Only for the proof: the number of columns is a `usize`.
     prove!(matrix.columns() <= usize::MAX);
     blocks.fill(0);
     for column in matrix.iter_from(row, from * WIDTH) {

@@ -11,7 +11,7 @@ use crate::making::boxed;
 use bit_matrix::BitMatrix;
 use std::alloc::Global;
 
-// Puts the matrix out in a box of its own, and returns whether there was memory for one.
+// Stores the matrix in a new box, and returns whether memory sufficed.
 pub(crate) fn boxed_matrix(alloc: Global, out: &mut OwnedMatrix, matrix: BitMatrix<Block>) -> bool
     requires empty { out.old.held ≡ None }
     ensures made { result ≡ is_some out.new.held }

@@ -1,4 +1,4 @@
-// What a matrix says of itself and of its rows, and how rows and matrices lie to each other.
+// Calls that read a matrix and its rows, and compare rows and matrices.
 ghost use Rattle.std.specs.{Prelude.{◌≡◌, ◌<◌, ◌≤◌, ◌↔◌, IfSome, IsTrue, length, min}, List.sum_by};
 ghost use Rattle.bit_blocks.specs.Searches.{FindsFrom};
 ghost use Rattle.bit_set.specs.{Choices.IsFirstOf, Members.{IsDisjoint, IsSubset}, Sets.{is_disjoint, is_subset, those_from}};
