@@ -17,7 +17,7 @@ pub extern "C" fn bench_fill(alloc: Global, len: usize, turns: usize) -> usize {
     fill(alloc, len, turns).unwrap_or(usize::MAX)
 }
 
-// Each turn appends so many values, ones and zeros in turn.
+// Each turn appends this many values, ones and zeros in turn.
 fn grow(alloc: Global, values: u8, turns: u32) -> Result<usize, AllocError> {
     let mut bits = BitVec::new(alloc);
     for turn in 0..turns {

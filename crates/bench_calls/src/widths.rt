@@ -7,7 +7,7 @@ use bit_set::bit_vec::Merge;
 use bit_set::{BitBlock, BitSet, SetError};
 use std::alloc::Global;
 
-// The call at the type of blocks that has so many bits.
+// The call at the type of blocks that has this many bits.
 macro_rules! at_width {
     ($bits:expr, $call:ident($($argument:expr),*)) => {
         match $bits {

@@ -171,7 +171,8 @@ fn merge_same<B: BitBlock, O: Operation>(blocks: &mut [B], start: usize, count: 
     !same(mismatch, B::zero())
 }
 
-// Each of so many blocks from `write` on becomes its merge with that as far from `read` on. Returns whether one changed.
+// Each of this many blocks from `write` on becomes its merge with that as far from `read` on. Returns whether one
+// changed.
 #[inline(always)]
 pub(crate) fn merge_within<B: BitBlock, O: Operation>(
     blocks: &mut [B],

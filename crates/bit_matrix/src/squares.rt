@@ -134,7 +134,7 @@ fn transpose_groups<B: BitBlock>(blocks: &mut [B], stride: usize, size: usize, c
     }
 }
 
-// The block of row `row` of so many, and 0 where there is no such row.
+// The block of row `row` of this many, and 0 where there is no such row.
 #[inline(always)]
 fn block_of_row<B: BitBlock>(blocks: &[B], stride: usize, rows: usize, row: usize, k: usize) -> B
     requires rows { length blocks.now ≡ rows * stride }

@@ -3,7 +3,7 @@ ghost use Rattle.std.specs.Prelude.{◌≡◌, ◌+◌, ◌*◌, ◌^◌, ◌<�
 
 use crate::BitBlock;
 
-// The index of a bit in the list, which has so many rows or more.
+// The index of a bit in the list, which has this many rows or more.
 #[inline]
 pub(crate) fn bit_index_of<B: BitBlock>(stride: usize, row: usize, column: usize) -> usize
     requires fits { row * (stride * B.width) + column < 2 ^ 64 }
@@ -13,7 +13,7 @@ pub(crate) fn bit_index_of<B: BitBlock>(stride: usize, row: usize, column: usize
     row * (stride * B::bits()) + column
 }
 
-// How many blocks so many rows have, or `None` where a `usize` does not count their bits.
+// How many blocks this many rows have, or `None` if a `usize` does not count their bits.
 pub(crate) fn blocks_of_rows<B: BitBlock>(rows: usize, stride: usize) -> Option<usize>
     ensures { MatchOption result (usize.MAX < rows * (stride * B.width))
         (λ count. (count ≡ rows * stride) × (rows * (stride * B.width) ≤ usize.MAX)) }

@@ -300,7 +300,7 @@ fn leaves_a_read_that_failed(rt: HostRuntime) {
     }
 }
 
-// The front of the replies that so many writes of seven bytes have written.
+// The front of the replies that this many writes of seven bytes have written.
 fn written(writes: usize) -> &'static [u8] {
     let count = writes.saturating_mul(7);
     ELEMENT_REPLIES.get(..count).unwrap_or(b"?")

@@ -120,7 +120,7 @@ impl fmt::Write for Fails {
     }
 }
 
-// Whether a set is shown by so many calls.
+// Whether a set is shown by this many calls.
 fn is_shown(set: &BitSet<u8>, taken: usize) -> bool {
     let mut out = Fails { taken };
     fmt::Write::write_fmt(&mut out, format_args!("{set}")).is_ok()
@@ -135,7 +135,7 @@ fn a_text_fails_where_the_formatter_does(rt: HostRuntime) {
     }
 }
 
-// Whether the bit vector of a set is shown by so many calls, and how many of them are left.
+// Whether the bit vector of a set is shown by this many calls, and how many of them are left.
 fn shown_bits(set: &BitSet<u8>, taken: usize) -> (bool, usize) {
     let mut out = Fails { taken };
     let is_shown = fmt::Write::write_fmt(&mut out, format_args!("{set:?}")).is_ok();

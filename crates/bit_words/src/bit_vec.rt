@@ -60,9 +60,9 @@ pub use nonzero::Nonzero;
 #[derive(Drop)]
 pub struct BitVec<B: BitBlock = u32> {
     blocks: Vec<B>,
-    // Which of the blocks are not 0. Empty where they are few.
+    // Which of the blocks are not 0. Empty if they are few.
     summary: Vec<B>,
-    // Where a summary is stored, each block of it before this one is 0: a search for the first true value starts here.
+    // If a summary is stored, each block of it before this one is 0: a search for the first true value starts here.
     search_start: usize,
     len: usize,
 }

@@ -93,7 +93,8 @@ pub(crate) fn follow_one(start: &mut usize, chunk: usize, bit: bool)
     }
 }
 
-// Few values become true before all others: a call of its own, so that no other one stores where the search starts.
+// Few values become true before all others: a separate function, so that no other one stores where the search
+// starts.
 #[cold]
 #[inline(never)]
 fn move_back(start: &mut usize, chunk: usize)
@@ -145,8 +146,8 @@ fn bits_of_groups<B: BitBlock>(blocks: &[B], start: usize, groups: usize) -> B
     digits
 }
 
-// The block of a summary that is about the blocks from `start` on, as many as a block has bits. It is a call of its own: in a
-// loop over chunks that seldom makes one anew, the compiler would get its parts ready at each turn.
+// The block of a summary that covers the blocks from `start` on, as many as a block has bits. It is a separate
+// function: in a loop over chunks that seldom makes one anew, the compiler would get its parts ready at each turn.
 #[inline(never)]
 pub(crate) fn used_from<B: BitBlock>(blocks: &[B], start: usize) -> B
     requires in_bounds { start ≤ length blocks.now }
@@ -196,7 +197,7 @@ pub(crate) fn short_limit<B: BitBlock>() -> usize
     B::bits().saturating_mul(SHORT)
 }
 
-// Whether a list of so many blocks stores no summary.
+// Whether a list of this many blocks stores no summary.
 #[inline]
 pub(crate) fn is_short<B: BitBlock>(count: usize) -> bool
     ensures value { result ≡ nat_le count (short_count B.width) }
@@ -206,7 +207,7 @@ pub(crate) fn is_short<B: BitBlock>(count: usize) -> bool
     count <= short_limit::<B>()
 }
 
-// How many blocks of a summary a list of so many blocks stores.
+// How many blocks of a summary a list of this many blocks stores.
 #[inline]
 pub(crate) fn stored_count<B: BitBlock>(count: usize) -> usize
     ensures { result ≡ stored_for B.width count }
@@ -236,7 +237,7 @@ pub(crate) fn uniform_summary<B: BitBlock>(
     repeated_bit(alloc, blocks.len(), bit)
 }
 
-// Makes the summary anew, over one that has as many blocks as it takes.
+// Computes the summary anew, over one that has as many blocks as it takes.
 fn summarize<B: BitBlock>(summary: &mut Vec<B>, blocks: &[B])
     requires count { vec_len summary.old ≡ blocks_for B.width (length blocks.now) }
     requires each { All B.is_block summary.old.items }
@@ -250,8 +251,8 @@ fn summarize<B: BitBlock>(summary: &mut Vec<B>, blocks: &[B])
     }
 }
 
-// A block of a summary, of which `count` bits from `index` on are made anew: they say which of the blocks from `start` on
-// are not 0.
+// A block of a summary, of which `count` bits from `index` on are computed anew: they say which of the blocks from
+// `start` on are not 0.
 #[inline]
 fn with_used_bits<B: BitBlock>(
     block: B,
@@ -279,7 +280,7 @@ fn with_used_bits<B: BitBlock>(
     block_or(kept, shift_left(bits_from(blocks, start, count), index))
 }
 
-// Makes the bits of the summary of the blocks from `first` on and below `end` anew, whatever they were.
+// Makes the bits of the summary of the blocks from `first` up to `end` anew, whatever they were.
 pub(crate) fn summarize_span<B: BitBlock>(
     summary: &mut Vec<B>,
     blocks: &[B],
@@ -310,7 +311,7 @@ pub(crate) fn summarize_span<B: BitBlock>(
     }
 }
 
-// A summary of its own for the blocks, empty where they are few. Fails only if memory runs out, and never for few.
+// A summary of its own for the blocks, empty if they are few. Fails only if memory runs out, and never for few.
 pub(crate) fn summary_of<B: BitBlock>(alloc: Global, blocks: &[B]) -> Result<Vec<B>, AllocError>
     requires blocks { All B.is_block blocks.now }
     requires fits { length blocks.now < 2 ^ 64 }
@@ -343,7 +344,7 @@ pub(crate) fn store_summary<B: BitBlock>(summary: &mut Vec<B>, blocks: &[B], cou
     }
 }
 
-// The summary of blocks of which none was stored yet. It is rare, and so a call of its own.
+// The summary of blocks of which none was stored yet. It is rare, and so a separate function.
 #[cold]
 #[inline(never)]
 fn store_short<B: BitBlock>(summary: &mut Vec<B>, blocks: &[B])
@@ -359,7 +360,7 @@ fn store_short<B: BitBlock>(summary: &mut Vec<B>, blocks: &[B])
 }
 
 // The summary of `old` blocks becomes that of the longer list: each of the new ones is 0, or none of them is, and
-// then the last of the old ones may have changed. There is capacity for it. Where they are few, none is stored.
+// then the last of the old ones may have changed. There is capacity for it. If they are few, none is stored.
 #[inline]
 pub(crate) fn append_to_summary<B: BitBlock>(
     summary: &mut Vec<B>,

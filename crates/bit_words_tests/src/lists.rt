@@ -25,7 +25,7 @@ pub(crate) fn put<B: BitBlock>(bits: &mut BitVec<B>, place: usize, bit: bool) {
     }
 }
 
-// Appends so many values where a list may be so long.
+// Appends this many values where a list may be so long.
 pub(crate) fn grow_by<B: BitBlock>(rt: &impl Abort, bits: &mut BitVec<B>, n: usize, bit: bool) {
     let n = n.min(usize::MAX - bits.len());
     ok(rt, bits.grow(n, bit));

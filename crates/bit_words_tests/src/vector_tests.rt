@@ -11,7 +11,7 @@ fn of_bytes<B: BitBlock>(rt: &impl Abort, alloc: Global, bytes: &[u8]) -> BitVec
     ok(rt, BitVec::from_bytes_general(alloc, bytes))
 }
 
-// So many true values.
+// This many true values.
 fn trues<B: BitBlock>(rt: &impl Abort, alloc: Global, n: usize) -> BitVec<B> {
     ok(rt, BitVec::from_elem_general(alloc, n, true))
 }
@@ -29,7 +29,7 @@ fn is_lowered<B: BitBlock>(bits: &mut BitVec<B>, place: usize) -> bool {
     place < bits.len() && bits.replace(place, false)
 }
 
-// Of five values that are true but for the first: the outer two, what is past them, and whether the capacity
+// Of five values that are true except for the first: the outer two, what is past them, and whether the capacity
 // holds all.
 fn grown<B: BitBlock>(rt: &impl Abort, alloc: Global) -> ([Option<bool>; 3], bool) {
     let mut bits = BitVec::<B>::new_general(alloc);
@@ -84,7 +84,7 @@ fn a_walk_gives_each_block(rt: HostRuntime) {
     expect_eq(&rt, &copy.count(), &0);
 }
 
-// How a list fails to take so many values, by each call that takes memory for them.
+// How a list fails to take this many values, by each call that takes memory for them.
 fn failures<B: BitBlock>(bits: &mut BitVec<B>, len: usize) -> [Result<(), AllocError>; 4] {
     let more = len.saturating_sub(bits.len());
     let ones = bits.grow(more, true);
@@ -96,7 +96,7 @@ fn failures<B: BitBlock>(bits: &mut BitVec<B>, len: usize) -> [Result<(), AllocE
     [ones, zeros, capacity, bits.reserve_exact(more)]
 }
 
-// Whether no list is made of so many values.
+// Whether no list is made of this many values.
 fn is_too_long<B: BitBlock>(alloc: Global, len: usize) -> bool {
     BitVec::<B>::from_elem_general(alloc, len, true).is_err()
         && BitVec::<B>::from_elem_general(alloc, len, false).is_err()
@@ -154,7 +154,7 @@ impl fmt::Write for Fails {
     }
 }
 
-// Whether a list is shown by so many calls, and how many of them are left.
+// Whether a list is shown by this many calls, and how many of them are left.
 fn shown(bits: &BitVec<u8>, taken: usize) -> (bool, usize) {
     let mut out = Fails { taken };
     let is_shown = fmt::Write::write_fmt(&mut out, format_args!("{bits:?}")).is_ok();

@@ -7,7 +7,7 @@ use bit_set::bit_vec::{
     BitVec, Blocks, FirstAndNonzero, Nonzero, block_or_zero, take_highest_one, take_lowest_one,
 };
 
-// So many steps of a walk over blocks, and before each of them the bounds on what is left.
+// This many steps of a walk over blocks, and before each of them the bounds on what is left.
 fn take_steps<B: Width>(walk: &mut Blocks<'_, B>, steps: usize, answers: &mut Answers) {
     for _ in 0..steps {
         answers.bounds(walk.size_hint());
@@ -86,7 +86,7 @@ fn take_entries<B: Width, W: Entries<B>>(walk: &mut W, steps: usize, answers: &m
     }
 }
 
-// A walk over so many blocks, and on, and a copy that was taken between.
+// A walk over this many blocks, and on, and a copy that was taken between.
 fn take<B: Width, W: Entries<B>>(mut walk: W, steps: usize, answers: &mut Answers)
     requires { (s : W) → W.can_next s }
 {
@@ -134,7 +134,7 @@ pub(crate) fn nonzero_ends<B: Width>(
     }
 }
 
-// So many places from a block on at which the bit vector is true, by a block that is filled again and again.
+// This many places from a block on at which the bit vector is true, by a block that is filled again and again.
 pub(crate) fn refill<B: Width>(
     bits: &BitVec<B>,
     first: usize,
@@ -191,7 +191,7 @@ fn first_place<B: Width>(
     index.checked_add(take_lowest_one(block))
 }
 
-// So many places at which the bit vector is true, from both ends, by a block in hand at each.
+// This many places at which the bit vector is true, from both ends, by a block in hand at each.
 pub(crate) fn refill_ends<B: Width>(
     bits: &BitVec<B>,
     steps: usize,

@@ -62,7 +62,7 @@ impl<B: BitBlock, O: Operation> Walk for TwoSets<'_, B, O> {
     ghost can = { λ s. tt };
 }
 
-// So many steps, and before each of them the bounds on what is left.
+// This many steps, and before each of them the bounds on what is left.
 fn take_steps<W: Walk>(walk: &mut W, steps: usize, answers: &mut Answers) {
     for _ in 0..steps {
         answers.bounds(walk.size_hint());
@@ -70,8 +70,8 @@ fn take_steps<W: Walk>(walk: &mut W, steps: usize, answers: &mut Answers) {
     }
 }
 
-// How many items are left to the walk, and to a copy that was taken before. Both go on by so many steps, and the copy by
-// one more.
+// How many items are left to the walk, and to a copy that was taken before. Both go on by this many steps, and the
+// copy by one more.
 fn go_on<W: Walk>(walk: &mut W, copy: &mut W, further: usize, answers: &mut Answers) {
     take_steps(walk, further, answers);
     answers.number(walk.copy().count_left());
@@ -79,7 +79,7 @@ fn go_on<W: Walk>(walk: &mut W, copy: &mut W, further: usize, answers: &mut Answ
     take_steps(copy, 1, answers);
 }
 
-// A walk over so many steps, and on; a copy that was taken between; and how many items are left to each.
+// A walk over this many steps, and on; a copy that was taken between; and how many items are left to each.
 fn take<W: Walk>(mut walk: W, steps: usize, further: usize, answers: &mut Answers) {
     take_steps(&mut walk, steps, answers);
     let mut copy = walk.copy();
@@ -98,8 +98,8 @@ fn next_at<B: BitBlock>(walk: &mut Iter<'_, B>, is_front: bool) -> Option<usize>
     }
 }
 
-// So many steps at the ends that the digits of a number say, with the bounds on what is left before each of them; and how
-// many items are left then.
+// This many steps at the ends that the digits of a number say, with the bounds on what is left before each of them;
+// and how many items are left then.
 fn take_ends<B: BitBlock>(mut walk: Iter<'_, B>, steps: usize, ends: usize, answers: &mut Answers) {
     for step in 0..steps {
         answers.bounds(walk.size_hint());
@@ -117,7 +117,7 @@ fn take_range<B: BitBlock>(set: &BitSet<B>, start: usize, end: usize, answers: &
     take_ends(walk, end % 64, start, answers);
 }
 
-// The item after so many, the next one, and the one after so many again; and how many are left then.
+// The item after this many, the next one, and the one after this many again; and how many are left then.
 fn pass_over<B: BitBlock>(
     mut walk: Iter<'_, B>,
     passed: usize,

@@ -86,7 +86,7 @@ fn take_in<B: BitBlock>(reaches: &mut BitMatrix<B>, row: usize, from: usize, to:
     }
 }
 
-// The least node in the row from `from` on and below `to`.
+// The least node in the row from `from` up to `to`.
 fn next_in<B: BitBlock>(reaches: &BitMatrix<B>, row: usize, from: usize, to: usize) -> Option<usize>
     requires { row < length reaches.now.rows }
     ensures inside { IfSome result (λ node. (from ≤ node) × (node < to) × IsTrue (has_at reaches.now row node)) }

@@ -24,7 +24,7 @@ pub struct Bound {
     pub bytes: usize,
 }
 
-// So many blocks, or twice as many and 8 at least where they grow.
+// This many blocks, or twice as many and 8 at least where they grow.
 fn asked(blocks: usize, grows: bool) -> usize {
     if grows {
         blocks.saturating_mul(2).max(8)
@@ -33,7 +33,7 @@ fn asked(blocks: usize, grows: bool) -> usize {
     }
 }
 
-// How many blocks of so many bits a list of this length takes.
+// How many blocks of this many bits a list of this length takes.
 fn blocks_of(len: usize, width: usize) -> usize {
     len.div_ceil(width.max(1))
 }
@@ -42,8 +42,8 @@ fn bytes_of(blocks: usize, width: usize) -> usize {
     blocks.saturating_mul(width / 8)
 }
 
-// A list of this length, over blocks of so many bits: its blocks, and a bit for each of them where there are more than
-// four times as many as a block has bits.
+// A list of this length, over blocks of this many bits: its blocks, and a bit for each of them where there are more
+// than four times as many as a block has bits.
 fn bound_of_list(len: usize, width: usize, grows: bool) -> Bound {
     let count = blocks_of(len, width);
     let blocks = asked(count, grows);
@@ -71,7 +71,7 @@ impl Bound {
 }
 
 impl Ask {
-    // What this is over blocks of so many bits.
+    // What this is over blocks of this many bits.
     fn bound(self, width: usize) -> Bound {
         match self {
             Ask::Exact(len) => bound_of_list(len, width, false),

@@ -2,7 +2,7 @@
 use bit_set::{BitBlock, BitSet};
 use std::fmt;
 
-// Takes so many pieces of a text and fails from then on, and counts those that it is offered.
+// Takes this many pieces of a text and fails from then on, and counts those that it is offered.
 #[derive(Drop)]
 struct Sink {
     most: usize,
@@ -26,7 +26,7 @@ enum Text {
     BitsDebug,
 }
 
-// Writes the text to what takes so many pieces. How many it was offered, and whether the writing failed.
+// Writes the text to what takes this many pieces. How many it was offered, and whether the writing failed.
 fn offered<B: BitBlock>(text: Text, set: &BitSet<B>, most: usize) -> (usize, bool) {
     let mut sink = Sink { most, offered: 0 };
     let ended = match text {
@@ -37,8 +37,8 @@ fn offered<B: BitBlock>(text: Text, set: &BitSet<B>, most: usize) -> (usize, boo
     (sink.offered, ended.is_err())
 }
 
-// How many pieces the text has, where its writing fails just where the sink does: at the first piece that is one too
-// many, which is the last that it is offered. 0 where that is not so.
+// How many pieces the text has, where its writing fails exactly if the sink does: at the first piece that is one
+// too many, which is the last that it is offered. 0 where that is not so.
 fn pieces<B: BitBlock>(text: Text, set: &BitSet<B>) -> usize {
     let (count, failed) = offered(text, set, usize::MAX);
     let mut is_right = !failed;

@@ -71,7 +71,7 @@ struct Matrices<B: BitBlock> {
     made_set: BitSet<B>,
 }
 
-// Whether the matrix has so many rows and columns, and each row just these columns.
+// Whether the matrix has this many rows and columns, and each row just these columns.
 fn has_rows<B: BitBlock>(
     matrix: &BitMatrix<B>,
     rows: usize,

@@ -188,7 +188,7 @@ fn may_stand<B: BitBlock>(table: &Table<B>, place: usize) -> bool {
     }
 }
 
-// Whether so many commands have just their replies.
+// Whether this many commands have just their replies.
 fn are_replies(alloc: Global, count: usize, replies: &[Reply]) -> Result<bool, AllocError> {
     let mut text = Vec::new(alloc);
     let mut is_right = replies.len() == count;

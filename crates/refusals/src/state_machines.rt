@@ -16,7 +16,7 @@ const SECOND: &[usize] = &[0, 0, 1, 0];
 
 #[derive(Clone, Copy)]
 enum Call {
-    // A word of so many symbols, for whose runs there are two sets.
+    // A word of this many symbols, for whose runs there are two sets.
     Accepts(usize),
     Determinize,
 }
@@ -68,7 +68,7 @@ fn automaton<B: BitBlock>(alloc: Global, accepting: usize) -> Result<Nfa<B>, Set
     Ok(Nfa::new(moves, starts, accepting))
 }
 
-// A word of so many symbols, of which the third from the end alone is 1.
+// A word of this many symbols, of which the third from the end alone is 1.
 fn word(alloc: Global, length: usize) -> Result<Vec<usize>, AllocError> {
     let mut word = Vec::new(alloc);
     for place in 0..length {
@@ -160,7 +160,8 @@ struct Comparing<B: BitBlock> {
     found: Vec<usize>,
 }
 
-// A word that just one of the two accepts, or an empty list where there is none; no two of these accept the empty word.
+// A word that just one of the two accepts, or an empty list if there is none; no two of these accept the empty
+// word.
 fn compared<B: BitBlock>(alloc: Global, a: &Dfa<B>, b: &Dfa<B>) -> Result<Vec<usize>, AllocError> {
     match equivalent(alloc, a, b)? {
         Some(word) => Ok(word),

@@ -262,7 +262,7 @@ fn a_matrix_has_texts(rt: HostRuntime) {
     expect_eq(&rt, &debug.as_str(), &"BitMatrix { columns: 4, rows: [] }");
 }
 
-// Takes so many pieces of a text, and fails from then on.
+// Takes this many pieces of a text, and fails from then on.
 #[derive(Drop)]
 struct Sink {
     most: usize,
@@ -279,7 +279,7 @@ impl fmt::Write for Sink {
     }
 }
 
-// How many pieces are offered to what takes so many of them, and whether the writing failed.
+// How many pieces are offered to what takes this many of them, and whether the writing failed.
 fn offered(matrix: &BitMatrix, is_debug: bool, most: usize) -> (usize, bool) {
     let mut sink = Sink { most, offered: 0 };
     let ended = if is_debug {

@@ -160,7 +160,7 @@ pub fn or_mismatch<B: BitBlock>(seen: B, a: B, b: B) -> B
     either(seen, block_xor(a, b))
 }
 
-// A block that is 0 just where both are.
+// A block that is 0 exactly if both are.
 #[inline]
 fn either<B: BitBlock>(a: B, b: B) -> B
     requires left { B.is_block a }

@@ -10,8 +10,8 @@ use crate::packed::comparing::or_mismatch;
 use crate::packed::groups::{GROUP, LONG_GROUP};
 use crate::packed::others::{Except, Others, Zeros};
 
-// A block that is 0 just where the `count` blocks from `start` on are the others. The compiler makes vector code of it
-// where it knows the count.
+// A block that is 0 exactly if the `count` blocks from `start` on are the others. The compiler makes vector code of
+// it if it knows the count.
 #[inline(always)]
 pub(crate) fn differences<B: BitBlock, S: Others<B>>(
     blocks: &[B],
@@ -72,11 +72,11 @@ pub(crate) fn differing_group<B: BitBlock, S: Others<B>>(
     groups
 }
 
-// Where the first group of the blocks from `start` on and before `end` begins in which a block differs, or `None` where
-// all of them are the others. Groups are long ones, then one of half as many blocks, and a short one. What is left is
-// looked at in a group that begins within the one before it, so that no block is looked at alone; fewer blocks than a
-// short group has are one group. A list that differs at its first blocks, as most do that differ, is not looked at
-// beyond a short one.
+// Where the first group of the blocks from `start` up to `end` begins in which a block differs, or `None` if all of
+// them are the others. Groups are long ones, then one of half as many blocks, and a short one. What is left is
+// looked at in a group that begins within the one before it, so that no block is looked at alone; fewer blocks than
+// a short group has are one group. A list that differs at its first blocks, as most do that differ, is not looked
+// at beyond a short one.
 #[inline(always)]
 pub(crate) fn differing_place<B: BitBlock, S: Others<B>>(
     blocks: &[B],

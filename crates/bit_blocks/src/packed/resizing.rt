@@ -1,4 +1,4 @@
-// A list of bits that grows, is cut or is filled: the bits past its length stay 0. Memory is asked for elsewhere.
+// A list of bits that grows, is cut or is filled: the bits past its length stay 0. Memory is allocated elsewhere.
 ghost use Rattle.std.specs.Prelude.{◌≡◌, ℕ, ◌-◌, ◌/◌, ◌<◌, ◌≤◌, All, IfOk, IsOk, false, nat_lt, map, take, vec_len, vec_capacity};
 ghost use Rattle.bit_blocks.specs.{Bits.blocks_for, Storage.{value_at, IsPacked, WritesInPlace}};
 

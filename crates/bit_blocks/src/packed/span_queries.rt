@@ -1,4 +1,4 @@
-// What is asked of the values from `start` on and below `end`: how many are true, and whether all are or none is. The
+// What is asked of the values from `start` up to `end`: how many are true, and whether all are or none is. The
 // first and the last of their blocks are read through a mask.
 ghost use Rattle.std.specs.{Prelude.{◌≡◌, ℕ, ◌-◌, ◌*◌, ◌<◌, ◌≤◌, ◌↔◌, All, IsTrue, bit_and, drop, false, get_or, length, map, take, true}, Int.RustNames.count_ones, List.{count_by, range_with_len}};
 ghost use Rattle.bit_blocks.specs.{BlockMerges.MergesSpanToFalse, Digits.is_one, Merges.merge_of_values, Storage.value_at};
@@ -10,7 +10,7 @@ use crate::block::operators::{all_ones, block_and, ones_below, same};
 use crate::packed::access::{bit_index, block_at, block_index};
 use crate::packed::ones::ones_of;
 
-// The blocks from `first` on and below `end`.
+// The blocks from `first` up to `end`.
 #[inline]
 fn blocks_between<B: BitBlock>(blocks: &[B], first: usize, end: usize) -> &[B]
     requires forward { first ≤ end }
@@ -70,7 +70,7 @@ fn masks_to_zero<B: BitBlock, O: Operation>(blocks: &[B], k: usize, mask: B) -> 
     same(O::of_blocks(mask, block_at(blocks, k)), B::zero())
 }
 
-// Whether what ones and each of the blocks from `first` on and below `end` merge to is 0. Stops at the first that does
+// Whether what ones and each of the blocks from `first` up to `end` merge to is 0. Stops at the first that does
 // not.
 #[inline]
 fn ones_merge_to_zero<B: BitBlock, O: Operation>(blocks: &[B], first: usize, end: usize) -> bool

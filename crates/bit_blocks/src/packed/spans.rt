@@ -1,5 +1,5 @@
-// Merges with a span, a list that is true from `start` on and below `end`: the first and the last block of it with a
-// mask, those between with ones alone.
+// Merges with a span, a list that is true from `start` up to `end`: the first and the last block of it with a mask,
+// those between with ones alone.
 ghost use Rattle.std.specs.Prelude.{◌≡◌, ◌≢◌, ℕ, ◌*◌, ◌<◌, ◌≤◌, All, get_or, length, map, true, false, vec_len};
 ghost use Rattle.bit_blocks.specs.{BlockMerges.IsMergedSpan, Digits.is_one, Merges.merge_of_values, Storage.WritesInPlace};
 
@@ -26,7 +26,7 @@ fn merge_mask<B: BitBlock, O: Operation>(blocks: &mut [B], k: usize, mask: B)
     put_in(blocks, k, merged);
 }
 
-// Each of the blocks from `first` on and below `end` becomes its merge with ones. The compiler makes a fill of it where
+// Each of the blocks from `first` up to `end` becomes its merge with ones. The compiler makes a fill of it where
 // the merge is a union or a difference, and vector code where not.
 #[inline]
 fn merge_with_ones<B: BitBlock, O: Operation>(blocks: &mut [B], first: usize, end: usize)
@@ -45,7 +45,7 @@ fn merge_with_ones<B: BitBlock, O: Operation>(blocks: &mut [B], first: usize, en
     }
 }
 
-// The values from `start` on and below `end`, of which there are some, become their merges with true.
+// The values from `start` up to `end` (at least one) become their merges with true.
 #[inline]
 fn merge_in<B: BitBlock, O: Operation>(blocks: &mut [B], start: usize, end: usize)
     requires some { start < end }

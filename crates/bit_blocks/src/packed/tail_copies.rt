@@ -8,7 +8,7 @@ use crate::packed::access::{bit_index, block_at, block_index, put_block};
 use crate::packed::copies::{filled_with, push_copies};
 use std::alloc::{AllocError, Global};
 
-// A new vector of the same blocks, but for the first `count`, which are 0.
+// A new vector of the same blocks, except for the first `count`, which are 0.
 fn copy_past<B: BitBlock>(alloc: Global, blocks: &[B], count: usize) -> Result<Vec<B>, AllocError>
     requires within { count ≤ length blocks.now }
     requires each { All B.is_block blocks.now }

@@ -27,7 +27,7 @@ enum Verb {
     Remove(usize),
     Contains(usize),
     Extend(&'static [usize]),
-    // So many numbers, the greatest first.
+    // This many numbers, the greatest first.
     ExtendBelow(usize),
     Truncate(usize),
     Empty,

@@ -124,7 +124,7 @@ impl<B: BitBlock> BitVec<B> {
     }
 }
 
-// For the proof alone: what the type of a byte says of each.
+// Only for the proof: what the type of a byte says of each.
 #[inline(always)]
 fn are_bytes(bytes: &[u8])
     ensures { (k : ℕ) → get_or bytes.now k 0 < 2 ^ 8 }

@@ -101,8 +101,8 @@ impl<B: BitBlock> BitVec<B> {
         self.grow_blocks(n, bit)
     }
 
-    // `grow` where a block is written. It is a call of its own, so that a list that grows by a value
-    // at a time, past the last block once in its width, saves no registers for what is rare.
+    // `grow` where a block is written. It is a separate function, so that a list that grows by a value at a time,
+    // past the last block once in its width, saves no registers for what is rare.
     #[inline(never)]
     fn grow_blocks(&mut self, n: usize, bit: bool) -> Result<(), AllocError>
         requires { length self.old.values + n ≤ usize.MAX }

@@ -18,7 +18,7 @@ mod chunks;
 #[derive(Drop)]
 pub(crate) struct Pending<'a, B: BitBlock> {
     pub(crate) summary: Blocks<'a, B>,
-    // What is left of the summary's block in hand. Where none is stored, it has a bit for each block that there is.
+    // What is left of the summary's block in hand. If none is stored, it has a bit for each block that there is.
     pub(crate) bits: B,
     // The index of the block that its lowest digit is about.
     pub(crate) index: usize,
@@ -26,7 +26,7 @@ pub(crate) struct Pending<'a, B: BitBlock> {
     pub(crate) end: usize,
 }
 
-// What is made up for a block of the summary where none is stored.
+// What is made up for a block of the summary if none is stored.
 #[derive(Clone, Copy, Drop)]
 pub(crate) enum Unstored {
     // A bit for each block, zero or not.
@@ -36,7 +36,7 @@ pub(crate) enum Unstored {
 }
 
 impl<'a, B: BitBlock> Pending<'a, B> {
-    // What is pending past the block at `first`. Where there is no block, nothing.
+    // What is pending past the block at `first`. If there is no block, nothing.
     #[inline]
     pub(crate) fn after(blocks: &[B], summary: &'a [B], first: usize, unstored: Unstored) -> Self
         requires each { All B.is_block blocks.now }
@@ -79,8 +79,8 @@ impl<'a, B: BitBlock> Pending<'a, B> {
         }
     }
 
-    // Takes the lowest pending bit, and returns the index of the block that it is about; where none is left, after the
-    // next block of the summary that has one.
+    // Takes the lowest pending bit, and returns the index of the block that it covers; where none is left, after
+    // the next block of the summary that has one.
     #[inline(always)]
     pub(crate) fn next_block(&mut self, blocks: &[B]) -> Option<usize>
         requires walk { IsPending B.width B.number B.is_block
@@ -93,7 +93,7 @@ impl<'a, B: BitBlock> Pending<'a, B> {
             result self.new.index (B.number self.new.bits) self.new.summary.pulls }
     {
         while !is_nonzero(self.bits) {
-            // `index` goes with the block of the summary in hand: on by those that are passed over, and by one more
+            // `index` goes with the block of the summary in hand: on by those that are skipped, and by one more
             // only where there are blocks for it.
             self.index += pass_zero_chunks(&mut self.summary, self.end - self.index) * B::bits();
             if self.end - self.index <= B::bits() {
@@ -125,7 +125,7 @@ fn pass_zero_chunks<B: BitBlock>(summary: &mut Blocks<'_, B>, count: usize) -> u
     summary.pass_zeros()
 }
 
-// The next block of the summary, which is about the blocks from `start` on, or what is made up where none is stored. It
+// The next block of the summary, which covers the blocks from `start` on, or what is made up if none is stored. It
 // has no bit of a block from `end` on. Counts one pull.
 #[inline(always)]
 fn pull_used<B: BitBlock>(
@@ -156,7 +156,7 @@ fn pull_used<B: BitBlock>(
     }
 }
 
-// A block with so many bits set, from the lowest on, or all of them.
+// A block with this many bits set, from the lowest on, or all of them.
 #[inline]
 #[tactic(auto, using(bit_blocks::proofs::Masks::masks))]
 fn ones_for<B: BitBlock>(count: usize) -> B

@@ -41,8 +41,8 @@ fn changes_chunk<B: BitBlock, O: Operation, S: Summarized<B>>(
     changing_place::<B, O, S>(blocks, others, start, start + B::bits()).is_some()
 }
 
-// Where a long list begins to change where it is merged with the others: a chunk of which a block changes. `None` where none
-// does. Where most blocks of each chunk may change, groups of them are looked at.
+// Where a long list begins to change where it is merged with the others: a chunk of which a block changes. `None`
+// if none does. Where most blocks of each chunk may change, groups of them are looked at.
 #[inline(never)]
 fn first_change_long<B: BitBlock, O: Operation, S: Summarized<B>>(
     blocks: &[B],
@@ -127,7 +127,7 @@ fn change_by<B: BitBlock, O: Operation>(
     }
 }
 
-// The merge that is named, and whether a block changed. Here it becomes a type.
+// The merge that is named, and whether a block changed. Here the operation becomes a type.
 #[inline(always)]
 pub(crate) fn change_named<B: BitBlock>(
     blocks: &mut [B],

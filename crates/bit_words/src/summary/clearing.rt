@@ -1,4 +1,5 @@
-// All values of a list made one, and the summary with them. Blocks that are 0 by it are passed over where they all become false.
+// All values of a list made one, and the summary with them. Blocks that are 0 by it are skipped where they all
+// become false.
 ghost use Rattle.std.specs.Prelude.{◌≡◌, ℕ, ◌+◌, ◌*◌, ◌^◌, ◌<◌, ◌≤◌, All, length, map, vec_capacity};
 ghost use Rattle.bit_blocks.specs.{Digits.is_one, Storage.{value_at, is_used, IsPacked, WritesInPlace}};
 ghost use Rattle.bit_words.specs.Summary.{AreCleared, IsStoredSummary, IsSummary};
@@ -11,7 +12,7 @@ use bit_blocks::packed::access::{block_at, put_in};
 use bit_blocks::packed::resizing::fill_bits;
 use bit_blocks::packed::zeros::zeros_before;
 
-// The blocks from `start` on and before `end` become 0, where there are so many.
+// The blocks from `start` up to `end` become 0, where there are this many.
 #[inline]
 fn clear_blocks<B: BitBlock>(blocks: &mut [B], start: usize, end: usize)
     requires each { All B.is_block blocks.old }
@@ -72,8 +73,8 @@ fn clear_next<B: BitBlock>(blocks: &mut [B], summary: &[B], q: usize) -> usize
     count
 }
 
-// The chunks from `first` on that the summary is about become 0. Chunks of zeros are passed over, and where few blocks of one are
-// not 0, these alone are written.
+// The chunks from `first` on that the summary covers become 0. Chunks of zeros are skipped, and where few blocks of
+// one are not 0, only these are written.
 #[inline(never)]
 fn clear_runs<B: BitBlock>(blocks: &mut [B], summary: &[B], first: usize)
     requires in_summary { first ≤ length summary.now }
@@ -90,7 +91,7 @@ fn clear_runs<B: BitBlock>(blocks: &mut [B], summary: &[B], first: usize)
     }
 }
 
-// The chunks from `first` on and before `end` become 0.
+// The chunks from `first` up to `end` become 0.
 pub(crate) fn clear_chunks<B: BitBlock>(
     blocks: &mut Vec<B>,
     summary: &[B],
@@ -123,7 +124,8 @@ fn fill_blocks<B: BitBlock>(blocks: &mut Vec<B>, summary: &[B], len: usize, bit:
     }
 }
 
-// The same, and the summary becomes theirs. It is a call of its own, so that a short list saves no registers for it.
+// The same, and the summary becomes theirs. It is a separate function, so that a short list saves no registers for
+// it.
 #[inline(never)]
 fn fill_long<B: BitBlock>(blocks: &mut Vec<B>, summary: &mut Vec<B>, len: usize, bit: bool)
     requires packed { IsPacked B.width B.number B.is_block blocks.old.items len }

@@ -12,7 +12,7 @@ use bit_blocks::packed::access::block_at;
 use bit_blocks::packed::comparing::{first_mismatching_block, same_blocks};
 use bit_blocks::packed::zeros::zeros_before;
 
-// The first block that differs of those that so many blocks of the summaries from `q` on are about.
+// The first block that differs of those that this many blocks of the summaries from `q` on cover.
 #[inline]
 fn mismatch_in_chunks<B: BitBlock>(
     blocks: &[B],
@@ -103,8 +103,8 @@ fn mismatch_in_next<B: BitBlock>(
     (mismatch_in_chunks(blocks, others, q, count), count)
 }
 
-// The first block that differs of those that the summary is about, where those are 0 in both lists of which it says so.
-// Where few blocks of a chunk are not 0, it compares these alone.
+// The first block that differs of those that the summary covers, where those are 0 in both lists of which it says
+// so. Where few blocks of a chunk are not 0, it compares only these.
 #[inline(never)]
 fn mismatch_in_runs<B: BitBlock>(blocks: &[B], others: &[B], summary: &[B]) -> Option<usize>
     requires each { All B.is_block blocks.now }
@@ -131,9 +131,8 @@ fn mismatch_in_runs<B: BitBlock>(blocks: &[B], others: &[B], summary: &[B]) -> O
     None
 }
 
-// Whether two lists have the same blocks. Where both store a summary these are compared first, if enough blocks are 0 to be
-// passed over. It is a call of its own, so that
-// few blocks are compared with no register saved.
+// Whether two lists have the same blocks. If both store a summary these are compared first, if enough blocks are 0
+// to be skipped. It is a separate function, so that few blocks are compared with no register saved.
 #[inline(never)]
 fn same_of_long<B: BitBlock>(blocks: &[B], summary: &[B], others: &[B], other_summary: &[B]) -> bool
     requires each { All B.is_block blocks.now }
@@ -173,7 +172,7 @@ pub(crate) fn same_by_summaries<B: BitBlock>(
     same_of_long(blocks, summary, others, other_summary)
 }
 
-// The first block at which two lists differ. Where both store a summary it lies no further than these differ.
+// The first block at which two lists differ. If both store a summary it lies no further than these differ.
 pub(crate) fn mismatch_by_summaries<B: BitBlock>(
     blocks: &[B],
     summary: &[B],

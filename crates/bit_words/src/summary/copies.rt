@@ -36,7 +36,7 @@ fn copy_used<B: BitBlock>(blocks: &mut [B], from: &[B], q: usize, used: B)
     }
 }
 
-// The blocks from `start` on and before `end` become those of `from`, where there are so many.
+// The blocks from `start` up to `end` become those of `from`, where there are this many.
 #[inline]
 fn copy_between<B: BitBlock>(blocks: &mut [B], from: &[B], start: usize, end: usize)
     requires each { All B.is_block blocks.old }
@@ -86,7 +86,7 @@ fn copy_chunk<B: BitBlock>(
     }
 }
 
-// The blocks become those of `from`, which has as many. Chunks that are 0 in both lists are passed over.
+// The blocks become those of `from`, which has as many. Chunks that are 0 in both lists are skipped.
 #[inline(never)]
 fn copy_chunks<B: BitBlock>(blocks: &mut [B], summary: &[B], from: &[B], from_summary: &[B])
     requires as_long { length from.now ≡ length blocks.old }
@@ -101,11 +101,11 @@ fn copy_chunks<B: BitBlock>(blocks: &mut [B], summary: &[B], from: &[B], from_su
     }
 }
 
-// A copy of fewer chunks takes about as long as to tell whether they are worth passing over.
+// A copy of fewer chunks takes about as long as to tell whether they are worth skipping.
 const MANY_CHUNKS: usize = 16;
 
-// The blocks become those of `from`, of which there is capacity for each. Where both lists are as long, and store summaries, both
-// sparse, chunks of zeros are passed over.
+// The blocks become those of `from`, of which there is capacity for each. Where both lists are as long, and store
+// summaries, both sparse, chunks of zeros are skipped.
 #[inline]
 fn copy_past_zeros<B: BitBlock>(blocks: &mut Vec<B>, summary: &[B], from: &[B], from_summary: &[B])
     requires capacity { length from.now ≤ vec_capacity blocks.old }
@@ -160,7 +160,7 @@ pub(crate) fn copy_both<B: BitBlock>(
     copy_both_general(blocks, summary, from, from_summary)
 }
 
-// What `copy_both` does, of any lists. It is a call of its own, so that few registers are saved above.
+// What `copy_both` does, of any lists. It is a separate function, so that few registers are saved above.
 #[inline(never)]
 fn copy_both_general<B: BitBlock>(
     blocks: &mut Vec<B>,
@@ -191,8 +191,8 @@ fn copy_both_general<B: BitBlock>(
     replace_both(blocks, summary, from, from_summary)
 }
 
-// What `copy_both` does where capacity for either is missing. It is a call of its own, so that where it is there no
-// register is saved for what is rare.
+// What `copy_both` does where capacity for either is missing. It is a separate function, so that where it is there
+// no register is saved for what is rare.
 #[cold]
 #[inline(never)]
 fn replace_both<B: BitBlock>(
@@ -216,7 +216,7 @@ fn replace_both<B: BitBlock>(
     Ok(())
 }
 
-// The summary of `blocks`, of which those before block `k` are 0, from one that is right of those past it. Where they
+// The summary of `blocks`, of which those before block `k` are 0, from one that is right of those past it. If they
 // are few, none is stored.
 pub(crate) fn copy_summary_from<B: BitBlock>(
     alloc: Global,

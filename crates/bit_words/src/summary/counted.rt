@@ -13,7 +13,7 @@ use bit_blocks::packed::ones::ones_of;
 use bit_blocks::packed::resizing::repeated_bit;
 use std::alloc::{AllocError, Global};
 
-// A summary of its own for the blocks, empty where they are few, and how many ones they have. Fails only if memory
+// A summary of its own for the blocks, empty if they are few, and how many ones they have. Fails only if memory
 // runs out, and never for few.
 pub(crate) fn summary_and_ones<B: BitBlock>(
     alloc: Global,
@@ -35,7 +35,7 @@ pub(crate) fn summary_and_ones<B: BitBlock>(
     Ok((summary, ones))
 }
 
-// Makes the summary anew, over one that has as many blocks as it takes, and counts the ones of the blocks.
+// Computes the summary anew, over one that has as many blocks as it takes, and counts the ones of the blocks.
 fn summarize_and_count<B: BitBlock>(summary: &mut Vec<B>, blocks: &[B]) -> usize
     requires count { vec_len summary.old ≡ blocks_for B.width (length blocks.now) }
     requires each { All B.is_block summary.old.items }
@@ -55,7 +55,8 @@ fn summarize_and_count<B: BitBlock>(summary: &mut Vec<B>, blocks: &[B]) -> usize
     ones
 }
 
-// The block of a summary that is about the blocks from `start` on, as many as a block has bits, and how many ones these have.
+// The block of a summary that covers the blocks from `start` on, as many as a block has bits, and how many ones
+// these have.
 #[inline]
 fn used_and_ones<B: BitBlock>(blocks: &[B], start: usize) -> (B, usize)
     requires in_bounds { start ≤ length blocks.now }

@@ -1,5 +1,5 @@
-// How many ones a part of the merge of two lists of blocks has. The merge is not made, and where a summary is stored it says
-// which blocks are read.
+// How many ones a part of the merge of two lists of blocks has. The merge is not made, and if a summary is stored
+// it says which blocks are read.
 ghost use Rattle.std.specs.Prelude.{◌≡◌, ℕ, ◌+◌, ◌*◌, ◌^◌, ◌<◌, ◌≤◌, All, true, length, map, max, min};
 ghost use Rattle.bit_blocks.specs.{Bits.blocks_for, Digits.is_one};
 ghost use Rattle.bit_words.specs.{MergedOnes.{may_merge, merged_ones, CoversMerged}, Summary.IsStoredSummary};
@@ -15,8 +15,8 @@ use bit_blocks::packed::nonzero::block_or_zero;
 
 pub(crate) mod by_summaries;
 
-// Where one in so many of the blocks of a chunk has to be read, or more, all of them are, in one loop without a branch. So it is
-// with the chunks of a group.
+// Where one in this many of the blocks of a chunk has to be read, or more, all of them are, in one loop without a
+// branch. So it is with the chunks of a group.
 pub(crate) const MANY: usize = 4;
 
 // The ones of block `k` of the merge. A block past the end of a list is 0.
@@ -55,7 +55,7 @@ fn ones_of_both<B: BitBlock, O: Operation>(
     ones
 }
 
-// The ones of the merge from block `first` on and before block `end`, where a list may end before.
+// The ones of the merge from block `first` up to block `end`, where a list may end before.
 #[inline]
 fn ones_of_either<B: BitBlock, O: Operation>(
     blocks: &[B],
@@ -149,7 +149,7 @@ pub(crate) fn ones_of_chunk<B: BitBlock, O: Operation>(
     }
 }
 
-// The ones of the merge of chunk `q`: of the blocks that a block of a summary is about.
+// The ones of the merge of chunk `q`: of the blocks that a block of a summary covers.
 #[inline(always)]
 pub(crate) fn ones_at_chunk<B: BitBlock, O: Operation>(
     blocks: &[B],
@@ -176,7 +176,7 @@ pub(crate) fn ones_at_chunk<B: BitBlock, O: Operation>(
     ones_of_chunk::<B, O>(blocks, others, start, used, q < whole)
 }
 
-// The ones of the merge of the chunks from `first` on and before `end`.
+// The ones of the merge of the chunks from `first` up to `end`.
 #[inline(never)]
 pub(crate) fn ones_of_chunks<B: BitBlock, O: Operation>(
     blocks: &[B],

@@ -20,9 +20,9 @@ use bit_blocks::packed::changes::{first_change, first_change_past_except};
 use bit_blocks::packed::differences::first_difference_except;
 use bit_blocks::packed::others::Except;
 
-// What block `q` of a summary becomes, which was `own`, where blocks took in what others have except for the ones of a third
-// list. `other` and `except` are the blocks of the summaries of these two. A block that was 0 and that both are about may be 0
-// still: only then are the blocks read.
+// What block `q` of a summary becomes, which was `own`, where blocks took in what others have without the ones of a
+// third list. `other` and `except` are the blocks of the summaries of these two. A block that was 0 and that both
+// are about may be 0 still: only then are the blocks read.
 #[inline]
 fn followed<B: BitBlock>(blocks: &[B], q: usize, own: B, other: B, except: B) -> B
     requires in_bounds { q * B.width ≤ length blocks.now }
@@ -48,8 +48,8 @@ fn followed<B: BitBlock>(blocks: &[B], q: usize, own: B, other: B, except: B) ->
     }
 }
 
-// The summary becomes that of blocks that took in what others have except for the ones of `except`. No block is read where
-// the summaries say enough.
+// The summary becomes that of blocks that took in what others have without the ones of `except`. No block is read
+// where the summaries say enough.
 fn follow_others<B: BitBlock>(
     blocks: &[B],
     summary: &mut [B],
@@ -84,8 +84,9 @@ fn follow_others<B: BitBlock>(
     }
 }
 
-// The blocks of a long list from `start` on become their unions with the others, except for the ones of `except`. Those
-// before `start` stay. It takes vectors, so that a short list does not read where the summaries of the others lie.
+// The blocks of a long list from `start` on become their unions with the others, without the ones of `except`.
+// Those before `start` stay. It takes vectors, so that a short list does not read where the summaries of the others
+// lie.
 #[inline(never)]
 fn unite_long_from<B: BitBlock>(
     blocks: &mut [B],
@@ -121,8 +122,8 @@ fn unite_long_from<B: BitBlock>(
     );
 }
 
-// The blocks of a short list, which stores no summary, become their unions with the others from `start` on, except for the
-// ones of `except`. Those before `start` stay.
+// The blocks of a short list, which stores no summary, become their unions with the others from `start` on, without
+// the ones of `except`. Those before `start` stay.
 #[inline(never)]
 fn unite_short_from<B: BitBlock>(blocks: &mut [B], others: &[B], except: &[B], start: usize)
     requires can { CanMerge B.is_block blocks.old (length others.now) (All B.is_block others.now) }
@@ -218,8 +219,8 @@ fn unite_long_past_except<B: BitBlock>(
     change_long::<B, Union, Outside<B>>(blocks, summary, outside)
 }
 
-// `unite_difference` where `except` is shorter than the others: a call of its own, so that the usual one saves no registers
-// for it.
+// `unite_difference` where `except` is shorter than the others: a separate function, so that the usual one saves no
+// registers for it.
 #[inline(never)]
 fn unite_past_except<B: BitBlock>(
     blocks: &mut [B],
@@ -258,7 +259,7 @@ fn unite_past_except<B: BitBlock>(
     true
 }
 
-// Each block becomes its union with the others, except for the ones of `except`, and whether one changed is returned.
+// Each block becomes its union with the others, without the ones of `except`. Returns whether one changed.
 #[inline]
 pub(crate) fn unite_difference<B: BitBlock>(
     blocks: &mut [B],
@@ -310,8 +311,8 @@ pub(crate) fn unite_difference<B: BitBlock>(
     change_long::<B, Union, Apart<B>>(blocks, summary, apart)
 }
 
-// The blocks become the others except for the ones of `except`, and whether one changed is returned: by a pass over all of them. The
-// summary is then made anew.
+// The blocks become the others without the ones of `except`, and returns whether one changed: by a pass over all of
+// them. The summary is then computed anew.
 #[inline]
 fn become_dense<B: BitBlock>(
     blocks: &mut [B],
@@ -337,8 +338,8 @@ fn become_dense<B: BitBlock>(
     true
 }
 
-// The same by chunks: what is not in the difference goes, and then the rest of it comes. One of these changes something just where
-// the list becomes another.
+// The same by chunks: what is not in the difference goes, and then the rest of it comes. One of these changes
+// something exactly if the list becomes another.
 #[inline(never)]
 fn become_sparse<B: BitBlock>(blocks: &mut [B], summary: &mut [B], outside: Outside<B>) -> bool
     requires can { CanMerge B.is_block blocks.old (length outside.others.blocks.now)
@@ -360,8 +361,8 @@ fn become_sparse<B: BitBlock>(blocks: &mut [B], summary: &mut [B], outside: Outs
     lost || gained
 }
 
-// The blocks become the others except for the ones of `except`, and whether one changed is returned. A long list goes by chunks
-// where few blocks of the others are not 0.
+// The blocks become the others without the ones of `except`. Returns whether one changed. A long list goes by
+// chunks where few blocks of the others are not 0.
 pub(crate) fn become_difference<B: BitBlock>(
     blocks: &mut [B],
     summary: &mut Vec<B>,

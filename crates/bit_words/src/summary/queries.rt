@@ -10,11 +10,11 @@ use bit_blocks::packed::access::block_at;
 use bit_blocks::packed::ones::ones_of;
 use bit_blocks::packed::zeros::{are_zero, used_blocks, zeros_before};
 
-// One chunk of so many is looked at to tell whether a list is dense.
+// One chunk of this many is looked at to tell whether a list is dense.
 pub(crate) const SAMPLED: usize = 8;
 
-// How many of so many chunks are looked at, each SAMPLED past the one before it. The last chunk may be a part of one, and is not
-// looked at.
+// How many of this many chunks are looked at, each SAMPLED past the one before it. The last chunk may be a part of
+// one, and is not looked at.
 #[inline(always)]
 pub(crate) fn samples(chunks: usize) -> usize
     ensures { (k : ℕ) → k < result → k * SAMPLED < chunks }
@@ -43,7 +43,7 @@ pub(crate) fn is_full<B: BitBlock>(summary: &[B]) -> bool
     true
 }
 
-// Whether all blocks are 0, by the summary where one is stored.
+// Whether all blocks are 0, by the summary if one is stored.
 pub(crate) fn are_zero_by_summary<B: BitBlock>(blocks: &[B], summary: &[B]) -> bool
     requires each { All B.is_block blocks.now }
     requires summary { IsStoredSummary B.width B.number B.is_block blocks.now summary.now }
@@ -56,7 +56,7 @@ pub(crate) fn are_zero_by_summary<B: BitBlock>(blocks: &[B], summary: &[B]) -> b
     }
 }
 
-// How many ones the blocks have, where a summary says which of them are not zero. Where none is stored, or there are
+// How many ones the blocks have, where a summary says which of them are not zero. If none is stored, or there are
 // few blocks, it counts every block.
 #[inline]
 pub(crate) fn ones_by_summary<B: BitBlock>(blocks: &[B], summary: &[B]) -> usize
@@ -76,9 +76,9 @@ pub(crate) fn ones_by_summary<B: BitBlock>(blocks: &[B], summary: &[B]) -> usize
     }
 }
 
-// How many ones the blocks have, by a summary. Counts each run of chunks that have any in one pass, and passes over
-// chunks of zeros, each as many blocks as one has bits, by the summary alone. It is a call of its own, so that a short
-// list saves no registers for it.
+// How many ones the blocks have, by a summary. Counts each run of chunks that have any in one pass, and skips
+// chunks of zeros, each as many blocks as one has bits, by the summary alone. It is a separate function, so that a
+// short list saves no registers for it.
 #[inline(never)]
 pub(crate) fn ones_of_runs<B: BitBlock>(blocks: &[B], summary: &[B]) -> usize
     requires each { All B.is_block blocks.now }
@@ -115,7 +115,8 @@ pub(crate) fn chunks_before_zero<B: BitBlock>(summary: &[B]) -> usize
     summary.len()
 }
 
-// Where at most one in so many blocks of a chunk is looked at, these are taken one by one, and else all by vector code.
+// Where at most one in this many blocks of a chunk is looked at, these are taken one by one, and else all by vector
+// code.
 const FEW: usize = 8;
 
 // Whether few blocks of a chunk are looked at: those at the ones of `used`.
@@ -181,7 +182,7 @@ pub(crate) fn chunks_before_few<B: BitBlock>(summary: &[B]) -> usize
     summary.len()
 }
 
-// The blocks that the first blocks of a summary are about, or all where there are fewer, and the others.
+// The blocks that the first blocks of a summary cover, or all if there are fewer, and the others.
 #[inline]
 pub(crate) fn first_chunks<B: BitBlock>(blocks: &[B], chunks: usize) -> (&[B], &[B])
     ensures first { result.0.now ≡ take (chunks * B.width) blocks.now }
@@ -190,7 +191,7 @@ pub(crate) fn first_chunks<B: BitBlock>(blocks: &[B], chunks: usize) -> (&[B], &
     blocks.split_at(chunks.saturating_mul(B::bits()).min(blocks.len()))
 }
 
-// As many blocks as one has bits, or all where there are fewer, and the others.
+// As many blocks as one has bits, or all if there are fewer, and the others.
 #[inline]
 pub(crate) fn first_blocks<B: BitBlock>(blocks: &[B]) -> (&[B], &[B])
     ensures first { result.0.now ≡ take B.width blocks.now }
@@ -199,8 +200,8 @@ pub(crate) fn first_blocks<B: BitBlock>(blocks: &[B]) -> (&[B], &[B])
     first_chunks(blocks, 1)
 }
 
-// Which of the blocks that block `q` of a summary is about are not 0: that block, or what it would be where the summary has
-// none, since it is not stored or the blocks end before.
+// Which of the blocks that block `q` of a summary covers are not 0: that block, or what it would be where the
+// summary has none, since it is not stored or the blocks end before.
 #[inline]
 pub(crate) fn summary_at<B: BitBlock>(blocks: &[B], summary: &[B], q: usize) -> B
     requires each { All B.is_block blocks.now }
@@ -217,7 +218,7 @@ pub(crate) fn summary_at<B: BitBlock>(blocks: &[B], summary: &[B], q: usize) -> 
     }
 }
 
-// How many blocks there are up to the last that is not 0. Where a summary is stored it says among which to look.
+// How many blocks there are up to the last that is not 0. If a summary is stored it says among which to look.
 pub(crate) fn used_by_summary<B: BitBlock>(blocks: &[B], summary: &[B]) -> usize
     requires each { All B.is_block blocks.now }
     requires summary { IsStoredSummary B.width B.number B.is_block blocks.now summary.now }

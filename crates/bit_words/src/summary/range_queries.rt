@@ -1,4 +1,4 @@
-// How many ones a range of a long list has, and whether it has any. Chunks of zeros are passed over by the summary.
+// How many ones a range of a long list has, and whether it has any. Chunks of zeros are skipped by the summary.
 ghost use Rattle.std.specs.{Prelude.{◌≡◌, ◌+◌, ◌-◌, ◌*◌, ◌^◌, ◌<◌, ◌≤◌, ◌↔◌, All, IsTrue, length, map}, List.{count_by, range_with_len}};
 ghost use Rattle.bit_blocks.specs.{BlockMerges.MergesSpanToFalse, Storage.value_at, declared.block.merge.Merge.Merge};
 ghost use Rattle.bit_words.specs.Summary.{IsStoredSummary, IsSummary};
@@ -23,7 +23,7 @@ pub(crate) fn whole_chunks<B: BitBlock>(start: usize, end: usize) -> (usize, usi
     (first, block_index::<B>(block_index::<B>(end)))
 }
 
-// The ones of the chunks from `first` on and before `end`, which the list has as a whole.
+// The ones of the chunks from `first` up to `end`, which the list has as a whole.
 #[inline]
 fn ones_of_whole_chunks<B: BitBlock>(blocks: &[B], summary: &[B], first: usize, end: usize) -> usize
     requires forward { first ≤ end }
@@ -38,8 +38,8 @@ fn ones_of_whole_chunks<B: BitBlock>(blocks: &[B], summary: &[B], first: usize, 
     ones_of_runs(chunks, summary.split_at(first).1.split_at(end - first).0)
 }
 
-// The ones from bit `start` on and below `end`, where the chunks from `first` on and before `last` lie between these. It is a call
-// of its own, so that a short range saves no registers for it.
+// The ones from bit `start` up to `end`, where the chunks from `first` up to `last` lie between these. It is a
+// separate function, so that a short range saves no registers for it.
 #[inline(never)]
 fn ones_around_chunks<B: BitBlock>(
     blocks: &[B],
@@ -68,7 +68,7 @@ fn ones_around_chunks<B: BitBlock>(
     ones + ones_in_span(blocks, to, end)
 }
 
-// How many of the bits from `start` on and below `end`, of which there are some, are 1.
+// How many of the bits from `start` up to `end` (at least one) are 1.
 #[inline]
 pub(crate) fn ones_in_range<B: BitBlock>(
     blocks: &[B],
@@ -89,8 +89,8 @@ pub(crate) fn ones_in_range<B: BitBlock>(
     ones_around_chunks(blocks, summary, start, first, last, end)
 }
 
-// Whether no bit from `start` on and below `end` is 1, where the chunks from `first` on and before `last` lie between these. It is
-// a call of its own, so that a short range saves no registers for it.
+// Whether no bit from `start` up to `end` is 1, where the chunks from `first` up to `last` lie between these. It is
+// a separate function, so that a short range saves no registers for it.
 #[inline(never)]
 fn are_zero_around_chunks<B: BitBlock>(
     blocks: &[B],
@@ -123,7 +123,7 @@ fn are_zero_around_chunks<B: BitBlock>(
     span_merges_to_false::<B, Intersection>(blocks, to, end)
 }
 
-// Whether none of the bits from `start` on and below `end`, of which there are some, is 1. Stops at the first block that has one.
+// Whether none of the bits from `start` up to `end` (at least one) is 1. Stops at the first block that has one.
 #[inline]
 pub(crate) fn range_is_zero<B: BitBlock>(
     blocks: &[B],

@@ -1,4 +1,4 @@
-// The next 1 of a list of bits in either direction, by the summary where one is stored.
+// The next 1 of a list of bits in either direction, by the summary if one is stored.
 ghost use Rattle.std.specs.Prelude.{◌≡◌, ℕ, ◌+◌, ◌-◌, ◌^◌, ◌<◌, ◌≤◌, All, length, map, true};
 ghost use Rattle.bit_blocks.specs.{Searches.{FindsBefore, FindsFrom}, Storage.{value_at, is_used}};
 ghost use Rattle.bit_words.specs.{Pending.IsStoredFrom, Summary.IsStoredSummary};
@@ -39,8 +39,8 @@ fn last_used_by_summary<B: BitBlock>(blocks: &[B], summary: &[B], end: usize) ->
     }
 }
 
-// The last block that is not 0 of those from `start` on and before the one at `end`, where `summary` is what is stored
-// for these: how many come before it.
+// The last block that is not 0 of those from `start` up to the one at `end`, where `summary` is what is stored for
+// these: how many come before it.
 #[inline]
 pub(crate) fn last_used_from<B: BitBlock>(
     blocks: &[B],

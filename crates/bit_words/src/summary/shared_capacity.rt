@@ -6,7 +6,7 @@ use crate::summary::stored_count;
 use bit_blocks::block::BitBlock;
 use std::alloc::AllocError;
 
-// Reserves capacity for `count` blocks, and for no more where that is asked. Takes no memory where it is there.
+// Reserves capacity for `count` blocks, and for no more where that is asked. Allocates nothing where it is there.
 #[inline]
 fn reserve_blocks<B: BitBlock>(
     blocks: &mut Vec<B>,

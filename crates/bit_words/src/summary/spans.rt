@@ -12,8 +12,8 @@ use bit_blocks::block::operation::{Difference, Operation, Symmetric};
 use bit_blocks::packed::access::block_index;
 use bit_blocks::packed::spans::merge_span;
 
-// The values from `start` on and below `end` become false, where the chunks from `first` on and before `last` lie between these:
-// of them zeros are passed over. It is a call of its own, so that a short range saves no registers for it.
+// The values from `start` up to `end` become false, where the chunks from `first` up to `last` lie between these:
+// of them zeros are skipped. It is a separate function, so that a short range saves no registers for it.
 #[inline(never)]
 fn clear_around_chunks<B: BitBlock>(
     blocks: &mut Vec<B>,
@@ -43,8 +43,8 @@ fn clear_around_chunks<B: BitBlock>(
     }
 }
 
-// The values from `start` on and below `end` all become one, as in `fill_span`. Where they become false, and blocks of whole chunks
-// are 0, these are passed over.
+// The values from `start` up to `end` all become one, as in `fill_span`. Where they become false, and blocks of
+// whole chunks are 0, these are skipped.
 #[inline]
 fn merge_long_span<B: BitBlock, O: Operation>(
     blocks: &mut Vec<B>,
@@ -74,9 +74,9 @@ fn merge_long_span<B: BitBlock, O: Operation>(
     }
 }
 
-// The values from `start` on and below `end`, of which there are some, all become one: true by a union, false by a
-// difference. The bits of their blocks in the summary become so too, and those of the first and the last, which may
-// have other values, are set anew.
+// The values from `start` up to `end` (at least one) all become one: true by a union, false by a difference. The
+// bits of their blocks in the summary become so too, and those of the first and the last, which may have other
+// values, are set anew.
 pub(crate) fn fill_span<B: BitBlock, O: Operation>(
     blocks: &mut Vec<B>,
     summary: &mut Vec<B>,
@@ -106,8 +106,8 @@ pub(crate) fn fill_span<B: BitBlock, O: Operation>(
     update_summary_at(summary, blocks, last);
 }
 
-// Each of the values from `start` on and below `end`, of which there are some, turns. The bits of their blocks in the
-// summary are made anew, since any of these may be 0 now.
+// Each of the values from `start` up to `end` (at least one) turns. The bits of their blocks in the summary are
+// computed anew, since any of these may be 0 now.
 pub(crate) fn negate_span<B: BitBlock>(
     blocks: &mut Vec<B>,
     summary: &mut Vec<B>,
@@ -146,7 +146,7 @@ fn put_slice<B: BitBlock>(blocks: &mut [B], first: usize, from: &[B])
     blocks[first..first + from.len()].copy_from_slice(from);
 }
 
-// The blocks from `first` on become these, and their bits in the summary are made anew.
+// The blocks from `first` on become these, and their bits in the summary are computed anew.
 pub(crate) fn put_span<B: BitBlock>(
     blocks: &mut Vec<B>,
     summary: &mut Vec<B>,

@@ -7,8 +7,8 @@ use bit_set::BitBlock;
 use std::alloc::Global;
 use std::process::Abort;
 
-// An automaton accepts the words that are marked. The deterministic one, of so many states at most, has this many states
-// and symbols.
+// An automaton accepts the words that are marked. The deterministic one, of this many states at most, has this many
+// states and symbols.
 fn check<B: BitBlock>(
     rt: &impl Abort,
     alloc: Global,

@@ -17,7 +17,7 @@ fn digits_of(number: usize) -> [usize; 8] {
     digits
 }
 
-// So many of these from the end: the word of 0 and 1 of this length that the digits spell.
+// This many of these from the end: the word of 0 and 1 of this length that the digits spell.
 fn word_of(digits: &[usize; 8], length: usize) -> &[usize] {
     digits.get(8usize.saturating_sub(length)..).unwrap_or(&[])
 }

@@ -10,7 +10,8 @@ fn values_of<B: BitBlock>(set: &BitSet<B>) -> (usize, bool, bool) {
     (set.count(), set.contains(5), set.contains(199))
 }
 
-// Past the middle of a chain of so many blocks each has all values, and up to it each has those that are not killed.
+// Past the middle of a chain of this many blocks each has all values, and up to it each has those that are not
+// killed.
 fn flows_back<B: BitBlock>(rt: &impl Abort, alloc: Global, analysis: Analysis, count: usize) {
     let sets = sets_of::<B>(rt, alloc, analysis, Problem::Chain(count));
     expect_eq(rt, &sets.len(), &count);

@@ -73,7 +73,7 @@ fn a_reflexive_chain(rt: HostRuntime) {
     ok(&rt, reflexive_chain(&rt, rt.alloc()));
 }
 
-// The closures of the graph of these rows, in a matrix of so many columns, have just these rows.
+// The closures of the graph of these rows, in a matrix of this many columns, have just these rows.
 fn check_closures(
     rt: &impl Abort,
     alloc: Global,
@@ -110,7 +110,7 @@ fn a_loop_and_a_node_that_is_not_reached(rt: HostRuntime) {
     check_closures(&rt, rt.alloc(), edges, (closed, reflexive));
 }
 
-// The node 2 has a row and is no column; and where there are fewer rows, 2 and 3 are columns and have no row.
+// The node 2 has a row and is no column; and if there are fewer rows, 2 and 3 are columns and have no row.
 #[test]
 fn rows_that_are_no_columns(rt: HostRuntime) {
     let edges: (usize, &[&[usize]]) = (2, &[&[1], &[0], &[1]]);

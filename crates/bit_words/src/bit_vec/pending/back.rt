@@ -12,9 +12,9 @@ use bit_blocks::block::operators::has_one_at;
 use bit_blocks::packed::access::{block_at, block_count};
 
 impl<'a, B: BitBlock> Pending<'a, B> {
-    // Takes the highest bit that is pending, or that the summary has past these, and returns the index of the block that
-    // it is about: `end` is there then. Where there is none, nothing is left, so that a later call looks at no more. Most
-    // often it is the last block, past the block of the summary in hand: that takes no search.
+    // Takes the highest bit that is pending, or that the summary has past these, and returns the index of the block
+    // that it covers: `end` is there then. If there is none, nothing is left, so that a later call looks at no
+    // more. Most often it is the last block, past the block of the summary in hand: that takes no search.
     #[inline(always)]
     pub(crate) fn last_block(&mut self, blocks: &[B]) -> Option<usize>
         requires walk { IsPending B.width B.number B.is_block
@@ -83,7 +83,7 @@ impl<'a, B: BitBlock> Pending<'a, B> {
         found
     }
 
-    // The last block that a bit is about: of those past the block of the summary in hand, or else of that one.
+    // The last block that a bit covers: of those past the block of the summary in hand, or else of that one.
     #[inline(always)]
     fn find_last(&self, blocks: &[B]) -> Option<usize>
         requires { IsPending B.width B.number B.is_block

@@ -15,8 +15,8 @@ use bit_blocks::block::operation::{Difference, Intersection, Operation, Symmetri
 use bit_blocks::packed::access::{block_at, block_count};
 use bit_blocks::packed::groups::LONG_GROUP;
 
-// Which of the `count` chunks from `first` on have to be looked at, the first of them at the lowest bit. The compiler makes
-// vector code of this where it knows the count.
+// Which of the `count` chunks from `first` on have to be looked at, the first of them at the lowest bit. The
+// compiler makes vector code of this if it knows the count.
 #[inline]
 fn used_chunks<B: BitBlock, O: Operation>(
     summary: &[B],
@@ -168,7 +168,7 @@ fn ones_by<B: BitBlock, O: Operation>(
     }
 }
 
-// The ones of the merge that is named. Here it becomes a type.
+// The ones of the merge that is named. Here the operation becomes a type.
 #[inline(always)]
 pub(crate) fn ones_of_merge<B: BitBlock>(
     blocks: &[B],

@@ -1,4 +1,4 @@
-// Merges of the blocks that one block of the summary is about: a chunk.
+// Merges of the blocks that one block of the summary covers: a chunk.
 ghost use Rattle.std.specs.Prelude.{◌≡◌, ℕ, ◌+◌, ◌*◌, ◌<◌, ◌≤◌, All, length, map};
 ghost use Rattle.bit_blocks.specs.{BlockMerges.{other_at, CanMerge, HasMerged}, Digits.is_one, Storage.is_used};
 ghost use Rattle.bit_words.specs.Summary.{IsStoredSummary};
@@ -11,8 +11,8 @@ use bit_blocks::block::merge::Merge;
 use bit_blocks::block::operation::{Difference, Intersection, Operation, Symmetric, Union};
 use bit_blocks::packed::access::put_in;
 
-// The blocks from `start` on and before `end` become their merges with the others of their indexes, or with zeros where
-// there are none.
+// The blocks from `start` up to `end` become their merges with the others of their indexes, or with zeros if there
+// are none.
 fn merge_any_between<B: BitBlock, O: Operation>(
     blocks: &mut [B],
     others: &[B],
@@ -30,8 +30,8 @@ fn merge_any_between<B: BitBlock, O: Operation>(
     }
 }
 
-// The blocks that block `q` of the summary is about become their merges with the others of their indexes, or with zeros
-// where there are none. Returns what that block is then.
+// The blocks that block `q` of the summary covers become their merges with the others of their indexes, or with
+// zeros if there are none. Returns what that block is then.
 #[inline]
 fn merge_full_or_part<B: BitBlock, O: Operation>(blocks: &mut [B], others: &[B], q: usize) -> B
     requires can { CanMerge B.is_block blocks.old (length others.now) (All B.is_block others.now) }
@@ -52,7 +52,7 @@ fn merge_full_or_part<B: BitBlock, O: Operation>(blocks: &mut [B], others: &[B],
     used_from(blocks, start)
 }
 
-// The same, and block `q` of the summary becomes that block where one is stored.
+// The same, and block `q` of the summary becomes that block if one is stored.
 #[inline]
 fn merge_in_chunk<B: BitBlock, O: Operation>(
     blocks: &mut [B],
@@ -74,7 +74,7 @@ fn merge_in_chunk<B: BitBlock, O: Operation>(
     }
 }
 
-// The merge that is named, of the blocks that block `q` of the summary is about.
+// The merge that is named, of the blocks that block `q` of the summary covers.
 #[inline(always)]
 pub(crate) fn merge_chosen_in_chunk<B: BitBlock>(
     blocks: &mut [B],

@@ -31,7 +31,7 @@ pub(crate) fn touched_by<B: BitBlock, O: Operation>(own: B, other: B) -> B
     Union::of_blocks(both, Union::of_blocks(lost, gained))
 }
 
-// Block `k` becomes its merge with the other of its index, or with zeros where there is none, and is returned.
+// Block `k` becomes its merge with the other of its index, or with zeros if there is none, and is returned.
 #[inline]
 pub(crate) fn merge_any<B: BitBlock, O: Operation, S: Others<B>>(
     blocks: &mut [B],
@@ -101,7 +101,7 @@ pub(crate) fn merge_touched<B: BitBlock, O: Operation, S: Others<B>>(
     digits
 }
 
-// Whether block `k` changes where it is merged with the other of its index, or with zeros where there is none.
+// Whether block `k` changes where it is merged with the other of its index, or with zeros if there is none.
 #[inline]
 fn is_changed<B: BitBlock, O: Operation, S: Others<B>>(blocks: &[B], others: S, k: usize) -> bool
     requires can { CanMerge B.is_block blocks.now (S.count others) (S.are_blocks others) }
