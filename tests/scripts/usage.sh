@@ -159,7 +159,7 @@ mkdir -p "$from" "$room/theirs/crates"
 cd "$room/theirs" || exit 1
 git init -q .
 mkdir -p crates/.add.Ab12Cd/src crates/.add.mine
-printf '%s\r\n' '# theirs' 'bit_set: bit_words bit_blocks serde_json thiserror' > crates.txt
+printf '%s\r\n' '# theirs' 'bit_set: sets bit_words bit_blocks serde_json thiserror' > crates.txt
 ended=0
 "$from/add" > "$room/wrote" 2> "$room/said" || ended=$?
 expect "add beside a crates.txt with CRLF ends with $ended: $(cat "$room/said")" ends_with 0

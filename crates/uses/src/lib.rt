@@ -38,7 +38,7 @@ pub fn members<B: BitBlock>(alloc: Global, set: &BitSet<B>) -> Result<Vec<usize>
     set.iter().collect(alloc)
 }
 
-/// Puts one number in and takes another out. Needs no memory where the first is below the capacity.
+/// Inserts one number and removes another. Allocates nothing if the first is below the capacity.
 pub fn exchange<B: BitBlock>(set: &mut BitSet<B>, new: usize, old: usize) -> Result<(), SetError>
     ensures members { OnOk result ((x : ℕ) → has (elements set.new.values) x
         ≡ (not (old == x) && (new == x || has (elements set.old.values) x))) }
@@ -49,7 +49,7 @@ pub fn exchange<B: BitBlock>(set: &mut BitSet<B>, new: usize, old: usize) -> Res
     Ok(())
 }
 
-/// Puts a number in where it is not, and takes it out where it is. Returns whether it is then in.
+/// Inserts a number if it is absent, and removes it if it is present. Returns whether it is present now.
 pub fn toggle<B: BitBlock>(set: &mut BitSet<B>, value: usize) -> Result<bool, SetError>
     ensures returned { IfOk result (λ there. there ≡ not (has (elements set.old.values) value)) }
     ensures members { OnOk result ((x : ℕ) → has (elements set.new.values) x
@@ -62,7 +62,7 @@ pub fn toggle<B: BitBlock>(set: &mut BitSet<B>, value: usize) -> Result<bool, Se
     Ok(true)
 }
 
-/// Two sets have the same members exactly where their lists are equal, whichever block types they have.
+/// Two sets have the same members exactly if their lists are equal, whichever block types they have.
 pub fn lists_of_members<A: BitBlock, B: BitBlock>(a: &BitSet<A>, b: &BitSet<B>)
     ensures { IsSameSet (elements a.now.values) (elements b.now.values)
         ↔ (elements a.now.values ≡ elements b.now.values) }
