@@ -206,8 +206,7 @@ without_stamp() {
 }
 
 try_unproved() {
-    local lib
-    printf -v lib '(cd %q && rt lib)' "$from/crates/bit_set"
+    local lib="(cd \"$from/crates/bit_set\" && rt lib)"
     start unproved
     expect 'add does not say that rt lib comes first' without_proofs says "$lib"
     expect 'add copies what is proved where nothing is' [ ! -e crates/bit_set/out ]

@@ -214,6 +214,7 @@ case "$*" in */out/rlib*) rm -r "$3/more" && touch "$STAND_INS/copied" && exec s
 COPIES
 chmod +x "$room/slow/cp"
 mkdir -p "$from/crates/bit_set/out/rlib/more"
+touch "$from/crates/bit_set/out/rlib/stamp"
 end_add copied
 expect 'add by SIGTERM leaves a part of what is proved' [ "$(ls -A crates/bit_set/out)" = incremental ]
 expect 'add fails after a part was copied' "$from/add"
