@@ -277,7 +277,8 @@ impl<B: BitBlock> BitSet<B> {
         }
     }
 
-    /// Keeps the elements below `len`, and shortens the length to it. Writes at most one block.
+    /// Keeps the elements below `len`, and shortens the length to it. Writes at most one block. Constant time, once
+    /// the compiler has removed std's loop over the dropped blocks.
     pub fn truncate(&mut self, len: usize)
         ensures elements { elements self.new.values ≡ those_below (elements self.old.values) len }
         ensures members { KeepsBelow (elements self.old.values) (elements self.new.values) len }
@@ -316,7 +317,7 @@ impl<B: BitBlock> BitSet<B> {
         self.make_empty();
     }
 
-    /// Removes every element and sets the length to 0. The capacity stays. Constant time.
+    /// Removes every element and sets the length to 0. The capacity stays. Constant time, as [`BitSet::truncate`].
     pub fn reset(&mut self)
         ensures whole { self.new ≡ record { values = []; capacity = self.old.capacity } }
         ensures changes { Changes Change.Reset self.old.values Done self.new.values }

