@@ -370,8 +370,8 @@ bool bit_set_reserve(bit_set *set, size_t length) BIT_SET_MAY_FAIL;
 /* The same, with no more than that takes in whole blocks. */
 bool bit_set_reserve_exact(bit_set *set, size_t length) BIT_SET_MAY_FAIL;
 
-/* Makes the length that of the blocks up to the greatest member, and gives the capacity past these back. False where
- * some of it stayed for want of memory; the length is the new one then too. */
+/* Sets the length to the end of the last nonempty block, and gives back the capacity past it. False if some of it stayed
+ * because memory ran out; the length has changed then too. */
 bool bit_set_shrink_to_fit(bit_set *set) BIT_SET_CALL;
 
 /* ---- Matrices: rows of columns, each row a set, all in one piece of memory. The numbers of rows and columns stay as they

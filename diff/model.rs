@@ -95,7 +95,7 @@ impl Model {
         self.len.div_ceil(width())
     }
 
-    /// The length becomes that of the blocks up to the one with the greatest element.
+    /// Sets the length to the end of the last nonempty block.
     fn cut_zero_blocks(&mut self) {
         self.len = self.elements.last().map_or(0, |last| (last / width() + 1) * width());
     }

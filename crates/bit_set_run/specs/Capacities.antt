@@ -38,7 +38,7 @@ GrowsPast numbers set after =
 abbrev pub GrowsExactlyTo : ℕ → ℕ → Bits → Bits → Type 0
 GrowsExactlyTo w len set after = after.capacity ≡ max set.capacity (capacity_of w (blocks_for w len))
 
--- the length becomes that of the blocks up to the greatest number, and the capacity that of the blocks of this length
+-- sets the length to the end of the last nonempty block, and the capacity to that of the blocks of this length
 abbrev pub Shrinks : ℕ → Bits → Bits → Type 0
 Shrinks w set after =
     (length after.values ≡ whole_blocks w set.values)
