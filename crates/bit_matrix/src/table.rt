@@ -1,4 +1,4 @@
-// Tables of bits in a list of blocks, by functions on the blocks: each row has as many blocks.
+// Tables of bits in a list of blocks, by functions on the blocks: each row has equally many blocks.
 ghost use Rattle.std.specs.Prelude.{◌≡◌, ◌+◌, ◌*◌, ◌^◌, ◌<◌, ◌≤◌, MatchOption, drop, length, take};
 
 use crate::BitBlock;

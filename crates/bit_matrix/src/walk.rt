@@ -33,7 +33,7 @@ impl<'a, B: BitBlock> Model for Iter<'a, B> {
 }
 
 impl<'a, B: BitBlock> Iter<'a, B> {
-    // The walk over the indexes of the ones of a list of blocks, from `from` on.
+    // The iterator over the indexes of the ones of a list of blocks, from `from` on.
     #[inline]
     pub(crate) fn over(blocks: &'a [B], from: usize) -> Self
         requires each { All B.is_block blocks.now }

@@ -37,7 +37,7 @@ pub fn close<B: BitBlock>(alloc: Global, rows: &mut [BitSet<B>]) -> Result<(), A
     Ok(())
 }
 
-// The greatest length of a row, and 0 of no rows.
+// The greatest length of a row, or 0 if there are no rows.
 fn longest<B: BitBlock>(rows: &[BitSet<B>]) -> usize
     ensures all { (u : ℕ) → u < length rows.now → length (row rows.now u).values ≤ result }
     ensures least { (m : ℕ) → ((u : ℕ) → u < length rows.now → length (row rows.now u).values ≤ m) → result ≤ m }
@@ -49,7 +49,7 @@ fn longest<B: BitBlock>(rows: &[BitSet<B>]) -> usize
     longest
 }
 
-// Each row that has the node takes in what is in `via`.
+// Inserts the members of `via` into each row that has the node.
 fn join_all<B: BitBlock>(
     rows: &mut [BitSet<B>],
     node: usize,
@@ -68,7 +68,7 @@ fn join_all<B: BitBlock>(
     Ok(())
 }
 
-// The row takes in what is in `via`, where it has the node.
+// Inserts the members of `via` into the row, if it has the node.
 fn join<B: BitBlock>(row: &mut BitSet<B>, node: usize, via: &BitSet<B>) -> Result<(), AllocError>
     ensures joins { OnOk result (Joins node via.now row.old row.new) }
     ensures err { OnErr result (row.new ≡ row.old) }

@@ -16,7 +16,7 @@ pub trait Graph: Copy {
 
     ghost rows: { Self → List (List ℕ) };
 
-    // What such a walk has not given yet.
+    // What such an iterator has not yet yielded.
     ghost left: { Self.Successors → List ℕ };
 
     /// How many nodes there are that can have edges of their own: those below this number. Constant time.
