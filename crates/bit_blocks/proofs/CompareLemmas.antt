@@ -65,6 +65,12 @@ zero_from_false m w ms ns falses k j index =
 pub shorter_end : {X : Type 0} (f : X → ℕ) (xs ys : List X) (c : ℕ) → c ≡ min (length xs) (length ys) → (c ≡ length (map f ys)) ⊎ (c ≡ length (map f xs))
 shorter_end f xs ys c e = rw (length-map xs, length-map ys) (grind arith)
 
+-- one block more merges to 0
+pub zeros_more : (m : Merge) (w : ℕ) (ms os : List ℕ) (k a b n : ℕ) → MergesToZero m w ms os k → a ≡ get_or ms k 0
+    → b ≡ get_or os k 0 → ((j : ℕ) → j < w → is_one n j ≡ merge_of_values m (is_one a j) (is_one b j)) → n ≡ 0
+    → MergesToZero m w ms os (k + 1)
+zeros_more m w ms os k a b n zeros first second digits none = record { digit = λ q j below index. grind (arith, zeros.digit q j, digits j index, digit_from_zero n j none) }
+
 -- a difference: where both have blocks, and past those
 pub difference_of_blocks : (w : ℕ) (ms ns : List ℕ) (count : ℕ) → 0 < w → ((k : ℕ) → get_or ms k 0 < 2 ^ w)
     → (count ≡ length ns) ⊎ (count ≡ length ms)

@@ -9,6 +9,7 @@ pub mod bytes;
 pub mod changes;
 pub mod comparing;
 pub mod copies;
+pub mod counted;
 pub mod differences;
 pub mod groups;
 pub mod inclusion;

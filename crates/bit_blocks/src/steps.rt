@@ -53,16 +53,6 @@ impl Steps {
         self.link = ManuallyDrop::new(Snapshot::of(&Link::More(Snapshot::of(&self.link))));
     }
 
-    /// So many steps more.
-    #[inline]
-    pub fn tick_by(&mut self, count: usize)
-        ensures { self.new ≡ self.old + count }
-    {
-        for _ in 0..count {
-            self.tick();
-        }
-    }
-
     /// As many steps, counted on by itself.
     #[inline]
     pub fn clone(&self) -> Self

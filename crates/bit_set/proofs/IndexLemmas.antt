@@ -185,11 +185,6 @@ pub length-values_in : (w : ℕ) (ms : List ℕ) → length (values_in w ms) ≡
 length-values_in w [] = omega arith
 length-values_in w (m ∷ ms) = let rest = length-values_in w ms in length-digits_from m w (values_in w ms) ∙ omega (arith, rest)
 
--- one block more is counted
-pub length-elements-block : (w m : ℕ) (bs : List Bool) → m < 2 ^ w → length (elements (digits_from m 0 w ++ bs)) ≡ count_ones m + length (elements bs)
-unfolding indexes
-length-elements-block w m bs small = length-indexes w 0 m bs small
-
 -- no more than digits
 pub length-indexes-le : (w p m : ℕ) (bs : List Bool) → length (indexes w p m bs) ≤ w + length bs
 unfolding indexes

@@ -1,15 +1,15 @@
 -- How many values of the merge of two lists of blocks are true, block by block.
-use Rattle.std.proofs.Common.{◌/◌, ◌≡◌, ◌≢◌, ℕ, zero, suc, ◌+◌, ◌-◌, ◌*◌, ◌^◌, ◌<◌, ◌≤◌, ◌==◌, ◌||◌, if◌then◌else◌, Bool, true, false, cond, max, List, map, length, get_or, count_ones, refl}
-use Rattle.std.proofs.Common.{sym, ap, ap₂, ◌∙◌, ⊎_elim, arith, div-lt_iff_lt-mul, pow_pos, mul-le-mul_right}
+use Rattle.std.proofs.Common.{◌≡◌, ◌≢◌, ℕ, zero, suc, ◌+◌, ◌-◌, ◌*◌, ◌^◌, ◌<◌, ◌≤◌, ◌==◌, ◌||◌, if◌then◌else◌, Bool, true, false, cond, max, List, map, length, get_or, count_ones, refl}
+use Rattle.std.proofs.Common.{sym, ap, ap₂, ◌∙◌, ⊎_elim, arith, pow_pos, mul-le-mul_right}
 use Rattle.std.proofs.lemmas.Bool.{cases_lt, false≢true, Decides.nat_tests}
 use Rattle.std.proofs.lemmas.{List.{ext_get_or, FromFn.{get_or-map-range_with_len, length-map-range_with_len}, Sums.{count_by-le-length, sum_by-cons}}, Nat.le-div}
 use Rattle.std.specs.List.{count_by, range_with_len, sum_by}
-use Rattle.bit_blocks.specs.{declared.block.merge.Merge.Merge, Bits.Bits, BlockMerges.{IsFirstMerged, MergesToFalse}, Digits.is_one, Lowest.{IsLowest, IsCleared}}
+use Rattle.bit_blocks.specs.{declared.block.merge.Merge.Merge, Bits.Bits, BlockMerges.MergesToFalse, Digits.is_one, Lowest.{IsLowest, IsCleared}}
 use Rattle.bit_blocks.specs.{Merges.{merge_of, merge_of_values}, Storage.{values_of, value_at, is_used, IsZeroFrom}}
 use Rattle.bit_blocks.proofs.{CompareLemmas.{digit_from_zero, value_in_view}, LowestLemmas.ones_zero, Masks.is_one-zero, MergeLemmas.{get_or-merged, length-merged, merge_of_values-none}}
 use Rattle.bit_blocks.proofs.{SpanCountLemmas.{count-parts, ones_of_span, sum-parts}, StorageLemmas.{value_at-index, value_at-past}, UseLemmas.{used_past, zero_from_unused}}
 use Rattle.bit_blocks.proofs.VectorLemmas.{length_from_view}
-use Rattle.bit_words.specs.MergedOnes.{may_merge, merged_at, merged_ones, CoversChunks, CoversMerged, IsFirstMergedBlock}
+use Rattle.bit_words.specs.MergedOnes.{may_merge, merged_at, merged_ones, CoversChunks, CoversMerged}
 use Rattle.bit_words.proofs.RangeQueryLemmas.{trues_of_map}
 
 -- ---- sums over a range
@@ -199,34 +199,8 @@ module _ (merge : Merge) (w : ℕ) (ms ns : List ℕ) where
         omega (arith, some, none (i + 1)));
   }
 
-  pub some_where_here : (k : ℕ) → IsFirstMergedBlock merge w ms ns k → MergesToFalse merge w ms ns → ⊥
-  some_where_here k first falses =
-      first.here (count_none (merged_at merge w ms ns) (k * w) ((k + 1) * w - k * w) (λ i _ _. falses.value i))
-
-  -- the first index at which they merge to true is one of the first block that does
-  pub first_in_block : (k i : ℕ) → 0 < w → IsFirstMergedBlock merge w ms ns k → IsFirstMerged merge w ms ns i → i / w ≡ k
-  first_in_block k i pos block first =
-      let not_before : i < k * w → ⊥ = λ low. let some = some_merged 0 k i first.is_true (omega arith) low in omega (arith, some, block.before) in
-      let not_past : (k + 1) * w ≤ i → ⊥ = λ high. block.here (count_none (merged_at merge w ms ns) (k * w) ((k + 1) * w - k * w) (λ j _ below. first.before j (omega (arith, high, below)))) in
-      ⊎_elim
-      (λ (low : i < k * w). absurd (not_before low))
-      (λ (reached : k * w ≤ i).
-      ⊎_elim
-      (λ (within : i < (k + 1) * w).
-      let upto : i / w < k + 1 = (div-lt_iff_lt-mul pos).1 within in
-      omega (arith, upto, le-div k i w pos reached))
-      (λ (high : (k + 1) * w ≤ i). absurd (not_past high))
-      (cases_lt i ((k + 1) * w)))
-      (cases_lt i (k * w))
-
-  -- and it is below a block from which on all merge to 0
-  pub first_below : (k count : ℕ) → IsFirstMergedBlock merge w ms ns k
-      → ((q j : ℕ) → count ≤ q → j < w → merge_of_values merge (is_one (get_or ms q 0) j) (is_one (get_or ns q 0) j) ≡ false) → k < count
-  first_below k count first past =
-      ⊎_elim
-      (λ below. below)
-      (λ reached. absurd (first.here (merged_none k (λ j index. past k j reached index))))
-      (cases_lt k count)
+  pub none_where_false : (a b : ℕ) → MergesToFalse merge w ms ns → merged_ones merge w ms ns a b ≡ 0
+  none_where_false a b falses = count_none (merged_at merge w ms ns) (a * w) (b * w - a * w) (λ i _ _. falses.value i)
 
   -- of the blocks at which m has a 1
   left_some : (start m : ℕ) → ((j : ℕ) → j < w → is_one m j ≡ false → merged_ones merge w ms ns (start + j) (start + j + 1) ≡ 0)

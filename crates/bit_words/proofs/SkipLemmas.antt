@@ -1,13 +1,12 @@
 -- A walk passes over whole chunks of blocks.
-use Rattle.std.proofs.Common.{◌≡◌, ℕ, suc, ◌+◌, ◌-◌, ◌*◌, ◌^◌, ◌<◌, ◌≤◌, not, ◌==◌, List, [], ◌∷◌, ◌++◌, map, drop, take, length, length-take, slice_get, Some, All, get_or, get_or-take}
-use Rattle.std.proofs.Common.{count_ones, refl, sym, ap, subst, ◌∙◌, arith}
-use Rattle.std.proofs.lemmas.{Bool.Decides.nat_tests, List.{drop-take, length-drop, take-append-drop, take-map, take-take, Sums.{sum_by-append, sum_by-cons, sum_by-take-drop}}, Nat.Bits.bit_at-lt}
-use Rattle.std.proofs.Math.Seq.{drop-drop}
-use Rattle.std.specs.{Int.bit_at, List.{range_with_len, sum_by}}
-use Rattle.bit_blocks.specs.{Bits.blocks_for, Digits.is_one, Storage.{ones_in, is_used}}
+use Rattle.std.proofs.Common.{◌≡◌, ℕ, ◌+◌, ◌-◌, ◌<◌, ◌≤◌, List, [], ◌∷◌, ◌++◌, drop, take, length, min}
+use Rattle.std.proofs.Common.{count_ones, refl, sym, ap, ◌∙◌, arith}
+use Rattle.std.proofs.lemmas.{Bool.Decides.nat_tests, Option.slice_get_within, List.{drop-take, length-drop, take-append-drop, take-take, Sums.{sum_by-append, sum_by-cons, sum_by-take-drop}}}
+use Rattle.std.proofs.Math.Seq.{drop-drop, take-add}
+use Rattle.std.specs.{List.{sum_by}}
+use Rattle.bit_blocks.specs.{Bits.blocks_for, Storage.{ones_in}}
 use Rattle.bit_words.specs.{Nonzero.{Nonzeros, SkipsBlocks, nonzero_from, ones_left}, Pending.{IsNextChunk, IsPending, left_from, next_at}}
-use Rattle.bit_blocks.proofs.{OnesLemmas.ones_are_digits, StorageLemmas.value_at-index, ZeroLemmas.dropped}
-use Rattle.bit_words.proofs.{NextAtLemmas.next_at-zero, PendingLemmas.{IsInHand-zero, count_past, left-split, long_by_stored, stored_past}, PendingOnes.ones_nonzero}
+use Rattle.bit_words.proofs.{NextAtLemmas.next_at-zero, PendingLemmas.{IsInHand-zero, count_past, left-split, stored_past}, PendingOnes.ones_nonzero}
 
 -- ---- calls in a row
 
@@ -43,66 +42,50 @@ module _ {X : Type 0} (number : X → ℕ) where
       let rest = ap (ones_left number) is.left in
       omega (arith, is.passed, rest, sum_by-take-drop (λ (entry : ℕ × X). count_ones (number entry.1)) s.left is.count)
 
-  -- As many blocks are not 0 as there are ones that say so.
-  used_counted : (k p m : ℕ) (xs : List X) → ((j : ℕ) → j < length xs → is_one m (p + j) ≡ is_used (map number xs) j)
-      → length (nonzero_from number k xs) ≡ sum_by (bit_at m) (range_with_len p (length xs))
-  used_counted k p m [] same = refl
-  used_counted k p m (x ∷ xs) same =
-      let here : is_one m p ≡ not (number x == 0) = ap (is_one m) (let e : p ≡ p + 0 = omega arith in e) ∙ same 0 (omega arith) in
-      let rest = used_counted (k + 1) (p + 1) m xs (λ j below. ap (is_one m) (let e : p + 1 + j ≡ p + suc j = omega arith in e) ∙ same (suc j) (omega (arith, below))) in
-      grind (arith, nat_tests, here, rest, bit_at-lt m p, sum_by-cons (bit_at m) p (range_with_len (p + 1) (length xs)))
+  -- As many blocks are not 0 as count one each.
+  nonzero_counted : (k : ℕ) (xs : List X) → length (nonzero_from number k xs) ≡ sum_by (λ x. min 1 (number x)) xs
+  nonzero_counted k [] = refl
+  nonzero_counted k (x ∷ xs) = grind (arith, nat_tests, nonzero_counted (k + 1) xs, sum_by-cons (λ y. min 1 (number y)) x xs)
+
+-- a sum over some blocks, and over the next ones
+pub sum_more : {X : Type 0} (f : X → ℕ) (i n : ℕ) (xs : List X) → sum_by f (take (i + n) xs) ≡ sum_by f (take i xs) + sum_by f (take n (drop i xs))
+sum_more f i n xs = ap (sum_by f) (take-add i n xs) ∙ sum_by-append f (take i xs) (take n (drop i xs))
+
+-- the sum over those that are left
+pub sum_rest : {X : Type 0} (f : X → ℕ) (i : ℕ) (xs rest : List X) → rest ≡ drop i xs → sum_by f (take i xs) + sum_by f rest ≡ sum_by f xs
+sum_rest f i xs rest is =
+    ap (λ ys. sum_by f (take i xs) + sum_by f ys) is ∙ sym (sum_by-append f (take i xs) (drop i xs)) ∙ ap (sum_by f) (take-append-drop i xs)
 
 -- ---- one chunk
 
-read_first : {X : Type 0} (number : X → ℕ) (x : X) (xs : List X) → slice_get xs 0 ≡ Some x → (0 < length xs) × (get_or (map number xs) 0 0 ≡ number x)
-read_first number x [] is = absurd (let e = is in cc)
-read_first number x (y ∷ ys) is = (omega arith, ap number (let e = is in cc))
-
-first_lawful : {X : Type 0} (is_block : X → Type 0) (x : X) (xs : List X) → slice_get xs 0 ≡ Some x → All is_block xs → is_block x
-first_lawful is_block x [] is each = absurd (let e = is in cc)
-first_lawful is_block x (y ∷ ys) is each = subst is_block (let e = is in cc) (each 0 y (omega arith))
-
 module _ {X : Type 0} (w : ℕ) (number : X → ℕ) (is_block : X → Type 0) where
-  -- What is past the chunk is left, and the ones of the chunk are those of its blocks that are not 0, as many as the block
-  -- of the summary has ones.
-  pub record IsPastChunk (index end : ℕ) (pending used : X) (xs summary : List X) : Type 0 where
+  -- What is past the chunk is left, and the ones of the chunk are those of its blocks that are not 0.
+  pub record IsPastChunk (index end : ℕ) (pending : X) (xs summary : List X) : Type 0 where
     pub chunk : List (ℕ × X)
     pub split : left_from number (next_at w index (number pending)) end xs ≡ chunk ++ left_from number (next_at w (index + w) (number pending)) end xs
-    pub count : length chunk ≡ count_ones (number used)
+    pub count : length chunk ≡ sum_by (λ x. min 1 (number x)) (take w (drop (index + w) xs))
     pub ones : ones_left number chunk ≡ ones_in number (take w (drop (index + w) xs))
     pub walk : IsPending w number is_block (index + w) end pending xs (drop 1 summary)
     pub one_less : blocks_for w (end - (index + w)) ≡ 1 + blocks_for w (end - (index + w + w))
 
-  pub past_chunk : (index end : ℕ) (pending used : X) (xs summary : List X) → 0 < w → ((x : X) → is_block x → number x < 2 ^ w) → IsPending w number is_block index end pending xs summary
-      → IsNextChunk w number index end pending summary used → IsPastChunk index end pending used xs summary
-  past_chunk index end pending used xs summary pos small is next =
+  pub past_chunk : (index end : ℕ) (pending used : X) (xs summary : List X) → 0 < w → IsPending w number is_block index end pending xs summary
+      → IsNextChunk w number index end pending summary used → IsPastChunk index end pending xs summary
+  past_chunk index end pending used xs summary pos is next =
       let p = index + w in
       let hand = is.hand in
-      let first = read_first number used summary next.first in
-      let long = long_by_stored w number is_block xs summary is.stored.short first.0 in
+      let some : 0 < length summary = slice_get_within summary 0 used next.first in
       let ys = drop p (take (p + w) xs) in
-      let many : length ys ≡ w = omega (arith, length-drop p (take (p + w) xs), length-take (p + w) xs, next.whole, hand.ends) in
-      let digit : (j : ℕ) → j < length ys → is_one (number used) (0 + j) ≡ is_used (map number ys) j = λ j below.
-      let within : j < w = omega (arith, below, many) in
-      ap (is_one (number used)) (let e : 0 + j ≡ j = omega arith in e)
-      ∙ ap (λ m. is_one m j) (sym first.1)
-      ∙ sym (value_at-index w (map number summary) 0 j within)
-      ∙ is.stored.digit long (0 * w + j) (omega (arith, within, next.whole))
-      ∙ ap (is_used (map number xs)) (let e : p + (0 * w + j) ≡ p + j = omega arith in e)
-      ∙ ap (λ m. not (m == 0))
-      (sym (get_or-take (p + w) (map number xs) (p + j) 0 (omega (arith, within))) ∙ ap (λ ms. get_or ms (p + j) 0) (take-map number (p + w) xs) ∙ sym (dropped number p j (take (p + w) xs))) in
       record {
         chunk = left_from number p (p + w) xs;
         split =
             ap (λ q. left_from number q end xs) (next_at-zero w index (number pending) next.used_up)
             ∙ left-split number p (p + w) end xs (omega arith) next.whole hand.ends
             ∙ ap (λ q. left_from number p (p + w) xs ++ left_from number q end xs) (sym (next_at-zero w p (number pending) next.used_up));
-        count = used_counted number p 0 (number used) ys digit ∙ ap (λ n. sum_by (bit_at (number used)) (range_with_len 0 n)) many
-            ∙ sym (ones_are_digits w (number used) (small used (first_lawful is_block used summary next.first is.stored.each)));
+        count = nonzero_counted number p ys ∙ ap (sum_by (λ x. min 1 (number x))) (drop-take p w xs);
         ones = ones_nonzero w number is_block p ys ∙ ap (ones_in number) (drop-take p w xs);
         walk = record {
           hand = IsInHand-zero w number is_block p end pending xs hand.each hand.fits hand.of_block next.used_up (omega (arith, next.whole)) hand.ends;
-          stored = stored_past w number is_block 1 p (p + w) end xs summary (drop 1 summary) pos (omega arith) is.stored (λ _. omega (arith, first.0)) refl;
+          stored = stored_past w number is_block 1 p (p + w) end xs summary (drop 1 summary) pos (omega arith) is.stored (λ _. omega (arith, some)) refl;
         };
-        one_less = count_past w number is_block 1 p (p + w) end xs summary pos (omega arith) is.stored (omega (arith, first.0));
+        one_less = count_past w number is_block 1 p (p + w) end xs summary pos (omega arith) is.stored (omega (arith, some));
       }

@@ -1,6 +1,6 @@
 -- Which of the blocks of a list a block of its summary says are not 0, as it is made.
-use Rattle.std.proofs.Common.{◌≡◌, ◌≢◌, ℕ, ◌+◌, ◌-◌, ◌<◌, ◌≤◌, Bool, false, true, ◌&&◌, ◌||◌, ◌==◌, nat_lt, nat_le, not, List, map, min, length, take, drop, get_or, get_or-drop, get_or-take, sym, ap, ap₂, ◌∙◌, arith, ⊎_elim}
-use Rattle.std.proofs.{Math.Bool.or-false, lemmas.{Bool.{cases_eq, cases_lt, Decides.nat_tests}, List.{drop-map, get_or_past, length-map, take-map}}}
+use Rattle.std.proofs.Common.{◌≡◌, ◌≢◌, ℕ, ◌+◌, ◌-◌, ◌<◌, ◌≤◌, Bool, false, ◌&&◌, ◌||◌, ◌==◌, nat_lt, nat_le, List, map, min, length, get_or, sym, ap, ap₂, ◌∙◌, arith, ⊎_elim}
+use Rattle.std.proofs.{Math.Bool.or-false, lemmas.{Bool.{cases_eq, cases_lt, Decides.nat_tests}, List.{get_or_past, length-map}}}
 use Rattle.bit_blocks.{specs.{Digits.{IsEither, IsShiftedLeft, is_one}, Storage.is_used}, proofs.{Masks.is_one-either, TestLemmas.{above_and, before_and, below_and, from_and}}}
 use Rattle.bit_words.specs.Summary.{SaysUsed}
 
@@ -80,25 +80,3 @@ module _ {X : Type 0} (w i c start : ℕ) (f : X → ℕ) (P : X → Type 0) (xs
       let digit : is_one (f s) j ≡ is_one (f p) (j - i) = rw back at (ap (λ x. x == 1) (moved.moved (j - i) (omega arith))) in
       put_digit j false (is_one (f b) j) false within (above_and i j _ (omega arith)) (from_and (i + c) j _ over)
       (digit ∙ says.digit (j - i) (omega arith) ∙ above_and c (j - i) _ (omega arith)) ∙ or-false _
-
--- ---- a part of the blocks
-
-pub used_in_rest : {X : Type 0} (start j : ℕ) (f : X → ℕ) (xs rest : List X) → rest ≡ drop start xs → is_used (map f rest) j ≡ is_used (map f xs) (start + j)
-used_in_rest start j f xs rest is =
-    ap (λ m. not (m == 0)) (ap (λ ms. get_or ms j 0) (ap (map f) is ∙ sym (drop-map f start xs)) ∙ get_or-drop start (map f xs) j 0)
-
-pub used_in_part : {X : Type 0} (start count j : ℕ) (f : X → ℕ) (xs rest part : List X) → rest ≡ drop start xs → part ≡ take count rest → j < count
-    → is_used (map f part) j ≡ is_used (map f xs) (start + j)
-used_in_part start count j f xs rest part past is within =
-    ap (λ m. not (m == 0)) (ap (λ ms. get_or ms j 0) (ap (map f) is ∙ sym (take-map f count rest)) ∙ get_or-take count (map f rest) j 0 within) ∙ used_in_rest start j f xs rest past
-
--- those before a part are used, and those of it
-pub used_further : {X : Type 0} (start past : ℕ) (f : X → ℕ) (xs : List X) → ((k : ℕ) → k < start → is_used (map f xs) k ≡ true)
-    → ((j : ℕ) → start + j < past → is_used (map f xs) (start + j) ≡ true) → (k : ℕ) → k < past → is_used (map f xs) k ≡ true
-used_further start past f xs before part k within =
-    ⊎_elim
-    (λ (earlier : k < start). before k earlier)
-    (λ (later : start ≤ k).
-    let at : k ≡ start + (k - start) = omega arith in
-    rw at (part (k - start) (omega arith)))
-    (cases_lt k start)

@@ -1,5 +1,5 @@
 -- How many values of the merge of two lists of blocks are true. No public clause cites this.
-use Rattle.std.specs.{Prelude.{◌≡◌, ◌≢◌, ℕ, ◌+◌, ◌-◌, ◌*◌, ◌^◌, ◌<◌, ◌||◌, Bool, true, false, List}, List.{count_by, range_with_len}}
+use Rattle.std.specs.{Prelude.{◌≡◌, ℕ, ◌+◌, ◌-◌, ◌*◌, ◌^◌, ◌<◌, ◌||◌, Bool, true, false, List}, List.{count_by, range_with_len}}
 use Rattle.bit_blocks.specs.{Digits.is_one, Merges.merge_of_values, Storage.value_at, declared.block.merge.Merge.Merge}
 
 -- whether value i of two lists of blocks merges to true
@@ -24,8 +24,3 @@ pub record CoversMerged (merge : Merge) (w : ℕ) (ms ns : List ℕ) (start m : 
 pub record CoversChunks (merge : Merge) (w : ℕ) (ms ns : List ℕ) (first count m : ℕ) : Type 0 where
   pub none : (j : ℕ) → j < count → is_one m j ≡ false → merged_ones merge w ms ns ((first + j) * w) ((first + j + 1) * w) ≡ 0
   pub within : (j : ℕ) → j < w → is_one m j ≡ true → j < count
-
--- Block k is the first of which the merge is not 0.
-pub record IsFirstMergedBlock (merge : Merge) (w : ℕ) (ms ns : List ℕ) (k : ℕ) : Type 0 where
-  pub before : merged_ones merge w ms ns 0 k ≡ 0
-  pub here : merged_ones merge w ms ns k (k + 1) ≢ 0

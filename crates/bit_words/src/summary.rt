@@ -21,7 +21,6 @@ pub(crate) mod changes;
 pub(crate) mod clearing;
 pub(crate) mod comparing;
 pub(crate) mod copies;
-pub(crate) mod counted;
 pub(crate) mod counts;
 pub(crate) mod differences;
 pub(crate) mod inclusion;

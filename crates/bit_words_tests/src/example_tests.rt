@@ -188,36 +188,22 @@ fn blocks_are_put_over_others(rt: HostRuntime) {
     }
 }
 
-fn two_blocks_taken(rt: &impl Abort, alloc: Global) -> Result<(), AllocError> {
-    let mut blocks = Vec::new(alloc);
-    blocks.extend_from_slice(&[0b101u8, 0b1000_0000])?;
-    // Over blocks of 8 bits: the values at 0, 2 and 15 are true.
-    let (bits, count) = BitVec::from_counted_blocks(alloc, blocks)?;
-    expect_eq(rt, &bits.storage(), &[0b101, 0b1000_0000].as_slice());
-    expect_eq(rt, &count, &3);
-    expect_eq(rt, &bits.len(), &16);
-    Ok(())
-}
-
-// A list that is long enough for a summary. Two of its blocks are 0: one in a whole chunk, and the last.
-fn many_blocks_taken(rt: &impl Abort, alloc: Global, count: usize) -> Result<(), AllocError> {
-    let mut blocks = vec![in alloc; 0b11u8; count]?;
-    if blocks.len() != 100 {
-        return Ok(());
-    }
-    blocks[50] = 0;
-    blocks[99] = 0;
-    let (bits, count) = BitVec::from_counted_blocks(alloc, blocks)?;
-    expect_eq(rt, &count, &196);
-    expect_eq(rt, &bits.first_one_from(394), &Some(408));
-    expect_eq(rt, &bits.last_one_before(800), &Some(785));
-    Ok(())
-}
-
 #[test]
-fn blocks_are_taken_and_counted(rt: HostRuntime) {
-    ok(&rt, two_blocks_taken(&rt, rt.alloc()));
-    ok(&rt, many_blocks_taken(&rt, rt.alloc(), 100));
+fn lists_that_are_merged_and_compared(rt: HostRuntime) {
+    let mut bits = list_of::<u8>(&rt, rt.alloc(), 3, &[0, 1]);
+    let other = list_of::<u8>(&rt, rt.alloc(), 3, &[1, 2]);
+    if other.len() <= bits.len() {
+        // Of three values those at 0 and 1 are true, and those at 1 and 2 of `other`.
+        bits.merge(&other, Merge::Intersection);
+        expect_eq(&rt, &bits.storage(), &[0b010].as_slice());
+    }
+    let other = list_of::<u8>(&rt, rt.alloc(), 40, &[1, 30]);
+    // Of three values that at 1 is true, and of 40 in `other` those at 1 and 30.
+    expect(&rt, bits.is_subset(&other));
+    expect(&rt, !other.is_subset(&bits));
+    let other = list_of::<u8>(&rt, rt.alloc(), 40, &[30]);
+    // Of three values that at 1 is true, and of 40 in `other` that at 30.
+    expect(&rt, bits.is_disjoint(&other));
 }
 
 fn some_values_kept(rt: &impl Abort, bits: &mut BitVec<u8>) {

@@ -16,21 +16,30 @@ fn indices_of<B: BitBlock>(rt: &impl Abort, alloc: Global, bits: &BitVec<B>) -> 
     indices
 }
 
-// Merges a list with another that is no longer. Whether it is none, and the capacity stays.
-fn merge_in<B: BitBlock>(bits: &mut BitVec<B>, other: &BitVec<B>, merge: Merge) -> bool {
+// Merges a list with another that is no longer, with steps or without. Whether it is none, and the capacity stays.
+fn merge_in<B: BitBlock>(
+    bits: &mut BitVec<B>,
+    other: &BitVec<B>,
+    merge: Merge,
+    counted: bool,
+) -> bool {
     let capacity = bits.capacity();
-    let is_no_longer = other.len() <= bits.len();
-    if is_no_longer {
-        bits.merge_blocks(other, merge, &mut Steps::new());
+    if other.len() > bits.len() {
+        return false;
     }
-    is_no_longer && bits.capacity() == capacity
+    if counted {
+        bits.merge_blocks(other, merge, &mut Steps::new());
+    } else {
+        bits.merge(other, merge);
+    }
+    bits.capacity() == capacity
 }
 
 // What a list of 150 values and one of 101 become, which ends within a block at each width.
-fn merged<B: BitBlock>(rt: &impl Abort, alloc: Global, merge: Merge) -> BitVec<B> {
+fn merged<B: BitBlock>(rt: &impl Abort, alloc: Global, merge: Merge, counted: bool) -> BitVec<B> {
     let mut bits = list_of::<B>(rt, alloc, 150, &[0, 3, 31, 32, 64, 100, 149]);
     let other = list_of(rt, alloc, 101, &[0, 31, 33, 64, 99]);
-    expect(rt, merge_in(&mut bits, &other, merge));
+    expect(rt, merge_in(&mut bits, &other, merge, counted));
     bits
 }
 
@@ -42,9 +51,9 @@ const MERGES: &[(Merge, &[usize])] = &[
     (Merge::Symmetric, &[3, 32, 33, 99, 100, 149]),
 ];
 
-fn check_merges<B: BitBlock>(rt: &impl Abort, alloc: Global) {
+fn check_merges<B: BitBlock>(rt: &impl Abort, alloc: Global, counted: bool) {
     for (merge, wanted) in MERGES {
-        let bits = merged::<B>(rt, alloc, *merge);
+        let bits = merged::<B>(rt, alloc, *merge, counted);
         let indices = indices_of(rt, alloc, &bits);
         expect_eq(rt, &indices.as_slice(), wanted);
         expect_eq(rt, &bits.len(), &150);
@@ -53,8 +62,26 @@ fn check_merges<B: BitBlock>(rt: &impl Abort, alloc: Global) {
 
 #[test]
 fn lists_of_unequal_lengths_merge(rt: HostRuntime) {
-    check_merges::<Block24>(&rt, rt.alloc());
-    check_merges::<u128>(&rt, rt.alloc());
+    for counted in [true, false] {
+        check_merges::<Block24>(&rt, rt.alloc(), counted);
+        check_merges::<u128>(&rt, rt.alloc(), counted);
+    }
+}
+
+// A list that is long enough for a summary, by which it is searched once it is merged.
+fn check_long_merge(rt: &impl Abort, alloc: Global, counted: bool) {
+    let mut bits = list_of::<u8>(rt, alloc, 600, &[1, 300, 599]);
+    let other = list_of(rt, alloc, 400, &[2, 300, 399]);
+    expect(rt, merge_in(&mut bits, &other, Merge::Symmetric, counted));
+    expect_eq(rt, &bits.count_ones(), &4);
+    expect_eq(rt, &bits.first_one_from(3), &Some(399));
+    expect_eq(rt, &bits.first_one_from(400), &Some(599));
+}
+
+#[test]
+fn a_long_list_is_searched_after_a_merge(rt: HostRuntime) {
+    check_long_merge(&rt, rt.alloc(), true);
+    check_long_merge(&rt, rt.alloc(), false);
 }
 
 // What two bytes become as blocks. It has no clause, so that a test that compares it does not carry one along.
@@ -86,11 +113,15 @@ fn two_blocks_merge(rt: HostRuntime) {
     );
 }
 
-// Whether a list is within another, and whether it is apart from it.
-fn relations<B: BitBlock>(first: &BitVec<B>, second: &BitVec<B>) -> (bool, bool) {
+// Whether a list is within another, and whether it is apart from it, with steps and without.
+fn relations<B: BitBlock>(first: &BitVec<B>, second: &BitVec<B>) -> [(bool, bool); 2] {
     let mut steps = Steps::new();
     let within = first.is_subset_of(second, &mut steps);
-    (within, first.is_disjoint_from(second, &mut steps))
+    let apart = first.is_disjoint_from(second, &mut steps);
+    [
+        (within, apart),
+        (first.is_subset(second), first.is_disjoint(second)),
+    ]
 }
 
 // Lists that are compared: how long each is, and the indices at which it is true.
@@ -110,7 +141,7 @@ fn relations_of<B: BitBlock>(
     alloc: Global,
     first: Parts,
     second: Parts,
-) -> (bool, bool) {
+) -> [(bool, bool); 2] {
     let a = list_of::<B>(rt, alloc, first.0, first.1);
     let b = list_of::<B>(rt, alloc, second.0, second.1);
     relations(&a, &b)
@@ -132,7 +163,7 @@ fn check_relations<B: BitBlock>(rt: &impl Abort, alloc: Global) {
     for row in RELATIONS {
         let (first, second, wanted) = *row;
         let found = relations_of::<B>(rt, alloc, first, second);
-        assert_eq!(rt; found, wanted, "of {} and {}", first.0, second.0);
+        assert_eq!(rt; found, [wanted, wanted], "of {} and {}", first.0, second.0);
     }
 }
 

@@ -1,11 +1,14 @@
 //! The examples of the doc comments of the calls on lists of blocks, as they are there.
+use bit_blocks::packed::counted::{
+    difference_is_zero_counted, intersection_is_zero_counted, merge_counted,
+};
 use bit_blocks::packed::{
     bit_index, block_at, block_count, block_index, copy_of, difference_is_zero, get_bit,
     intersection_is_zero, merge_span, ones_in_span, or_mismatch, push_copies, put_in, replace_bit,
     same, span_merges_to_false,
 };
 use bit_words::bit_vec::operation::{Difference, Union};
-use bit_words::bit_vec::{Steps, count_merged_blocks};
+use bit_words::bit_vec::{Merge, Steps, count_merged_blocks};
 use std::test::Fail;
 
 #[test]
@@ -55,9 +58,18 @@ fn blocks_that_are_appended(rt: HostRuntime) -> Result<(), Fail> {
 
 #[test]
 fn blocks_within_others_and_apart(rt: HostRuntime) {
+    assert!(rt; difference_is_zero(&[5u8], &[7, 1]));
+    assert!(rt; intersection_is_zero(&[5u8], &[2, 1]));
+}
+
+#[test]
+fn blocks_that_are_merged_and_compared_in_steps(rt: HostRuntime) {
     let mut steps = Steps::new();
-    assert!(rt; difference_is_zero(&[5u8], &[7, 1], &mut steps));
-    assert!(rt; intersection_is_zero(&[5u8], &[2, 1], &mut steps));
+    let mut blocks = [5u8, 1];
+    merge_counted(&mut blocks, &[2], Merge::Union, &mut steps);
+    assert_eq!(rt; blocks, [7, 1]);
+    assert!(rt; difference_is_zero_counted(&[5u8], &[7, 1], &mut steps));
+    assert!(rt; intersection_is_zero_counted(&[5u8], &[2, 1], &mut steps));
 }
 
 #[test]

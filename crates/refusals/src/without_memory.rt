@@ -318,8 +318,8 @@ fn bits<B: BitBlock>(bits: &BitVec<B>, lent: &BitVec<B>) -> [usize; 6] {
         number(bits.get(447) == Some(true) && bits.get(5001) == None),
         number(bits.capacity() >= 5001 && bits.storage().len() >= 7),
         number(bits.none()),
-        number(bits.is_subset_of(lent, &mut Steps::new())),
-        number(bits.is_disjoint_from(lent, &mut Steps::new())),
+        number(bits.is_subset_of(lent, &mut Steps::new()) | bits.is_subset(lent)),
+        number(bits.is_disjoint_from(lent, &mut Steps::new()) | bits.is_disjoint(lent)),
     ]
 }
 
@@ -368,7 +368,8 @@ fn set_two<B: BitBlock>(bits: &mut BitVec<B>) -> bool {
 
 fn merge<B: BitBlock>(bits: &mut BitVec<B>, lent: &BitVec<B>) {
     if lent.len() <= bits.len() {
-        bits.merge_blocks(lent, Merge::Union, &mut Steps::new());
+        bits.merge_blocks(lent, Merge::Symmetric, &mut Steps::new());
+        bits.merge(lent, Merge::Union);
     }
 }
 

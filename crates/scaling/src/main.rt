@@ -6,6 +6,7 @@ mod changes;
 mod faults;
 mod flow;
 mod graphs;
+mod in_place;
 mod ranges;
 mod searches;
 mod shapes;
@@ -16,6 +17,7 @@ use changes::Change;
 use faults::Fault;
 use flow::Flow;
 use graphs::Table;
+use in_place::InPlace;
 use ranges::RangeCall;
 use searches::Search;
 use shapes::Shape;
@@ -65,6 +67,9 @@ fn done(alloc: Global, request: Request<'_>) -> Option<Result<usize, Fault>> {
         return Some(sum);
     }
     if let Some(sum) = as_one_of::<Change>(alloc, request) {
+        return Some(sum);
+    }
+    if let Some(sum) = as_one_of::<InPlace>(alloc, request) {
         return Some(sum);
     }
     if let Some(sum) = as_one_of::<Table>(alloc, request) {

@@ -19,18 +19,6 @@ fn become_between<B: BitBlock, S: Others<B>>(blocks: &mut [B], others: S, start:
     }
 }
 
-/// Each block from `start` on becomes the other block with its index, or 0 if there is none.
-pub fn become_others<B: BitBlock, S: Others<B>>(blocks: &mut [B], others: S, start: usize)
-    requires can { CanMerge B.is_block blocks.old (S.count others) (S.are_blocks others) }
-    requires from { start ≤ S.count others }
-    ensures { HaveBecome B.width B.number B.is_block start (length blocks.old) (S.digit others) blocks.old blocks.new }
-{
-    let count = others.len();
-    let end = blocks.len();
-    become_between(blocks, others, start, count);
-    become_between(blocks, Zeros { count: end }, count, end);
-}
-
 /// The blocks from `start` on become the others without the ones of `except`, or 0 past their end. If `except` is
 /// shorter, the others are taken unchanged past its end.
 pub fn become_except<B: BitBlock>(blocks: &mut [B], others: &[B], except: &[B], start: usize)

@@ -6,7 +6,6 @@ use crate::block::BitBlock;
 use crate::block::operation::{Operation, Union};
 use crate::packed::access::{block_at, put_in};
 use crate::packed::others::{Except, Others};
-use crate::steps::Steps;
 
 /// Block `k` becomes its merge with the other of its index, and is returned.
 #[inline]
@@ -14,16 +13,13 @@ pub fn merge_block<B: BitBlock, O: Operation, S: Others<B>>(
     blocks: &mut [B],
     others: S,
     k: usize,
-    steps: &mut Steps,
 ) -> B
     requires can { CanMerge B.is_block blocks.old (S.count others) (S.are_blocks others) }
     requires in_others { k < S.count others }
     ensures has { HasMerged O.merge B.width B.number B.is_block k (k + 1) (S.digit others) blocks.old blocks.new }
     ensures of_block { B.is_block result }
     ensures of_number { B.number result ≡ get_or (map B.number blocks.new) k 0 }
-    ensures steps { steps.new ≡ steps.old + 1 }
 {
-    steps.tick();
     let merged = O::of_blocks(block_at(blocks, k), others.block(k));
     put_in(blocks, k, merged);
     merged
@@ -36,31 +32,27 @@ pub fn merge_between<B: BitBlock, O: Operation, S: Others<B>>(
     others: S,
     start: usize,
     end: usize,
-    steps: &mut Steps,
 )
     requires can { CanMerge B.is_block blocks.old (S.count others) (S.are_blocks others) }
     requires forward { start ≤ end }
     requires in_others { start < end → end ≤ S.count others }
     ensures has { HasMerged O.merge B.width B.number B.is_block start end (S.digit others) blocks.old blocks.new }
-    ensures steps { steps.new + start ≡ steps.old + end }
 {
     for k in start..end {
-        let _merged = merge_block::<B, O, S>(blocks, others, k, steps);
+        let _merged = merge_block::<B, O, S>(blocks, others, k);
     }
 }
 
 /// Each of the blocks from `start` on becomes its merge with a block of zeros, and those before them stay.
 /// Only an intersection changes them: otherwise the compiler takes out the loop.
-pub fn merge_rest<B: BitBlock, O: Operation>(blocks: &mut [B], start: usize, steps: &mut Steps)
+pub fn merge_rest<B: BitBlock, O: Operation>(blocks: &mut [B], start: usize)
     requires within { start ≤ length blocks.old }
     requires each { All B.is_block blocks.old }
     ensures has { HasMerged O.merge B.width B.number B.is_block start (length blocks.old) (λ k j. false) blocks.old
         blocks.new }
-    ensures steps { steps.new + start ≡ steps.old + length blocks.old }
 {
     let zero = B::zero();
     for k in start..blocks.len() {
-        steps.tick();
         let merged = O::of_blocks(block_at(blocks, k), zero);
         put_in(blocks, k, merged);
     }
@@ -72,17 +64,15 @@ pub fn merge_from<B: BitBlock, O: Operation, S: Others<B>>(
     blocks: &mut [B],
     others: S,
     start: usize,
-    steps: &mut Steps,
 )
     requires can { CanMerge B.is_block blocks.old (S.count others) (S.are_blocks others) }
     requires from { start ≤ S.count others }
     ensures has { HasMerged O.merge B.width B.number B.is_block start (length blocks.old) (S.digit others) blocks.old
         blocks.new }
-    ensures steps { steps.new + start ≡ steps.old + length blocks.old }
 {
     let count = others.len();
-    merge_between::<B, O, S>(blocks, others, start, count, steps);
-    merge_rest::<B, O>(blocks, count, steps);
+    merge_between::<B, O, S>(blocks, others, start, count);
+    merge_rest::<B, O>(blocks, count);
 }
 
 /// The blocks from `start` on become their unions with the others, except for the ones of `except`. Where `except` is the
@@ -97,6 +87,6 @@ pub fn unite_except<B: BitBlock>(blocks: &mut [B], others: &[B], except: &[B], s
 {
     let apart = Except { others, except };
     let both = apart.len().max(start);
-    merge_between::<B, Union, Except<B>>(blocks, apart, start, both, &mut Steps::new());
-    merge_between::<B, Union, &[B]>(blocks, others, both, others.len(), &mut Steps::new());
+    merge_between::<B, Union, Except<B>>(blocks, apart, start, both);
+    merge_between::<B, Union, &[B]>(blocks, others, both, others.len());
 }

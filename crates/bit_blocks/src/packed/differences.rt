@@ -122,22 +122,6 @@ pub(crate) fn differing_place<B: BitBlock, S: Others<B>>(
     None
 }
 
-/// Where the blocks first differ from the others, and past their end from zeros: a group of blocks in which one
-/// differs, or the end of the others. `None` if no block differs.
-#[inline(always)]
-pub fn first_difference<B: BitBlock, S: Others<B>>(blocks: &[B], others: S) -> Option<usize>
-    requires can { CanMerge B.is_block blocks.now (S.count others) (S.are_blocks others) }
-    ensures finds { FindsDifference B.width B.number 0 (length blocks.now) (S.digit others) blocks.now result }
-    ensures within { IfSome result (λ place. place ≤ S.count others) }
-{
-    let count = others.len();
-    let found = differing_place(blocks, others, 0, count);
-    if found.is_some() || are_zeros_from(blocks, count) {
-        return found;
-    }
-    Some(count)
-}
-
 /// Where the blocks first differ from the others without the ones of `except`, and past their end from zeros.
 /// `None` if no block differs. If `except` is shorter, the others are taken unchanged past its end.
 pub fn first_difference_except<B: BitBlock>(

@@ -8,7 +8,6 @@ use crate::merges::merge_within;
 use crate::table::row_of_blocks;
 use crate::{BitBlock, BitMatrix, Iter};
 use bit_blocks::packed::{difference_is_zero, intersection_is_zero, ones_in_span};
-use bit_words::bit_vec::Steps;
 use bit_words::bit_vec::operation::{Difference, Intersection, Operation, Union};
 
 impl<B: BitBlock> BitMatrix<B> {
@@ -151,11 +150,7 @@ impl<B: BitBlock> BitMatrix<B> {
         ensures returned { result ≡ is_subset (row_of self.now row) (row_of self.now other) }
         ensures members { IsTrue result ↔ IsSubset (row_of self.now row) (row_of self.now other) }
     {
-        difference_is_zero(
-            self.row_blocks(row),
-            self.row_blocks(other),
-            &mut Steps::new(),
-        )
+        difference_is_zero(self.row_blocks(row), self.row_blocks(other))
     }
 
     /// Whether the two rows have no column in common. Reads the blocks of both up to the one that decides.
@@ -165,10 +160,6 @@ impl<B: BitBlock> BitMatrix<B> {
         ensures returned { result ≡ is_disjoint (row_of self.now row) (row_of self.now other) }
         ensures members { IsTrue result ↔ IsDisjoint (row_of self.now row) (row_of self.now other) }
     {
-        intersection_is_zero(
-            self.row_blocks(row),
-            self.row_blocks(other),
-            &mut Steps::new(),
-        )
+        intersection_is_zero(self.row_blocks(row), self.row_blocks(other))
     }
 }

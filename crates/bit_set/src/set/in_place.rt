@@ -6,7 +6,7 @@ ghost use Rattle.sets.specs.Sets.{elements, union, intersection, difference, sym
 ghost use Rattle.bit_set.specs.Changes.{Change};
 ghost use Rattle.bit_set.specs.Changes.{Changes, outcome_of_result};
 
-use crate::bit_vec::{Merge, Steps};
+use crate::bit_vec::Merge;
 use crate::{BitBlock, BitSet};
 use std::alloc::AllocError;
 
@@ -36,8 +36,7 @@ impl<B: BitBlock> BitSet<B> {
         ensures grows { Grows (length other.now.values) result self.old self.new }
     {
         self.lengthen(other.bits.len())?;
-        self.bits
-            .merge_blocks(&other.bits, merge, &mut Steps::new());
+        self.bits.merge(&other.bits, merge);
         Ok(())
     }
 

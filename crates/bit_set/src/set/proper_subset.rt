@@ -3,7 +3,7 @@ ghost use Rattle.std.specs.Prelude.{◌≡◌, ◌<◌, ◌&&◌, ◌↔◌, ℕ
 ghost use Rattle.bit_blocks.specs.{BlockMerges.MergesToFalse, declared.block.merge.Merge.Merge};
 ghost use Rattle.sets.specs.{Runs.IsProperSubset, Sets.{elements, is_subset}};
 
-use crate::bit_vec::{Steps, first_mismatching_block};
+use crate::bit_vec::first_mismatching_block;
 use crate::{BitBlock, BitSet};
 use bit_blocks::packed::inclusion::difference_is_zero;
 
@@ -40,5 +40,5 @@ fn is_within_from<B: BitBlock>(blocks: &[B], others: &[B], start: usize) -> bool
 {
     let rest = blocks.split_at(start.min(blocks.len())).1;
     let other_rest = others.split_at(start.min(others.len())).1;
-    difference_is_zero(rest, other_rest, &mut Steps::new())
+    difference_is_zero(rest, other_rest)
 }

@@ -2,7 +2,6 @@
 ghost use Rattle.std.specs.Prelude.{◌≡◌, ◌↔◌, IsTrue};
 ghost use Rattle.sets.specs.{Members.{IsDisjoint, IsSubset}, Sets.{elements, is_subset, is_disjoint}};
 
-use crate::bit_vec::Steps;
 use crate::{BitBlock, BitSet};
 
 impl<B: BitBlock> BitSet<B> {
@@ -13,7 +12,7 @@ impl<B: BitBlock> BitSet<B> {
         ensures returned { result ≡ is_subset (elements self.now.values) (elements other.now.values) }
         ensures members { IsTrue result ↔ IsSubset (elements self.now.values) (elements other.now.values) }
     {
-        self.bits.is_subset_of(&other.bits, &mut Steps::new())
+        self.bits.is_subset(&other.bits)
     }
 
     /// Whether every element of `other` is in this set: [`BitSet::is_subset`] with the sets exchanged.
@@ -32,6 +31,6 @@ impl<B: BitBlock> BitSet<B> {
         ensures returned { result ≡ is_disjoint (elements self.now.values) (elements other.now.values) }
         ensures members { IsTrue result ↔ IsDisjoint (elements self.now.values) (elements other.now.values) }
     {
-        self.bits.is_disjoint_from(&other.bits, &mut Steps::new())
+        self.bits.is_disjoint(&other.bits)
     }
 }

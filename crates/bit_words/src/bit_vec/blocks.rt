@@ -71,7 +71,7 @@ impl<'a, B: BitBlock> Blocks<'a, B> {
         Some(if wanted { block } else { B::zero() })
     }
 
-    // Pulls the blocks before the first that is not 0. Returns how many they are.
+    // Pulls the blocks before the first that is not 0, each by itself. Returns how many they are.
     #[inline]
     pub(crate) fn pass_zeros(&mut self) -> usize
         requires each { All B.is_block self.old.left }
@@ -83,9 +83,21 @@ impl<'a, B: BitBlock> Blocks<'a, B> {
         ensures pulls { self.new.pulls ≡ self.old.pulls + result }
     {
         let zeros = zeros_before(self.as_slice());
-        self.steps.tick_by(zeros);
-        self.at += zeros;
+        for _ in 0..zeros {
+            self.pass();
+        }
         zeros
+    }
+
+    // Pulls a block, whatever it is.
+    #[inline(always)]
+    fn pass(&mut self)
+        requires some { 0 < length self.old.left }
+        ensures left { self.new.left ≡ drop 1 self.old.left }
+        ensures pulls { self.new.pulls ≡ self.old.pulls + 1 }
+    {
+        self.steps.tick();
+        self.at += 1;
     }
 
     // Leaves only so many of the blocks that are left.

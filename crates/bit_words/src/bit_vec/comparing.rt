@@ -8,12 +8,13 @@ use crate::summary::counts::by_summaries::ones_of_merge;
 use crate::summary::inclusion::{difference_by_summaries, intersection_by_summaries};
 use bit_blocks::block::BitBlock;
 use bit_blocks::block::merge::Merge;
+use bit_blocks::packed::counted::{difference_is_zero_counted, intersection_is_zero_counted};
 use bit_blocks::steps::Steps;
 
 impl<B: BitBlock> BitVec<B> {
     /// Whether `other` is true wherever this list is, whichever of them is longer. One step for each of
-    /// its own blocks, once at most; stops at the block of the first true value that `other` lacks. Of many blocks it reads
-    /// those alone that the summaries say may decide.
+    /// its own blocks that is read, once at most; stops at the block of the first true value that `other` lacks.
+    /// [`is_subset`](Self::is_subset) counts no steps, and is faster.
     pub fn is_subset_of(&self, other: &Self, steps: &mut Steps) -> bool
         ensures subset { IsTrue result
             ↔ ((i : ℕ) → slice_get self.now.values i ≡ Some true → slice_get other.now.values i ≡ Some true) }
@@ -23,18 +24,12 @@ impl<B: BitBlock> BitVec<B> {
         ensures most { steps.new ≤ steps.old + blocks_for B.width (length self.now.values) }
         ensures all { IsTrue result → steps.new ≡ steps.old + blocks_for B.width (length self.now.values) }
     {
-        difference_by_summaries(
-            &self.blocks,
-            &self.summary,
-            &other.blocks,
-            &other.summary,
-            steps,
-        )
+        difference_is_zero_counted(&self.blocks, &other.blocks, steps)
     }
 
-    /// Whether no index is true in both lists. One step for each block of those that both have; stops
-    /// at the block of the first index that is true in both. Of many blocks it reads those alone that the summaries say may
-    /// decide.
+    /// Whether no index is true in both lists. One step for each block that is read, of those that both have; stops
+    /// at the block of the first index that is true in both. [`is_disjoint`](Self::is_disjoint) counts no steps, and is
+    /// faster.
     pub fn is_disjoint_from(&self, other: &Self, steps: &mut Steps) -> bool
         ensures disjoint { IsTrue result
             ↔ ((i : ℕ) → slice_get self.now.values i ≡ Some true → slice_get other.now.values i ≢ Some true) }
@@ -49,13 +44,37 @@ impl<B: BitBlock> BitVec<B> {
             ≡ steps.old
             + min (blocks_for B.width (length self.now.values)) (blocks_for B.width (length other.now.values)) }
     {
-        intersection_by_summaries(
-            &self.blocks,
-            &self.summary,
-            &other.blocks,
-            &other.summary,
-            steps,
-        )
+        intersection_is_zero_counted(&self.blocks, &other.blocks, steps)
+    }
+
+    /// Whether `other` is true wherever this list is, whichever of them is longer. Of many blocks it reads those alone that
+    /// the summaries say may decide, up to the chunk that does. Each is read at most once: no clause says so, but the test
+    /// `scaling` bounds the instructions.
+    ///
+    /// ```
+    /// // Of three values that at 1 is true, and of 40 in `other` those at 1 and 30.
+    /// assert!(bits.is_subset(&other));
+    /// assert!(!other.is_subset(&bits));
+    /// ```
+    pub fn is_subset(&self, other: &Self) -> bool
+        ensures { IsTrue result
+            ↔ ((i : ℕ) → slice_get self.now.values i ≡ Some true → slice_get other.now.values i ≡ Some true) }
+    {
+        difference_by_summaries(&self.blocks, &self.summary, &other.blocks, &other.summary)
+    }
+
+    /// Whether no index is true in both lists. Of many blocks it reads those alone that the summaries say may decide, up to
+    /// the chunk that does. Each is read at most once: no clause says so, but the test `scaling` bounds the instructions.
+    ///
+    /// ```
+    /// // Of three values that at 1 is true, and of 40 in `other` that at 30.
+    /// assert!(bits.is_disjoint(&other));
+    /// ```
+    pub fn is_disjoint(&self, other: &Self) -> bool
+        ensures { IsTrue result
+            ↔ ((i : ℕ) → slice_get self.now.values i ≡ Some true → slice_get other.now.values i ≢ Some true) }
+    {
+        intersection_by_summaries(&self.blocks, &self.summary, &other.blocks, &other.summary)
     }
 
     /// Whether the same indexes are true in both lists, whichever of them is longer. Of many blocks it compares the

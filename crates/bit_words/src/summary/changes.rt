@@ -16,7 +16,6 @@ use bit_blocks::block::operation::{Difference, Intersection, Operation, Symmetri
 use bit_blocks::packed::access::block_index;
 use bit_blocks::packed::block_merges::merge_from;
 use bit_blocks::packed::changes::{changing_place, first_change};
-use bit_blocks::steps::Steps;
 
 // Whether a block of chunk `q` changes by the merge with the others. Looks at no block where the summaries say that none does.
 #[inline]
@@ -121,7 +120,7 @@ fn change_by<B: BitBlock, O: Operation>(
     match first_change::<B, O, &[B]>(blocks, others) {
         None => false,
         Some(start) => {
-            merge_from::<B, O, &[B]>(blocks, others, start, &mut Steps::new());
+            merge_from::<B, O, &[B]>(blocks, others, start);
             true
         }
     }
@@ -201,7 +200,7 @@ pub(crate) fn unite_common<B: BitBlock>(
         let Some(start) = first_change::<B, Union, Common<B>>(blocks, common) else {
             return false;
         };
-        merge_from::<B, Union, Common<B>>(blocks, common, start, &mut Steps::new());
+        merge_from::<B, Union, Common<B>>(blocks, common, start);
         return true;
     }
     change_long::<B, Union, Common<B>>(blocks, summary, common)

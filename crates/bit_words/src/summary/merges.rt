@@ -17,7 +17,6 @@ use bit_blocks::packed::access::{block_at, block_count, block_index, put_in};
 use bit_blocks::packed::block_merges::{merge_between, merge_block, merge_from};
 use bit_blocks::packed::groups::LONG_GROUP;
 use bit_blocks::packed::others::Others;
-use bit_blocks::steps::Steps;
 
 pub(crate) mod in_chunk;
 pub(crate) mod touched;
@@ -41,7 +40,7 @@ fn merge_group<B: BitBlock, O: Operation, S: Others<B>>(
 {
     let mut digits = B::zero();
     for j in 0..count {
-        let merged = merge_block::<B, O, S>(blocks, others, start + j, &mut Steps::new());
+        let merged = merge_block::<B, O, S>(blocks, others, start + j);
         digits = with_one_if(digits, j, is_nonzero(merged));
     }
     digits
@@ -115,7 +114,7 @@ fn unite_whole<B: BitBlock, O: Operation, S: Summarized<B>>(
         → is_one (B.number result) p ≡ is_used (map B.number blocks.new) (q * B.width + p) }
 {
     let start = q * B::bits();
-    merge_between::<B, O, S>(blocks, others, start, start + B::bits(), &mut Steps::new());
+    merge_between::<B, O, S>(blocks, others, start, start + B::bits());
     let other = others.used_at(q);
     let taken = Difference::of_blocks(other, own);
     if is_nonzero(Intersection::of_blocks(taken, others.unsure_at(q))) {
@@ -389,8 +388,8 @@ fn unite_long<B: BitBlock, O: Operation>(
         (other_at (map B.number others.now)) blocks.old blocks.new }
     ensures summary { IsSummary B.width B.number B.is_block blocks.new summary.new }
 {
-    merge_from::<B, O, &[B]>(blocks, others, start, &mut Steps::new());
-    merge_from::<B, O, &[B]>(summary, other_summary, 0, &mut Steps::new());
+    merge_from::<B, O, &[B]>(blocks, others, start);
+    merge_from::<B, O, &[B]>(summary, other_summary, 0);
 }
 
 // The merge of a long list, whose blocks before `start` stay. It is a call of its own, so that a short list saves no registers
@@ -433,7 +432,6 @@ fn merge_by<B: BitBlock, O: Operation>(
     summary: &mut [B],
     others: &[B],
     other_summary: &[B],
-    steps: &mut Steps,
 )
     requires can { CanMerge B.is_block blocks.old (length others.now) (All B.is_block others.now) }
     requires summary { IsStoredSummary B.width B.number B.is_block blocks.old summary.old }
@@ -442,11 +440,9 @@ fn merge_by<B: BitBlock, O: Operation>(
         (other_at (map B.number others.now)) blocks.old blocks.new }
     ensures summary { IsStoredSummary B.width B.number B.is_block blocks.new summary.new }
     ensures summary_len { length summary.new ≡ length summary.old }
-    ensures steps { steps.new ≡ steps.old + length blocks.old }
 {
-    steps.tick_by(blocks.len());
     if is_short::<B>(blocks.len()) {
-        merge_from::<B, O, &[B]>(blocks, others, 0, &mut Steps::new());
+        merge_from::<B, O, &[B]>(blocks, others, 0);
     } else {
         merge_stored::<B, O>(blocks, summary, others, other_summary, 0);
     }
@@ -460,7 +456,6 @@ pub(crate) fn merge_named<B: BitBlock>(
     others: &[B],
     other_summary: &[B],
     merge: Merge,
-    steps: &mut Steps,
 )
     requires can { CanMerge B.is_block blocks.old (length others.now) (All B.is_block others.now) }
     requires summary { IsStoredSummary B.width B.number B.is_block blocks.old summary.old }
@@ -469,18 +464,13 @@ pub(crate) fn merge_named<B: BitBlock>(
         (other_at (map B.number others.now)) blocks.old blocks.new }
     ensures summary { IsStoredSummary B.width B.number B.is_block blocks.new summary.new }
     ensures summary_len { length summary.new ≡ length summary.old }
-    ensures steps { steps.new ≡ steps.old + length blocks.old }
 {
     match merge {
-        Merge::Union => merge_by::<B, Union>(blocks, summary, others, other_summary, steps),
+        Merge::Union => merge_by::<B, Union>(blocks, summary, others, other_summary),
         Merge::Intersection => {
-            merge_by::<B, Intersection>(blocks, summary, others, other_summary, steps)
+            merge_by::<B, Intersection>(blocks, summary, others, other_summary)
         }
-        Merge::Difference => {
-            merge_by::<B, Difference>(blocks, summary, others, other_summary, steps)
-        }
-        Merge::Symmetric => {
-            merge_by::<B, Symmetric>(blocks, summary, others, other_summary, steps)
-        }
+        Merge::Difference => { merge_by::<B, Difference>(blocks, summary, others, other_summary) }
+        Merge::Symmetric => { merge_by::<B, Symmetric>(blocks, summary, others, other_summary) }
     }
 }

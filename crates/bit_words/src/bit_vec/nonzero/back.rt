@@ -103,7 +103,9 @@ impl<'a, B: BitBlock> Nonzero<'a, B> {
         pending.keep_before(end);
         let mut steps = Steps::new();
         steps.tick();
-        steps.tick_by(usize::from(is_nonzero(block)));
+        if is_nonzero(block) {
+            steps.tick();
+        }
         let walk = Nonzero {
             blocks,
             pending,

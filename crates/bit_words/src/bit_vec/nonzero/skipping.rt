@@ -1,11 +1,14 @@
 // The walk over the blocks that are not 0, past many of them at once.
-ghost use Rattle.std.specs.Prelude.{◌≡◌, ◌<◌, ◌≤◌, ◌^◌, IfSome, None};
+ghost use Rattle.std.specs.{Prelude.{◌≡◌, ◌+◌, ◌<◌, ◌≤◌, ◌^◌, All, IfSome, None, min}, List.sum_by};
+ghost use Rattle.bit_blocks.specs.Storage.{ones_in};
 ghost use Rattle.bit_words.specs.Nonzero.{ones_left, SkipsBlocks};
 
 use crate::bit_vec::Nonzero;
+use crate::summary::is_nonzero;
 use crate::summary::queries::first_blocks;
 use bit_blocks::block::BitBlock;
-use bit_blocks::packed::ones::ones_of;
+use bit_blocks::packed::groups::{GROUP, group_from};
+use bit_blocks::steps::Steps;
 
 impl<'a, B: BitBlock> Nonzero<'a, B> {
     /// Passes over blocks at the front, as many as it likes, whose ones are no more than `most`, and returns how many
@@ -41,17 +44,52 @@ impl<'a, B: BitBlock> Nonzero<'a, B> {
         ensures some { IfSome result (λ ones. (ones ≤ most) × SkipsBlocks B.number self.old ones self.new
             × (self.new.summary_left < self.old.summary_left)) }
     {
-        let used = self.pending.next_chunk()?.count_ones();
-        if used <= B::bits() / 16 {
+        let used = self.pending.next_chunk()?;
+        if used.count_ones() <= B::bits() / 16 {
             return None;
         }
         let start = self.pending.index + B::bits();
-        let ones = ones_of(first_blocks(self.blocks.split_at(start).1).0);
+        let mut steps = self.steps.clone();
+        let ones = pull_chunk(first_blocks(self.blocks.split_at(start).1).0, &mut steps);
         if ones > most {
             return None;
         }
         self.pending.pass_chunk();
-        self.steps.tick_by(used);
+        self.steps = steps;
         Some(ones)
     }
+}
+
+// How many ones the blocks have, each of which is read, most of them a group at a time. One that is not zero is a pull.
+#[inline]
+fn pull_chunk<B: BitBlock>(blocks: &[B], steps: &mut Steps) -> usize
+    requires each { All B.is_block blocks.now }
+    requires fits { ones_in B.number blocks.now < 2 ^ 64 }
+    ensures ones { result ≡ ones_in B.number blocks.now }
+    ensures steps { steps.new ≡ steps.old + sum_by (λ block. min 1 (B.number block)) blocks.now }
+{
+    let groups = blocks.len() / GROUP;
+    let mut ones = 0;
+    for group in 0..groups {
+        ones = pull_ones(ones, group_from(blocks, group * GROUP), steps);
+    }
+    pull_ones(ones, blocks.split_at(groups * GROUP).1, steps)
+}
+
+// A number, and the ones of each block.
+#[inline]
+fn pull_ones<B: BitBlock>(before: usize, blocks: &[B], steps: &mut Steps) -> usize
+    requires each { All B.is_block blocks.now }
+    requires fits { before + ones_in B.number blocks.now < 2 ^ 64 }
+    ensures ones { result ≡ before + ones_in B.number blocks.now }
+    ensures steps { steps.new ≡ steps.old + sum_by (λ block. min 1 (B.number block)) blocks.now }
+{
+    let mut ones = before;
+    for block in blocks {
+        ones += block.count_ones();
+        if is_nonzero(*block) {
+            steps.tick();
+        }
+    }
+    ones
 }

@@ -3,7 +3,7 @@ use Rattle.bit_blocks.{specs.Digits.is_one, proofs.{Masks.is_one-zero, BlockMerg
 use Rattle.bit_blocks.proofs.packed.block_merges.merge_rest.Goals as goal
 
 pub loop-k-init : goal.loop-k-init
-loop-k-init g c = record { has = merged_none _ _ _ _ _ _ _ _ c.requires.each (omega arith); steps = omega arith }
+loop-k-init g c = merged_none _ _ _ _ _ _ _ _ c.requires.each (omega arith)
 
 pub loop-k-preserved : goal.loop-k-preserved
 loop-k-preserved g c =
@@ -12,12 +12,9 @@ loop-k-preserved g c =
     (omega arith) c.put_in.ensures.numbers c.put_in.ensures.each c.put_in.ensures.len c.block_at.ensures.of_number
     c.of_blocks-merged.ensures.digits in
     let one = merged_same _ _ _ _ k (k + 1) _ (λ q j. false) _ _ (λ q j from below index. ap (λ n. is_one n j) c.zero-zero.ensures.of_number ∙ is_one-zero j) put in
-    record {
-      has = merged_more _ _ _ _ c.args.start k (k + 1) _ _ _ _ _ _ c.loop-k.auto.k (omega arith) refl refl c.loop-k.invariant.has one;
-      steps = omega arith;
-    }
+    merged_more _ _ _ _ c.args.start k (k + 1) _ _ _ _ _ _ c.loop-k.auto.k (omega arith) refl refl c.loop-k.invariant one
 
-pub returns-clause-has : goal.returns-clause-has
-returns-clause-has g c =
+pub returns : goal.returns
+returns g c =
     let end : c.loop-k.k ≡ length c.args.blocks.now = omega arith in
-    rw end at c.loop-k.invariant.has
+    record { has = rw end at c.loop-k.invariant }

@@ -1,53 +1,22 @@
-use Rattle.std.proofs.{Common.{◌≡◌, ℕ, ◌+◌, ◌<◌, List, get_or, sym, ◌∙◌, arith}, lemmas.Bool.{false≢true, eqb-true}}
-use Rattle.bit_blocks.specs.{BlockMerges.MergesToZero, Digits.is_one, Merges.merge_of_values}
-use Rattle.bit_blocks.specs.declared.block.merge.Merge.{Merge}
-use Rattle.bit_blocks.proofs.CompareLemmas.{digit_from_zero, mismatch_zero, merge_of_zeros, first_is_here}
-use Rattle.bit_blocks.proofs.CompareLemmas.{first_is_past}
+use Rattle.std.proofs.{Common.{◌≡◌, sym, refl, ◌∙◌, arith}, lemmas.Bool.{false≢true, eqb-true}}
+use Rattle.bit_blocks.proofs.CompareLemmas.{mismatch_zero, merge_of_zeros, zeros_more}
 use Rattle.bit_blocks.proofs.packed.inclusion.first_merge_to_zero.Goals as goal
 
--- one block more merges to 0
-zeros_more : (m : Merge) (w : ℕ) (ms os : List ℕ) (k a b n : ℕ) → MergesToZero m w ms os k → a ≡ get_or ms k 0
-    → b ≡ get_or os k 0 → ((j : ℕ) → j < w → is_one n j ≡ merge_of_values m (is_one a j) (is_one b j)) → n ≡ 0
-    → MergesToZero m w ms os (k + 1)
-zeros_more m w ms os k a b n zeros first second digits none = record { digit = λ q j below index. grind (arith, zeros.digit q j, digits j index, digit_from_zero n j none) }
-
 pub loop-k-preserved : goal.loop-k-preserved
-loop-k-preserved g c = record {
-  zero = zeros_more _ _ _ _ c.loop-k.k _ _ _ c.loop-k.invariant.zero c.block_at.ensures.of_number c.block_at-in-loop-k.ensures.of_number c.of_blocks-merged.ensures.digits
-      (eqb-true _ _ (sym c.same.ensures ∙ c.if-not-same.false) ∙ c.zero.ensures.of_number);
-  steps = omega arith;
-}
+loop-k-preserved g c =
+    zeros_more _ _ _ _ c.loop-k.k _ _ _ c.loop-k.invariant c.block_at.ensures.of_number c.block_at-in-loop-k.ensures.of_number c.of_blocks-merged.ensures.digits
+    (eqb-true _ _ (sym c.same.ensures ∙ c.if-not-same.false) ∙ c.zero.ensures.of_number)
 
 pub returns-then-not-same : goal.returns-then-not-same
 returns-then-not-same g c =
     let small = (g.met.B.BitBlock.number_law _ c.of_blocks-merged.ensures.of_block).0 in
-    let some = mismatch_zero _ _ c.same.result c.same.ensures c.if-not-same.true c.zero.ensures.of_number in
-    record {
-      zero = (
-        λ yes. absurd (false≢true yes),
-        λ zeros. absurd (some (merge_of_zeros _ _ _ _ _ c.loop-k.k _ _ _ small c.block_at.ensures.of_number
-            c.block_at-in-loop-k.ensures.of_number c.of_blocks-merged.ensures.digits c.loop-k-test.true zeros)),
-      );
-      steps = record {
-        stops = λ i first.
-            let here = first_is_here _ _ _ _ c.loop-k.k _ _ _ i g.met.B.BitBlock.width_law.positive small
-            c.block_at.ensures.of_number c.block_at-in-loop-k.ensures.of_number c.of_blocks-merged.ensures.digits some
-            c.loop-k.invariant.zero first.0 in
-            omega (arith, here);
-        fewest = omega arith;
-        at_most = omega arith;
-        all = λ yes. absurd (false≢true yes);
-      };
-    }
+    let some = mismatch_zero _ _ c.same.result c.same.ensures c.if-not-same.true c.zero.ensures.of_number in (
+      λ yes. absurd (false≢true yes),
+      λ zeros. absurd (some (merge_of_zeros _ _ _ _ _ c.loop-k.k _ _ _ small c.block_at.ensures.of_number
+          c.block_at-in-loop-k.ensures.of_number c.of_blocks-merged.ensures.digits c.loop-k-test.true zeros)),
+    )
 
-pub returns-clause-steps : goal.returns-clause-steps
-returns-clause-steps g c =
+pub returns : goal.returns
+returns g c =
     let end : c.loop-k.k ≡ c.args.count = omega arith in
-    record {
-      stops = λ i first.
-          let past = first_is_past _ _ _ _ _ i g.met.B.BitBlock.width_law.positive c.loop-k.invariant.zero first.0 in
-          absurd (omega (arith, past, end, first.1));
-      fewest = omega arith;
-      at_most = omega (arith, end);
-      all = λ _. omega (arith, end);
-    }
+    (λ _. rw end at c.loop-k.invariant, λ _. refl)

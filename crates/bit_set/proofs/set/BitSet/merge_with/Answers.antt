@@ -5,13 +5,13 @@ use Rattle.bit_set.proofs.set.BitSet.merge_with.Goals as goal
 pub returns-clause-elements : goal.returns-clause-elements
 returns-clause-elements g c =
     let values = c.args.self.now.values in
-    rw (c.merge_blocks.ensures.values, c.self.view_is, c.in_ok-lengthen.ensures.ok, c.other.view_is)
+    rw (c.merge.ensures.values, c.self.view_is, c.in_ok-lengthen.ensures.ok, c.other.view_is)
     (elements-lengthened c.args.merge values c.args.other.now.values (c.len.result - length values))
 
 pub returns-clause-length : goal.returns-clause-length
 returns-clause-length g c =
     rw (
-      c.merge_blocks.ensures.values,
+      c.merge.ensures.values,
       c.self.view_is,
       c.in_ok-lengthen.ensures.ok,
       c.len.ensures.value,
@@ -19,4 +19,4 @@ returns-clause-length g c =
     ) (length-lengthened c.args.merge c.args.self.now.values c.args.other.now.values)
 
 pub returns-clause-members : goal.returns-clause-members
-returns-clause-members g c = members_merged c.args.merge (elements c.args.self.now.values) (elements c.args.other.now.values) (elements c.merge_blocks.new.self.values) (returns-clause-elements g c)
+returns-clause-members g c = members_merged c.args.merge (elements c.args.self.now.values) (elements c.args.other.now.values) (elements c.merge.new.self.values) (returns-clause-elements g c)

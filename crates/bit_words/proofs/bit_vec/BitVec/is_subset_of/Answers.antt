@@ -1,33 +1,23 @@
 use Rattle.std.proofs.Common.{◌↔◌, IsTrue, map, arith}
 use Rattle.bit_blocks.{specs.{declared.block.merge.Merge.TheVariants.Difference, BlockMerges.MergesToFalse}, proofs.{CompareLemmas.{first_of_lists, subset_lists}, VectorLemmas.length_from_view}}
-use Rattle.bit_words.proofs.MergedOnesLemmas.{merged_fits}
 use Rattle.bit_words.proofs.bit_vec.BitVec.is_subset_of.Goals as goal
 
 pub returns : goal.returns
 returns g c =
     let f = g.B.BitBlock.number in
-    let zero : IsTrue c.difference_by_summaries.result ↔ MergesToFalse Difference g.B.BitBlock.width (map f c.self.inside.blocks.items)
-    (map f c.other.inside.blocks.items) = rw (c.deref.ensures.value, c.deref-3.ensures.value) at c.difference_by_summaries.ensures.zero in
+    let zero : IsTrue c.difference_is_zero_counted.result ↔ MergesToFalse Difference g.B.BitBlock.width (map f c.self.inside.blocks.items)
+    (map f c.other.inside.blocks.items) = rw (c.deref.ensures.value, c.deref-2.ensures.value) at c.difference_is_zero_counted.ensures.zero in
     let both = subset_lists _ _ _ _ _ _ _ _ _ c.self.view_is c.other.view_is c.self.invariant.packed.tail c.other.invariant.packed.tail in
-    let steps = c.difference_by_summaries.ensures.steps in
+    let steps = c.difference_is_zero_counted.ensures.steps in
     record {
       subset = (λ yes. both.0 (zero.0 yes), λ each. zero.1 (both.1 each));
       stops = λ i first.
-          let stop = rw (c.deref.ensures.value, c.deref-3.ensures.value) at steps.stops i in
+          let stop = rw (c.deref.ensures.value, c.deref-2.ensures.value) at steps.stops i in
           stop (first_of_lists _ _ _ _ _ _ _ _ _ _ c.self.view_is c.other.view_is c.self.invariant.packed.tail c.other.invariant.packed.tail i first);
       fewest = steps.fewest;
       most = rw (length_from_view _ _ _ _ _ c.self.view_is) (omega (arith, steps.at_most));
       all = λ yes. let exact = steps.all yes in rw (length_from_view _ _ _ _ _ c.self.view_is) (omega (arith, exact));
     }
 
-pub difference_by_summaries-requires : goal.difference_by_summaries-requires
-difference_by_summaries-requires g c =
-    rw (c.deref.ensures.value, c.deref-2.ensures.value, c.deref-3.ensures.value, c.deref-4.ensures.value) (record {
-      each = c.self.invariant.packed.each;
-      others = c.other.invariant.packed.each;
-      summary = c.self.invariant.summary;
-      other_summary = c.other.invariant.summary;
-      fits = λ n. merged_fits Difference g.B.BitBlock.width _ _ _ _ n _ _ _ _ g.met.B.BitBlock.width_law.positive
-          c.self.view_is c.other.view_is c.self.invariant.packed.tail c.other.invariant.packed.tail
-          c.self.invariant.packed.fits c.other.invariant.packed.fits;
-    })
+pub difference_is_zero_counted-requires : goal.difference_is_zero_counted-requires
+difference_is_zero_counted-requires g c = rw (c.deref.ensures.value, c.deref-2.ensures.value) (record { each = c.self.invariant.packed.each; others = c.other.invariant.packed.each })

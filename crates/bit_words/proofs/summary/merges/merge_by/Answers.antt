@@ -6,9 +6,3 @@ pub returns-then-is_short-clause-summary : goal.returns-then-is_short-clause-sum
 returns-then-is_short-clause-summary g c =
     let few = c.is_short.ensures.short c.if-is_short.true in
     keeps_none _ _ _ _ _ (omega (arith, few, c.merge_from.ensures.has.len)) (c.requires.summary.short few)
-
-pub returns-then-is_short-clause-steps : goal.returns-then-is_short-clause-steps
-returns-then-is_short-clause-steps g c = omega (arith, c.tick_by.ensures)
-
-pub returns-else-is_short-clause-steps : goal.returns-else-is_short-clause-steps
-returns-else-is_short-clause-steps g c = omega (arith, c.tick_by.ensures)

@@ -1,15 +1,10 @@
-use Rattle.std.proofs.Common.{◌≡◌, ℕ, ◌+◌, ◌-◌, ◌/◌, ◌<◌, ◌++◌, All, not, ◌==◌, Bool, true, false, drop, length, min, take_all, refl, sym, ap, ap₂, subst, ◌∙◌, arith}
+use Rattle.std.proofs.Common.{◌≡◌, ◌+◌, ◌-◌, ◌/◌, ◌<◌, ◌++◌, All, drop, length, min, take_all, refl, sym, ap, ap₂, subst, ◌∙◌, arith}
 use Rattle.std.proofs.lemmas.{Bool.Decides.nat_tests, List.Elements.All-get_or, Option.{get_or_from_slice_get, slice_get_within}}
 use Rattle.bit_blocks.{specs.Bits.blocks_for, proofs.{BitsLemmas.blocks_for-le, UseLemmas.packed_blocks, VectorLemmas.length_from_view}}
 use Rattle.bit_words.specs.{Nonzero.nonzero_from, Pending.{left_from, next_at}}
 use Rattle.bit_words.proofs.{CutLemmas.{IsSplitAt, split-with, split-without}, GrowthLemmas.stored_within_capacity, LastLemmas.{IsPending-cut_at, left-cut_at}, PendingLemmas.summary_left-cut}
-use Rattle.bit_words.proofs.bit_vec.nonzero.Nonzero.between.Goals.{After-keep_before, then-may_have, else-may_have}
+use Rattle.bit_words.proofs.bit_vec.nonzero.Nonzero.between.Goals.{After-keep_before, then-may_have, else-may_have, then-is_nonzero, else-is_nonzero}
 use Rattle.bit_words.proofs.bit_vec.nonzero.Nonzero.between.Goals as goal
-use mir.Val.{bool_byte}
-
-one_if_some : (b : Bool) (m : ℕ) → b ≡ not (m == 0) → bool_byte b ≡ min 1 m
-one_if_some true m is = grind (arith, nat_tests, is)
-one_if_some false m is = grind (arith, nat_tests, is)
 
 -- what is left before the last block, of it and past it
 parts : (g : _) (c : After-keep_before g)
@@ -101,8 +96,10 @@ returns-clause-cut g c =
       entry = split.entry;
       digit = c.clear_from-block.ensures.digits;
       same = refl;
-      counted = let one = one_if_some c.is_nonzero.result
-          (number c.clear_from-block.result) c.is_nonzero.ensures in omega (arith, c.tick_by.ensures, c.tick.ensures, c.new-steps.ensures, c.from.ensures, one);
+      counted = elim c.if-is_nonzero.branch [
+        | then-is_nonzero b ↦ rw b.steps-is (grind (arith, nat_tests, c.is_nonzero.ensures, b.if-is_nonzero.true, b.tick-then-is_nonzero.ensures, c.tick.ensures, c.new-steps.ensures))
+        | else-is_nonzero b ↦ rw b.steps-is (grind (arith, nat_tests, c.is_nonzero.ensures, b.if-is_nonzero.false, c.tick.ensures, c.new-steps.ensures))
+      ];
       summary = c.keep_before.ensures.pulls ∙ made.pulls;
       summary_left = omega (arith, most, before);
     }

@@ -1,0 +1,9 @@
+use Rattle.std.proofs.Common.{◌≡◌, ◌+◌, map}
+use Rattle.bit_blocks.specs.BlockMerges.{MergesToZero}
+use Rattle.bit_blocks.proofs.packed.counted.first_merge_to_zero.Given as goal
+
+abbrev pub invariant-loop-k : goal.invariant-loop-k
+invariant-loop-k g l = record {
+  zero : MergesToZero g.O.Operation.merge g.B.BitBlock.width (map g.B.BitBlock.number l.blocks) (map g.B.BitBlock.number l.others) l.k;
+  steps : l.steps ≡ l.fn.steps + l.k;
+}
