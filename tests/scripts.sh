@@ -91,7 +91,11 @@ is_empty() { [ -z "$(ls -A "$1")" ]; }
 
 # How often a stand-in was called with what begins so.
 calls() { grep -c "^[a-z]* [0-9]* $1" "$STAND_INS/calls"; }
-is_called() { [ "$(calls "$1")" -ge 1 ]; }
+is_called() {
+    local all
+    IFS= read -r -d '' all < "$STAND_INS/calls" || true
+    [[ $'\n'"$all" =~ $'\n'[a-z]*\ [0-9]*\ ${1/%\$/$'\n'} ]]
+}
 
 forget_calls() { : > "$STAND_INS/calls"; }
 take_seconds() { echo "$1" > "$STAND_INS/seconds"; }
@@ -170,12 +174,11 @@ ended_by_signal() {
     take_seconds 0.1
 }
 
-# Runs all parts, those of a line one after another and the lines side by side, and counts what each says.
+# Runs all parts side by side, the longest first, and counts what each says.
 run_all() {
-    local line at status begun=() lines=(bitset 'waiting environment' signals c_build others release 'usage callers' packages)
-    for line in "${lines[@]}"; do
-        # shellcheck disable=SC2086  # each word is one
-        start_group "$here/scripts.sh" $line < /dev/null > "$room/${#begun[@]}" 2>&1
+    local at status begun=() parts=(c_build bitset usage states waiting environment signals long_tests release gate packages callers others)
+    for at in "${!parts[@]}"; do
+        start_group "$here/scripts.sh" "${parts[at]}" < /dev/null > "$room/$at" 2>&1
         begun+=("$!")
     done
     for at in "${!begun[@]}"; do
@@ -187,7 +190,7 @@ run_all() {
             sed '$d' "$room/$at"
         else
             cat "$room/$at"
-            expect "the tests of ${lines[at]} end with $status" false
+            expect "the tests of ${parts[at]} end with $status" false
         fi
     done
 }

@@ -18,13 +18,15 @@ stops=0
 # Between these two a signal waits, so that what is begun there is on a list when it is heeded.
 hold_signals() { is_held=yes; }
 heed_signals() {
-    local signal="$waiting"
+    # First, so that what comes from here on is heeded at once.
     is_held=''
-    waiting=''
-    case "$signal" in
+    case "$waiting" in
         '') ;;
-        TSTP) stop_all ;;
-        *) end_by "$signal" ;;
+        TSTP)
+            waiting=''
+            stop_all
+            ;;
+        *) end_by "$waiting" ;;
     esac
 }
 

@@ -75,10 +75,13 @@ find_parts() {
     done
 }
 
-# A checksum of a file, or of all files in a folder.
-sum_of() {
-    (cd "${1%/*}" && find "${1##*/}" -type f -print0 | LC_ALL=C sort -z | xargs -0 -r sha256sum | sha256sum)
+# The checksums of a file, or of all files in a folder.
+list_sums() {
+    (cd "${1%/*}" && find "${1##*/}" -type f -print0 | LC_ALL=C sort -z | xargs -0 -r sha256sum)
 }
+
+# One of all these.
+sum_of() { list_sums "$1" | sha256sum; }
 
 # What is built of a crate.
 file_of() {
@@ -94,9 +97,8 @@ made_of() {
     {
         declare -f compile source_of
         echo "$toolchain" "${named[$1]}"
-        sum_of "$room/copy/tools/needed"
-        sum_of "$room/copy/tools/left_out.txt"
-        sum_of "$room/copy/crates/$1"
+        cat "$room/copy/tools"/{needed,left_out.txt}
+        list_sums "$room/copy/crates/$1"
         for library in ${below[$1]}; do
             echo "$library ${sums[$library]}"
         done

@@ -1,8 +1,6 @@
-# `c/build`, and tests that take long, which are ended by signals. To be sourced by tests/scripts.sh.
+# What `c/build` builds, and what it leaves. To be sourced by tests/scripts.sh.
 # shellcheck shell=bash disable=SC2154
-set_up_repository
 set_up_library
-set_up_waiting
 expect 'c/build fails' "$library/c/build" "$room/built"
 for file in libbit_set.a libbit_set.so bit_set.h bit_set32.h bit_set.pc; do
     expect "c/build makes no $file" [ -s "$room/built/$file" ]
@@ -20,8 +18,10 @@ done
 mkdir "$room/who's"
 expect 'c/build fails where the path of its temporary files has a quote' env TMPDIR="$room/who's" "$library/c/build" "$room/built"
 expect 'c/build leaves temporary files' is_empty "$TMPDIR"
-for signal in HUP INT QUIT TERM; do
+for signal in HUP INT; do
     ended_by_signal c/build "$signal" 'bit_set_c$' "$library/c/build" "$room/built"
+done
+for signal in QUIT TERM; do
     ended_by_signal 'c/build --proved' "$signal" 'bit_set_c$' "$library/c/build" "$room/built" --proved
 done
 
@@ -100,40 +100,6 @@ if mount_disk noexec "$room/no_programs" 'c/build with temporary files on a disk
     expect 'c/build leaves something on a disk with no programs' is_empty "$room/no_programs"
     umount "$room/no_programs"
 fi
-
-# The tests of edits, over libraries that are only named here.
-cp -r "$top"/tests/{edits,{edits,gate_edits}.txt,{edits,copies}.py,edits.sh} "$library/tests"
-for name in $(sed -n 's/^\([a-z_]*\):.*/\1/p' "$library/crates.txt"); do
-    mkdir -p "$library/crates/$name/out/rlib/$name.rlib"
-done
-for signal in HUP INT QUIT TERM; do
-    ended_by_signal tests/edits.sh "$signal" 'bit_set_c$' "$library/tests/edits.sh" bit_set_c
-done
-# What stands for the prover proves no crate.
-cp "$top"/tests/cost.{sh,py} "$library/tests"
-ended=0
-"$library/tests/cost.sh" bit_set_c > "$room/wrote" 2> "$room/said" < /dev/null || ended=$?
-expect "tests/cost.sh of what is not proved ends with $ended: $(cat "$room/said")" ends_with 1
-expect 'tests/cost.sh does not say what is not proved' grep -q '^bit_set_c .* NOT PROVED$' "$room/wrote"
-find "$library/crates" -mindepth 1 -maxdepth 1 ! -name bit_set_c -exec rm -r {} +
-
-# Tests that take long, over what only begins: the library for C, an edit that is compiled, the program's sources, and a
-# program that stands for those that are tried, and for what tries them.
-cp -r "$top"/tests/{{c,misuse}.sh,shim.c,c_surface.py} "$library/tests"
-mkdir "$library/tests/misuse" "$repository/tests"
-cp "$top/tests/first_run.sh" "$repository/tests"
-echo 'a text' > "$library/crates/bit_set_c/src/text.rt"
-printf '%s\n' 'crate: bit_set_c' 'file: src/text.rt' 'old: a text' 'new: another' 'says: none' > "$library/tests/misuse/a.edit"
-for signal in INT TERM; do
-    ended_by_signal tests/c.sh "$signal" 'bit_set_c$' "$library/tests/c.sh"
-    ended_by_signal tests/misuse.sh "$signal" try "$library/tests/misuse.sh"
-    ended_by_signal tests/first_run.sh "$signal" 'bitset$' "$repository/tests/first_run.sh"
-    ended_by_signal tests/program.sh "$signal" waits "$top/tests/program.sh" "$waits"
-    ended_by_signal tests/refusals.sh "$signal" waits "$top/tests/refusals.sh" "$waits" "$waits" "$waits"
-    ended_by_signal tests/scaling.sh "$signal" waits env PATH="$room/waiting:$PATH" "$top/tests/scaling.sh" "$waits"
-    ended_by_signal tests/add.sh "$signal" waits env PATH="$room/waiting:$PATH" "$top/tests/add.sh"
-done
-rm -r "$library/tests/misuse" "$library/crates/bit_set_c/src/text.rt"
 
 # Two runs for one folder: the second waits.
 take_seconds 1

@@ -1,7 +1,7 @@
 # What `./bitset` takes for another toolchain, and what it makes of whatever else it is run in. To be sourced by
-# tests/scripts.sh, after waiting.sh.
+# tests/scripts.sh.
 # shellcheck shell=bash disable=SC2154
-take_seconds 0.1
+set_up_repository
 mark low 50
 expect_marks 'before another toolchain' 50 1 1
 

@@ -156,6 +156,10 @@ make_older() {
 from="$room/from"
 mkdir -p "$from" "$room/theirs/crates"
 (cd "$top" && tar cf - --exclude=out add crates.txt tools LICENSE-* crates/bit_{blocks,words,set,matrix}) | tar xf - -C "$from"
+# A few files of each say as much as all.
+find "$from/crates" -type f ! -iname 'lib.*' ! -name '*.md' ! -name bit_vec.rt -delete
+find "$from/crates" -mindepth 3 -type d -empty -delete
+mkdir -p "$from/crates"/bit_{blocks,words,set,matrix}/{src,specs,proofs}
 cd "$room/theirs" || exit 1
 git init -q .
 mkdir -p crates/.add.Ab12Cd/src crates/.add.mine
@@ -270,7 +274,7 @@ for words in add.sh c.sh misuse.sh first_run.sh "program.sh $waits" "refusals.sh
     # shellcheck disable=SC2086  # a script and its words
     PATH="$room/no_temporary:$PATH" timeout 20 "$top/tests/"$words > "$room/wrote" 2> "$room/said" < /dev/null || ended=$?
     expect "tests/$words goes on without a temporary folder" grep -qx '[12]' <<< "$ended"
-    expect "tests/$words works at the root of the file system: $(cat "$room/works")" [ ! -e "$room/works" ]
+    expect "tests/$words works at the root of the file system" [ ! -e "$room/works" ]
 done
 # A pipe ends as its last command does, whatever the program ended with that wrote into it.
 expect 'a test of a release loses how a program ends' not grep -rqE '[^|][|] cmp ' "$top/tests/release"
