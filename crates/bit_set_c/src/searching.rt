@@ -76,7 +76,8 @@ pub extern "C" fn bit_set_next_missing(set: &mut Shared, from: usize) -> usize
     set.get().next_missing(from)
 }
 
-/// The member at or above `from` with `n` others between, or `usize::MAX` if there is none.
+/// The member at or above `from` that exactly `n` other members at or above `from` precede, or `usize::MAX` if
+/// there is none.
 #[unsafe(no_mangle)]
 pub extern "C" fn bit_set_nth(set: &mut Shared, from: usize, n: usize) -> usize
     requires here { IsAt set.ref_ptr set.old.at }
