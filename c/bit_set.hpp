@@ -1,7 +1,7 @@
-// Sets of whole numbers and matrices of bits for C++17, over bit_set.h: classes that own their set or matrix and give it
-// back. A call that finds no memory throws std::bad_alloc, and one that would put SIZE_MAX in throws std::out_of_range;
-// nothing changed then. Where the compiler has no exceptions, both end the process. What has no method here is called as in
-// C, over `get()`.
+// Sets of whole numbers and matrices of bits for C++17, over bit_set.h: classes that own their set or matrix and free it.
+// If memory runs out, a call throws std::bad_alloc, and one that would insert SIZE_MAX throws std::out_of_range; nothing
+// has changed then. If the compiler has no exceptions, both end the process. A call that has no method here is made as in
+// C, with `get()`.
 #ifndef BIT_SET_HPP
 #define BIT_SET_HPP
 
@@ -36,7 +36,7 @@ class BitSet {
             BIT_SET_THROW(std::bad_alloc());
     }
 
-    // Whether the answer of a call that may put a number in is yes.
+    // Whether the result of a call that may insert a number is yes.
     static bool answer(std::int32_t answer) {
         if (answer == BIT_SET_NO_ELEMENT)
             BIT_SET_THROW(std::out_of_range("SIZE_MAX is in no set"));
@@ -45,7 +45,7 @@ class BitSet {
     }
 
 public:
-    // A walk over the members in ascending order. It reads the set at each step, which may be changed meanwhile.
+    // An iterator over the members in ascending order. It reads the set at each step, and the set may be changed meanwhile.
     class const_iterator {
         const bit_set *set_ = nullptr;
         std::size_t member_ = BIT_SET_NONE;
@@ -83,7 +83,7 @@ public:
             insert(*first);
     }
     BitSet(const BitSet &other) { require(bit_set_clone(&set_, other.set_)); }
-    // What was moved from is only to be assigned to or let go.
+    // A moved-from object may only be assigned to or destroyed.
     BitSet(BitSet &&other) noexcept : set_(std::exchange(other.set_, nullptr)) {}
     BitSet &operator=(BitSet other) noexcept {
         std::swap(set_, other.set_);
@@ -113,7 +113,7 @@ public:
     bool is_subset(const BitSet &other) const { return bit_set_is_subset(set_, other.set_); }
     bool is_disjoint(const BitSet &other) const { return bit_set_is_disjoint(set_, other.set_); }
 
-    // A call of two sets must have two: of a set and itself the result is that set, or none.
+    // A call on two sets must have two different ones: for a set and itself the result is that set, or the empty one.
     BitSet &operator|=(const BitSet &other) {
         require(set_ == other.set_ || bit_set_union_with(set_, other.set_));
         return *this;
@@ -147,7 +147,7 @@ public:
     friend bool operator<(const BitSet &a, const BitSet &b) { return bit_set_compare(a.set_, b.set_) < 0; }
 };
 
-// A matrix of bits: rows of columns, each row a set. The numbers of both stay, and to keep below them is the caller's.
+// A matrix of bits: rows of columns, each row a set. The numbers of both are fixed, and the caller must keep below them.
 class BitMatrix {
     bit_matrix *matrix_ = nullptr;
 
@@ -155,10 +155,10 @@ class BitMatrix {
 
 public:
     BitMatrix(std::size_t rows, std::size_t columns) { BitSet::require(bit_matrix_new(&matrix_, rows, columns)); }
-    // So many rows, each with the members of the set; the columns are as many as its length.
+    // A matrix of this many rows, each with the members of the set; it has as many columns as the set's length.
     BitMatrix(const BitSet &row, std::size_t rows) { BitSet::require(bit_matrix_from_set(&matrix_, row.get(), rows)); }
     BitMatrix(const BitMatrix &other) { BitSet::require(bit_matrix_clone(&matrix_, other.matrix_)); }
-    // What was moved from is only to be assigned to or let go.
+    // A moved-from object may only be assigned to or destroyed.
     BitMatrix(BitMatrix &&other) noexcept : matrix_(std::exchange(other.matrix_, nullptr)) {}
     BitMatrix &operator=(BitMatrix other) noexcept {
         std::swap(matrix_, other.matrix_);
@@ -174,14 +174,14 @@ public:
     bool contains(std::size_t row, std::size_t column) const { return bit_matrix_contains(matrix_, row, column); }
     std::size_t count(std::size_t row) const { return bit_matrix_count(matrix_, row); }
 
-    // Each returns whether that changed the row; of two rows the second is written.
+    // Each returns whether that changed the row; of two rows, the second is written.
     bool insert(std::size_t row, std::size_t column) { return bit_matrix_insert(matrix_, row, column); }
     bool erase(std::size_t row, std::size_t column) { return bit_matrix_remove(matrix_, row, column); }
     bool unite_rows(std::size_t read, std::size_t write) { return bit_matrix_union_rows(matrix_, read, write); }
     bool intersect_rows(std::size_t read, std::size_t write) { return bit_matrix_intersect_rows(matrix_, read, write); }
     bool subtract_rows(std::size_t read, std::size_t write) { return bit_matrix_difference_rows(matrix_, read, write); }
 
-    // The columns of a row as a set, and the matrix whose rows are the columns of this.
+    // The columns of a row as a set, and the matrix whose rows are the columns of this one.
     BitSet row(std::size_t row) const {
         bit_set *set = nullptr;
         BitSet::require(bit_matrix_row_to_set(&set, matrix_, row));
@@ -193,8 +193,8 @@ public:
         return BitMatrix(matrix);
     }
 
-    // As a graph, in which an edge leads from a row to each of its columns: each row becomes all that a path of an edge or
-    // more leads to; and the matrix of what lies on every path from `entry` to each row.
+    // As a graph, in which an edge leads from a row to each of its columns: each row becomes everything to which a path of at
+    // least one edge leads; and the matrix of what lies on every path from `entry` to each row.
     void close() { bit_matrix_transitive_closure(matrix_); }
     BitMatrix dominators(std::size_t entry) const {
         bit_matrix *matrix = nullptr;
