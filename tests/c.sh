@@ -1,11 +1,11 @@
 #!/usr/bin/env -S bash -p
-# Builds c/example.c over the library for C by the system's compilers, runs it, and runs it again with one request for
-# memory after another failing; the first over blocks of 32 bits too, and c/example.cc in C++. Holds the calls that make a
-# set to the memory that they may ask for, and makes random calls beside a table. Compares the prototypes of both headers
-# with what the library exports, and the calls of BitSet and BitMatrix with these; and runs the Python module where there is
-# a python3.
-#   tests/c.sh [FOLDER]      over the library that c/build wrote into the folder; where none is given it is built, over
-#                            the libraries as `rt ci` has just proved them here
+# Builds c/example.c over the library for C with the system's compilers, runs it, and runs it again with one request for
+# memory after another failing; it also does the first over blocks of 32 bits, and with c/example.cc in C++. Bounds the
+# memory that the calls that make a set may request, and makes random calls beside a table. Compares the prototypes of both
+# headers with what the library exports, and these with the calls of BitSet and BitMatrix; and runs the Python module if
+# there is a python3.
+#   tests/c.sh [FOLDER]      over the library that c/build wrote into the folder; if none is given it is built, over the
+#                            libraries as `rt ci` has just proved them here
 # The last line is 'N passed, M failed'.
 case $- in *p*) ;; *) exec bash -p "$0" "$@" ;; esac
 set -uo pipefail

@@ -1,8 +1,8 @@
 #!/usr/bin/env -S bash -p
 # Tries each edit of `misuse/` on a copy of the crates' sources: the compiler must reject it, for the one reason that
-# the edit names. Edits that the prover rejects are in `edits/`, and two with a crate; these do not come so far.
-# An edit has one line each of 'crate:', 'file:', 'old:' and 'new:', of which the old text is once in the file, and
-# of 'says:', with which each error that is said begins, behind its place. The last line is 'N passed, M failed'.
+# the edit names. Edits that only the prover rejects are in `edits/`, and two are with a crate.
+# An edit has one line each of 'crate:', 'file:', 'old:', whose text occurs once in the file, 'new:' and 'says:', with
+# which each error begins after its place. The last line is 'N passed, M failed'.
 case $- in *p*) ;; *) exec bash -p "$0" "$@" ;; esac
 set -uo pipefail
 # shellcheck source=tools/start.sh

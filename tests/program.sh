@@ -1,6 +1,6 @@
 #!/usr/bin/env -S bash -p
-# Runs the built program whose path is given as a shell does, and looks at its status, at what it writes and at what
-# it says on standard error: no contract says what `main` does with them. The last line is 'N passed, M failed'.
+# Runs the built program at the given path as a shell does, and checks its status, its output and its standard error: no
+# contract says what `main` does with them. The last line is 'N passed, M failed'.
 case $- in *p*) ;; *) exec bash -p "$0" "$@" ;; esac
 set -uo pipefail
 # shellcheck source=tools/start.sh

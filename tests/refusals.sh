@@ -1,8 +1,8 @@
 #!/usr/bin/env -S bash -p
-# Runs the three built programs whose paths are given, `refusals`, `roaring_refusals` and `bitset`, with `shim.c` before the
-# C library: each call of the first two with one request for memory after another failing, and held to the requests and
-# bytes that its line allows; and the third with that too, and with one read or write after another failing. What `bitset`
-# must write is said here, and not taken from it. The last line is 'N passed, M failed'.
+# Runs the three built programs at the given paths, `refusals`, `roaring_refusals` and `bitset`, with `shim.c` before the C
+# library: each call of the first two with one request for memory after another failing, and bounded by the requests and
+# bytes that its line allows; the third in the same way, and with one read or write after another failing. What `bitset`
+# must write is stated here, and not taken from it. The last line is 'N passed, M failed'.
 case $- in *p*) ;; *) exec bash -p "$0" "$@" ;; esac
 set -uo pipefail
 # shellcheck source=tools/start.sh

@@ -1,11 +1,11 @@
 #!/usr/bin/env -S bash -p
-# Tries what ./release wrote where no toolchain is and no network: in roots of Debian 11, 12 and 13, with musl, and as
-# programs for aarch64 under qemu. It installs the packages, builds the examples, runs the tests of Python and Rust, and
-# makes a million random calls beside a plain table for each processor. It makes the packages again of the source release,
-# and compares their bytes. The roots and the other kinds of system are tried beside each other. It is not a part of the gate.
-#   tests/release.sh FOLDER [ROOTS]      ROOTS keeps the roots, which debootstrap makes where they are not there
-# It is to be run by root, for chroot. What cannot be tried, as for want of a program, it says again in its last lines, of
-# which the very last is 'N passed, M failed'.
+# Tries the output of ./release where there is no toolchain and no network: in roots of Debian 11, 12 and 13, with musl,
+# and as programs for aarch64 under qemu. It installs the packages, builds the examples, runs the tests of Python and Rust, and
+# makes a million random calls beside a plain table for each processor. The roots and the other kinds of system are tried
+# beside each other. It is not a part of the gate.
+#   tests/release.sh FOLDER [ROOTS]      ROOTS keeps the roots, which debootstrap makes if they do not exist
+# It must be run by root, for chroot. It says what it cannot try because a program is missing. The last line is
+# 'N passed, M failed'.
 # shellcheck disable=SC2034,SC2154  # what the parts read and set
 case $- in *p*) ;; *) exec bash -p "$0" "$@" ;; esac
 set -uo pipefail

@@ -1,9 +1,10 @@
 #!/usr/bin/env -S bash -p
 # Counts the instructions of calls at a size n and at 16 n, by the built program `scaling` and valgrind's tool callgrind:
-# of four turns and of two, of which half the difference is a turn. Other work on the machine does not move these counts.
+# those of four turns and of two, half the difference of which is one turn. Other work on the machine does not affect
+# these counts.
 #   tests/scaling.sh PROGRAM          compares each row with its bounds
-#   tests/scaling.sh PROGRAM --show   prints a line for each row too, with what it took
-# Where there is no valgrind, it says so and counts nothing. The last line is 'N passed, M failed'.
+#   tests/scaling.sh PROGRAM --show   also prints a line for each row, with what it took
+# If there is no valgrind, it says so and counts nothing. The last line is 'N passed, M failed'.
 case $- in *p*) ;; *) exec bash -p "$0" "$@" ;; esac
 set -uo pipefail
 # shellcheck source=tools/start.sh

@@ -1,6 +1,6 @@
-# What a script has started ends with it, and what it keeps for itself goes, however it ends but by SIGKILL. To be
-# sourced. Bash heeds a signal between commands and in `wait`: so what takes long is begun by `start_group` and waited
-# for, or run by `run_group`.
+# The processes that a script has started end with it, and its temporary files are removed, however it ends except by
+# SIGKILL. To be sourced. Bash handles a signal between commands and in `wait`, so what takes long is begun by
+# `start_group` and waited for, or run by `run_group`.
 # shellcheck shell=bash
 
 # The groups of processes that were started and may still run, by the number of their first process, which leads each. A

@@ -1,4 +1,4 @@
-# The same on this system without the toolchain, with musl, and for aarch64. To be sourced by tests/release.sh.
+# Tries the release on this system without the toolchain, with musl, and for aarch64. To be sourced by tests/release.sh.
 # shellcheck shell=bash disable=SC2154
 
 try_here() {

@@ -1,4 +1,4 @@
-# What README says to do and has as examples. To be sourced by tests/release.sh.
+# The commands and the examples of README. To be sourced by tests/release.sh.
 # shellcheck shell=bash disable=SC2154
 
 readme="$here/../README.md"

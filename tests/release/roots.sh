@@ -1,4 +1,4 @@
-# Roots of Debian, in which what was released is installed and used. To be sourced by tests/release.sh.
+# Roots of Debian, in which the release is installed and used. To be sourced by tests/release.sh.
 # shellcheck shell=bash disable=SC2016,SC2154
 
 # Makes the root of this name where there is none.

@@ -1,4 +1,4 @@
-# What `./bitset` builds, and when: in a repository of three crates, each of which has a mark that the program then writes.
+# What `./bitset` builds, and when: in a repository of three crates, each with a mark that the program then writes.
 # To be sourced by tests/scripts.sh.
 # shellcheck shell=bash disable=SC2154
 set_up_repository

@@ -1,4 +1,4 @@
-# What packages and headers say to those who build over them, with a source release whose library has a mark alone. To be
+# What packages and headers tell those who build over them, with a source release whose library has only a mark. To be
 # sourced by tests/scripts.sh.
 # shellcheck shell=bash disable=SC2154
 packed="$room/packed_source"

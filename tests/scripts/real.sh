@@ -1,5 +1,5 @@
-# `./bitset` with the real toolchain, in a copy of this repository where a comment of the program's own crate changes. Of the
-# libraries below it what `rt ci` has proved here is taken, in place of a proof, by a run that ends before it proves the
+# `./bitset` with the real toolchain, in a copy of this repository where a comment of the program's own crate changes. For
+# the libraries below it, what `rt ci` has proved here is used in place of a proof, by a run that ends before it proves the
 # program: that costs a minute, and is done once. To be sourced by tests/scripts.sh.
 # shellcheck shell=bash disable=SC2154
 repository="$room/repository"

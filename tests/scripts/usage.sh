@@ -1,4 +1,4 @@
-# What scripts say of how they are called, and what `add` does with what is in its way. To be sourced by tests/scripts.sh.
+# What scripts say about how they are called, and what `add` does if something is in its way. To be sourced by tests/scripts.sh.
 # shellcheck shell=bash disable=SC2154
 set_up_waiting
 

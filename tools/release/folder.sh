@@ -1,5 +1,4 @@
-# The folder that a release is written into, where nothing changes before all is made, and the commit that it is made of.
-# To be sourced by release, with the top of the repository in `here`.
+# The folder that a release is written into, where nothing changes until everything is made. To be sourced by release.
 # shellcheck shell=bash disable=SC2154
 
 # Ends the script unless this is an empty folder, or one that can be made. Its whole path is then in `released`.

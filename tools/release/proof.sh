@@ -1,4 +1,4 @@
-# PROOF.txt: what was proved, and how to see it again. To be sourced by release.
+# PROOF.txt: what was proved, and how to check it again. To be sourced by release.
 # shellcheck shell=bash disable=SC2154
 
 # Writes the file over the verdicts that are kept beside the copies of the crate.

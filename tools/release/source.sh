@@ -1,4 +1,4 @@
-# The source release, of which all the other parts are made. To be sourced by release.
+# The source release, from which all the other parts are made. To be sourced by release.
 # shellcheck shell=bash disable=SC2034,SC2154
 
 # Proves the library for each processor, writes the archive, and leaves its files in $source, unpacked from it.
