@@ -220,6 +220,11 @@ try_unproved() {
     start changed
     touch -d '1 minute' "$from/crates/bit_set/src/lib.rt"
     expect 'add does not say that a file changed after rt lib' says "$lib"
+    expect 'add fails beside a library of an older text' add
+    echo new > "$from/crates/bit_set/out/rlib/stamp"
+    touch -d '2 minutes' "$from/crates/bit_set/out/rlib/stamp"
+    expect 'add fails once the library is proved again' add
+    expect 'add keeps a library of an older text' cmp crates/bit_set/out/rlib/stamp "$from/crates/bit_set/out/rlib/stamp"
     touch -r "$top/crates/bit_set/src/lib.rt" "$from/crates/bit_set/src/lib.rt"
 }
 
