@@ -80,7 +80,8 @@ pub(crate) fn update_summary_bit<B: BitBlock>(
     let _written = write_bit(summary, k, current, used);
 }
 
-// A search of the summary starts at its block `chunk` at the latest, where a bit of a block that this is about became 1.
+// A search of the summary starts at its block `chunk` at the latest, because a bit of a block that this covers
+// became 1.
 #[inline]
 pub(crate) fn follow_one(start: &mut usize, chunk: usize, bit: bool)
     ensures reached { bit ≡ true → start.new ≤ chunk }
@@ -326,7 +327,7 @@ pub(crate) fn summary_of<B: BitBlock>(alloc: Global, blocks: &[B]) -> Result<Vec
     Ok(summary)
 }
 
-// The summary of `blocks`, of which there will be `count`, is made where it is to be stored and is not yet. There is
+// Makes the summary of `blocks`, of which there will be `count`, if it must be stored and is not yet. There is
 // capacity for it.
 #[inline]
 pub(crate) fn store_summary<B: BitBlock>(summary: &mut Vec<B>, blocks: &[B], count: usize)

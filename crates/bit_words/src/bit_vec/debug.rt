@@ -18,7 +18,7 @@ impl<B: BitBlock> fmt::Debug for BitVec<B> {
     }
 }
 
-// The digit of a value, past a space where it begins a block that is not the first.
+// The digit of a value, after a space if it begins a block other than the first.
 fn digit(value: bool, begins_block: bool) -> &'static str {
     match (value, begins_block) {
         (false, false) => "0",

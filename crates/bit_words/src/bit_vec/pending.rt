@@ -31,7 +31,7 @@ pub(crate) struct Pending<'a, B: BitBlock> {
 pub(crate) enum Unstored {
     // A bit for each block, zero or not.
     Each,
-    // A bit for each block, but where the first block is zero only for those that are not.
+    // A bit for each block, or, if the first block is zero, only for the nonzero ones.
     NonzeroPastZero,
 }
 
@@ -79,8 +79,8 @@ impl<'a, B: BitBlock> Pending<'a, B> {
         }
     }
 
-    // Takes the lowest pending bit, and returns the index of the block that it covers; where none is left, after
-    // the next block of the summary that has one.
+    // Takes the lowest pending bit, and returns the index of the block that it covers; if none is left, after
+    // moving to the next block of the summary that has one.
     #[inline(always)]
     pub(crate) fn next_block(&mut self, blocks: &[B]) -> Option<usize>
         requires walk { IsPending B.width B.number B.is_block
@@ -93,8 +93,8 @@ impl<'a, B: BitBlock> Pending<'a, B> {
             result self.new.index (B.number self.new.bits) self.new.summary.pulls }
     {
         while !is_nonzero(self.bits) {
-            // `index` goes with the block of the summary in hand: on by those that are skipped, and by one more
-            // only where there are blocks for it.
+            // `index` goes with the block of the summary in hand: it advances by those that are skipped, and by one
+            // more only if there are blocks for it.
             self.index += pass_zero_chunks(&mut self.summary, self.end - self.index) * B::bits();
             if self.end - self.index <= B::bits() {
                 return None;

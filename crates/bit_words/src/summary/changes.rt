@@ -17,7 +17,8 @@ use bit_blocks::packed::access::block_index;
 use bit_blocks::packed::block_merges::merge_from;
 use bit_blocks::packed::changes::{changing_place, first_change};
 
-// Whether a block of chunk `q` changes by the merge with the others. Looks at no block where the summaries say that none does.
+// Whether a block of chunk `q` changes by the merge with the others. Reads no block if the summaries say that none
+// does.
 #[inline]
 fn changes_chunk<B: BitBlock, O: Operation, S: Summarized<B>>(
     blocks: &[B],
@@ -40,8 +41,8 @@ fn changes_chunk<B: BitBlock, O: Operation, S: Summarized<B>>(
     changing_place::<B, O, S>(blocks, others, start, start + B::bits()).is_some()
 }
 
-// Where a long list begins to change where it is merged with the others: a chunk of which a block changes. `None`
-// if none does. Where most blocks of each chunk may change, groups of them are looked at.
+// Where a long list begins to change when it is merged with the others: a chunk in which a block changes. `None` if
+// none does. If most blocks of each chunk may change, groups of them are read.
 #[inline(never)]
 fn first_change_long<B: BitBlock, O: Operation, S: Summarized<B>>(
     blocks: &[B],

@@ -1,4 +1,4 @@
-// All values of a list made one, and the summary with them. Blocks that are 0 by it are skipped where they all
+// All values of a list set to one value, and the summary with them. Blocks that are 0 by it are skipped if they all
 // become false.
 ghost use Rattle.std.specs.Prelude.{◌≡◌, ℕ, ◌+◌, ◌*◌, ◌^◌, ◌<◌, ◌≤◌, All, length, map, vec_capacity};
 ghost use Rattle.bit_blocks.specs.{Digits.is_one, Storage.{value_at, is_used, IsPacked, WritesInPlace}};
@@ -12,7 +12,7 @@ use bit_blocks::packed::access::{block_at, put_in};
 use bit_blocks::packed::resizing::fill_bits;
 use bit_blocks::packed::zeros::zeros_before;
 
-// The blocks from `start` up to `end` become 0, where there are this many.
+// The blocks from `start` up to `end` become 0, as far as they exist.
 #[inline]
 fn clear_blocks<B: BitBlock>(blocks: &mut [B], start: usize, end: usize)
     requires each { All B.is_block blocks.old }
@@ -73,8 +73,8 @@ fn clear_next<B: BitBlock>(blocks: &mut [B], summary: &[B], q: usize) -> usize
     count
 }
 
-// The chunks from `first` on that the summary covers become 0. Chunks of zeros are skipped, and where few blocks of
-// one are not 0, only these are written.
+// The chunks from `first` on that the summary covers become 0. Chunks of zeros are skipped, and if few blocks of a
+// chunk are nonzero, only these are written.
 #[inline(never)]
 fn clear_runs<B: BitBlock>(blocks: &mut [B], summary: &[B], first: usize)
     requires in_summary { first ≤ length summary.now }
@@ -124,7 +124,7 @@ fn fill_blocks<B: BitBlock>(blocks: &mut Vec<B>, summary: &[B], len: usize, bit:
     }
 }
 
-// The same, and the summary becomes theirs. It is a separate function, so that a short list saves no registers for
+// Does so, and the summary becomes theirs. It is a separate function, so that a short list saves no registers for
 // it.
 #[inline(never)]
 fn fill_long<B: BitBlock>(blocks: &mut Vec<B>, summary: &mut Vec<B>, len: usize, bit: bool)

@@ -35,7 +35,8 @@ fn mismatch_in_chunks<B: BitBlock>(
     Some(q * B::bits() + k)
 }
 
-// The first block that differs of chunk `q`, where those at which `used` has a 0 are the same. Compares the others one by one.
+// The first block of chunk `q` that differs; those at which `used` has a 0 are the same. Compares the others one by
+// one.
 #[inline]
 fn mismatch_of_used<B: BitBlock>(blocks: &[B], others: &[B], q: usize, used: B) -> Option<usize>
     requires each { All B.is_block blocks.now }
@@ -103,8 +104,8 @@ fn mismatch_in_next<B: BitBlock>(
     (mismatch_in_chunks(blocks, others, q, count), count)
 }
 
-// The first block that differs of those that the summary covers, where those are 0 in both lists of which it says
-// so. Where few blocks of a chunk are not 0, it compares only these.
+// The first block that differs among those that the summary covers; blocks that it says are 0 are so in both lists.
+// If few blocks of a chunk are nonzero, it compares only these.
 #[inline(never)]
 fn mismatch_in_runs<B: BitBlock>(blocks: &[B], others: &[B], summary: &[B]) -> Option<usize>
     requires each { All B.is_block blocks.now }
@@ -151,7 +152,7 @@ fn same_of_long<B: BitBlock>(blocks: &[B], summary: &[B], others: &[B], other_su
     same_blocks(summary, other_summary) && mismatch_in_runs(blocks, others, summary).is_none()
 }
 
-// Whether two lists have the same blocks, by their summaries where there are many.
+// Whether two lists have the same blocks, by their summaries if there are many.
 #[inline]
 pub(crate) fn same_by_summaries<B: BitBlock>(
     blocks: &[B],

@@ -14,8 +14,8 @@ use bit_blocks::packed::copies::{copy_blocks, copy_of};
 use bit_blocks::packed::tail_copies::copy_bits_from;
 use std::alloc::{AllocError, Global};
 
-// The blocks of chunk `q` become those of `from`, where in both lists those at which `used` has a 0 are 0. Copies the others one by
-// one.
+// The blocks of chunk `q` become those of `from`; in both lists those at which `used` has a 0 are 0. Copies the
+// others one by one.
 #[inline]
 fn copy_used<B: BitBlock>(blocks: &mut [B], from: &[B], q: usize, used: B)
     requires each { All B.is_block blocks.old }
@@ -36,7 +36,7 @@ fn copy_used<B: BitBlock>(blocks: &mut [B], from: &[B], q: usize, used: B)
     }
 }
 
-// The blocks from `start` up to `end` become those of `from`, where there are this many.
+// The blocks from `start` up to `end` become those of `from`, as far as they exist.
 #[inline]
 fn copy_between<B: BitBlock>(blocks: &mut [B], from: &[B], start: usize, end: usize)
     requires each { All B.is_block blocks.old }
@@ -160,7 +160,7 @@ pub(crate) fn copy_both<B: BitBlock>(
     copy_both_general(blocks, summary, from, from_summary)
 }
 
-// What `copy_both` does, of any lists. It is a separate function, so that few registers are saved above.
+// What `copy_both` does, for any lists. It is a separate function, so that few registers are saved above.
 #[inline(never)]
 fn copy_both_general<B: BitBlock>(
     blocks: &mut Vec<B>,
@@ -191,8 +191,8 @@ fn copy_both_general<B: BitBlock>(
     replace_both(blocks, summary, from, from_summary)
 }
 
-// What `copy_both` does where capacity for either is missing. It is a separate function, so that where it is there
-// no register is saved for what is rare.
+// What `copy_both` does if capacity for either is missing. It is a separate function, so that the common case saves
+// no registers for the rare one.
 #[cold]
 #[inline(never)]
 fn replace_both<B: BitBlock>(

@@ -55,7 +55,7 @@ fn ones_of_both<B: BitBlock, O: Operation>(
     ones
 }
 
-// The ones of the merge from block `first` up to block `end`, where a list may end before.
+// The ones of the merge from block `first` up to block `end`; a list may end before.
 #[inline]
 fn ones_of_either<B: BitBlock, O: Operation>(
     blocks: &[B],
@@ -102,7 +102,7 @@ fn ones_of_used<B: BitBlock, O: Operation>(
     ones
 }
 
-// Which blocks of a chunk have to be read, where `own` and `other` have a 1 for each that is not 0 in either list.
+// Which blocks of a chunk have to be read; `own` and `other` have a 1 for each that is nonzero in either list.
 #[inline(always)]
 pub(crate) fn may_have_ones<B: BitBlock, O: Operation>(own: B, other: B) -> B
     requires of_own { B.is_block own }

@@ -22,7 +22,7 @@ use bit_blocks::packed::others::Except;
 
 // What block `q` of a summary becomes, which was `own`, where blocks took in what others have without the ones of a
 // third list. `other` and `except` are the blocks of the summaries of these two. A block that was 0 and that both
-// are about may be 0 still: only then are the blocks read.
+// cover may still be 0: only then are the blocks read.
 #[inline]
 fn followed<B: BitBlock>(blocks: &[B], q: usize, own: B, other: B, except: B) -> B
     requires in_bounds { q * B.width ≤ length blocks.now }
@@ -49,7 +49,7 @@ fn followed<B: BitBlock>(blocks: &[B], q: usize, own: B, other: B, except: B) ->
 }
 
 // The summary becomes that of blocks that took in what others have without the ones of `except`. No block is read
-// where the summaries say enough.
+// if the summaries say enough.
 fn follow_others<B: BitBlock>(
     blocks: &[B],
     summary: &mut [B],
@@ -85,8 +85,8 @@ fn follow_others<B: BitBlock>(
 }
 
 // The blocks of a long list from `start` on become their unions with the others, without the ones of `except`.
-// Those before `start` stay. It takes vectors, so that a short list does not read where the summaries of the others
-// lie.
+// Those before `start` stay. It takes vectors, so that a short list does not read the addresses of the others'
+// summaries.
 #[inline(never)]
 fn unite_long_from<B: BitBlock>(
     blocks: &mut [B],
@@ -219,7 +219,7 @@ fn unite_long_past_except<B: BitBlock>(
     change_long::<B, Union, Outside<B>>(blocks, summary, outside)
 }
 
-// `unite_difference` where `except` is shorter than the others: a separate function, so that the usual one saves no
+// `unite_difference` if `except` is shorter than the others: a separate function, so that the usual one saves no
 // registers for it.
 #[inline(never)]
 fn unite_past_except<B: BitBlock>(
@@ -338,8 +338,8 @@ fn become_dense<B: BitBlock>(
     true
 }
 
-// The same by chunks: what is not in the difference goes, and then the rest of it comes. One of these changes
-// something exactly if the list becomes another.
+// Does so by chunks, in two passes: the first removes what is not in the difference, and the second inserts the
+// rest of it. One of these changes something exactly if the list changes.
 #[inline(never)]
 fn become_sparse<B: BitBlock>(blocks: &mut [B], summary: &mut [B], outside: Outside<B>) -> bool
     requires can { CanMerge B.is_block blocks.old (length outside.others.blocks.now)
@@ -361,8 +361,8 @@ fn become_sparse<B: BitBlock>(blocks: &mut [B], summary: &mut [B], outside: Outs
     lost || gained
 }
 
-// The blocks become the others without the ones of `except`. Returns whether one changed. A long list goes by
-// chunks where few blocks of the others are not 0.
+// The blocks become the others without the ones of `except`. Returns whether one changed. A long list is merged by
+// chunks if few blocks of the others are nonzero.
 pub(crate) fn become_difference<B: BitBlock>(
     blocks: &mut [B],
     summary: &mut Vec<B>,

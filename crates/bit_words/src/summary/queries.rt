@@ -56,8 +56,8 @@ pub(crate) fn are_zero_by_summary<B: BitBlock>(blocks: &[B], summary: &[B]) -> b
     }
 }
 
-// How many ones the blocks have, where a summary says which of them are not zero. If none is stored, or there are
-// few blocks, it counts every block.
+// How many ones the blocks have, given a summary that says which of them are nonzero. If none is stored, or there
+// are few blocks, it counts every block.
 #[inline]
 pub(crate) fn ones_by_summary<B: BitBlock>(blocks: &[B], summary: &[B]) -> usize
     requires each { All B.is_block blocks.now }
@@ -127,8 +127,8 @@ pub(crate) fn has_few<B: BitBlock>(used: B) -> bool
     used.count_ones() <= B::bits() / FEW
 }
 
-// How many blocks of a chunk vector code could pass over in the time that is saved where those at the ones of `used` are taken one by
-// one.
+// How many blocks of a chunk vector code could process in the time that is saved by taking those at the ones of
+// `used` one by one.
 #[inline(always)]
 pub(crate) fn saved_blocks<B: BitBlock>(used: B) -> usize
     requires { B.is_block used }
@@ -200,8 +200,8 @@ pub(crate) fn first_blocks<B: BitBlock>(blocks: &[B]) -> (&[B], &[B])
     first_chunks(blocks, 1)
 }
 
-// Which of the blocks that block `q` of a summary covers are not 0: that block, or what it would be where the
-// summary has none, since it is not stored or the blocks end before.
+// Which of the blocks that block `q` of a summary covers are not 0: that block, or what it would be if the summary
+// has none, because it is not stored or the blocks end before.
 #[inline]
 pub(crate) fn summary_at<B: BitBlock>(blocks: &[B], summary: &[B], q: usize) -> B
     requires each { All B.is_block blocks.now }

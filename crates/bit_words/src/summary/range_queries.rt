@@ -11,9 +11,8 @@ use bit_blocks::packed::access::block_index;
 use bit_blocks::packed::span_queries::{ones_in_span, span_merges_to_false};
 use bit_blocks::packed::zeros::are_zero;
 
-// The chunks that lie between two bits, `start` and a later `end`: the first that begins past `start`, and the one in which
-// `end` is.
-// There are none where the first is not before it.
+// The chunks that lie between two bits, `start` and a later `end`: the first that begins past `start`, and the one
+// in which `end` is. There are none if the first is not before it.
 #[inline(always)]
 pub(crate) fn whole_chunks<B: BitBlock>(start: usize, end: usize) -> (usize, usize)
     ensures begun { start < result.0 * B.width * B.width }
@@ -38,7 +37,7 @@ fn ones_of_whole_chunks<B: BitBlock>(blocks: &[B], summary: &[B], first: usize, 
     ones_of_runs(chunks, summary.split_at(first).1.split_at(end - first).0)
 }
 
-// The ones from bit `start` up to `end`, where the chunks from `first` up to `last` lie between these. It is a
+// The ones from bit `start` up to `end`, given that the chunks from `first` up to `last` lie between these. It is a
 // separate function, so that a short range saves no registers for it.
 #[inline(never)]
 fn ones_around_chunks<B: BitBlock>(
@@ -89,8 +88,8 @@ pub(crate) fn ones_in_range<B: BitBlock>(
     ones_around_chunks(blocks, summary, start, first, last, end)
 }
 
-// Whether no bit from `start` up to `end` is 1, where the chunks from `first` up to `last` lie between these. It is
-// a separate function, so that a short range saves no registers for it.
+// Whether no bit from `start` up to `end` is 1, given that the chunks from `first` up to `last` lie between these.
+// It is a separate function, so that a short range saves no registers for it.
 #[inline(never)]
 fn are_zero_around_chunks<B: BitBlock>(
     blocks: &[B],

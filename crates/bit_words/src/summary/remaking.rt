@@ -1,4 +1,4 @@
-// The summary of blocks that were written where nothing says which of them are 0 now.
+// The summary of blocks that were written, if nothing says which of them are 0 now.
 ghost use Rattle.std.specs.Prelude.{◌≡◌, ◌^◌, ◌<◌, ◌≤◌, All, [], length, vec_len, vec_capacity};
 ghost use Rattle.bit_blocks.specs.Bits.{blocks_for};
 ghost use Rattle.bit_words.specs.Summary.{short_count, IsStoredSummary};

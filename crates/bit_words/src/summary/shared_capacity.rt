@@ -1,4 +1,4 @@
-// Capacity for blocks and their summary at once, and what is left where one of the two fails. No bit changes here.
+// Capacity for blocks and their summary together, and what is left if one of the two fails. No bit changes here.
 ghost use Rattle.std.specs.Prelude.{◌≡◌, ◌-◌, ◌<◌, ◌≤◌, false, IsTrue, OnErr, OnOk, length, max, vec_len, vec_capacity};
 ghost use Rattle.bit_words.specs.{Growth.{Reserves, ReservesShared}, Summary.shared_capacity};
 
@@ -6,7 +6,7 @@ use crate::summary::stored_count;
 use bit_blocks::block::BitBlock;
 use std::alloc::AllocError;
 
-// Reserves capacity for `count` blocks, and for no more where that is asked. Allocates nothing where it is there.
+// Reserves capacity for `count` blocks, and for no more if that is requested. Allocates nothing if there is enough.
 #[inline]
 fn reserve_blocks<B: BitBlock>(
     blocks: &mut Vec<B>,
@@ -39,8 +39,8 @@ pub(crate) fn have_capacity<B: BitBlock>(blocks: &Vec<B>, summary: &Vec<B>, coun
     count <= blocks.capacity() && stored_count::<B>(count) <= summary.capacity()
 }
 
-// Reserves capacity for `count` blocks and their summary where it is missing. What has more capacity of the two
-// grows first: then a failure of the other leaves the capacity that they share.
+// Reserves capacity for `count` blocks and their summary if it is missing. The one with more capacity grows first,
+// so that a failure of the other leaves the capacity that they share.
 #[cold]
 #[inline(never)]
 fn grow_shared_capacity<B: BitBlock>(
@@ -67,7 +67,7 @@ fn grow_shared_capacity<B: BitBlock>(
     }
 }
 
-// Reserves capacity for `count` blocks and their summary. Where it is there, that costs two comparisons.
+// Reserves capacity for `count` blocks and their summary. If there is enough, that costs two comparisons.
 #[inline]
 pub(crate) fn reserve_shared<B: BitBlock>(
     blocks: &mut Vec<B>,
@@ -88,8 +88,8 @@ pub(crate) fn reserve_shared<B: BitBlock>(
     grow_shared_capacity(blocks, summary, count, exact)
 }
 
-// Reserves capacity for `count` blocks and their summary, and for no more. Where the blocks had capacity for more
-// and their summary had not, they give the rest back first.
+// Reserves capacity for `count` blocks and their summary, and for no more. If the blocks had capacity for more and
+// their summary had not, they give the rest back first.
 pub(crate) fn reserve_shared_exact<B: BitBlock>(
     blocks: &mut Vec<B>,
     summary: &mut Vec<B>,
@@ -118,8 +118,8 @@ pub(crate) fn reserve_shared_exact<B: BitBlock>(
     reserve_shared(blocks, summary, count, true)
 }
 
-// Gives back what the blocks and their summary do not take, as far as memory to move them to is there. A failure
-// of one does not keep the other.
+// Gives back what the blocks and their summary do not need, as far as there is memory to move them to. A failure of
+// one does not prevent the other.
 pub(crate) fn shrink_shared_capacity<B: BitBlock>(blocks: &mut Vec<B>, summary: &mut Vec<B>)
     ensures items { blocks.new.items ≡ blocks.old.items }
     ensures summary { summary.new.items ≡ summary.old.items }

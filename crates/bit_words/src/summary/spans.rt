@@ -12,8 +12,8 @@ use bit_blocks::block::operation::{Difference, Operation, Symmetric};
 use bit_blocks::packed::access::block_index;
 use bit_blocks::packed::spans::merge_span;
 
-// The values from `start` up to `end` become false, where the chunks from `first` up to `last` lie between these:
-// of them zeros are skipped. It is a separate function, so that a short range saves no registers for it.
+// The values from `start` up to `end` become false, given that the chunks from `first` up to `last` lie between
+// these: of them zeros are skipped. It is a separate function, so that a short range saves no registers for it.
 #[inline(never)]
 fn clear_around_chunks<B: BitBlock>(
     blocks: &mut Vec<B>,

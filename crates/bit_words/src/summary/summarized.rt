@@ -143,7 +143,7 @@ impl<'a, B: BitBlock> Summarized<B> for Apart<'a, B> {
         self.others.used_at(q)
     }
 
-    // Only where `except` has a block may it take away all of one.
+    // Only where `except` has a block can it remove all of one.
     #[inline(always)]
     fn unsure_at(self, q: usize) -> B {
         self.except.used_at(q)

@@ -1,4 +1,4 @@
-// The first 1 of a list of bits, found or taken out by the first block of its summary that is not 0.
+// The first 1 of a list of bits, found or removed by the first nonzero block of its summary.
 ghost use Rattle.std.specs.Prelude.{◌≡◌, ℕ, ◌^◌, ◌<◌, All, map, true, false, vec_capacity};
 ghost use Rattle.bit_blocks.specs.{Mismatches.IsFirstNonzeroBlock, Searches.IsFirstFrom, Storage.{value_at, WritesInPlace, WritesValue}};
 ghost use Rattle.bit_words.specs.Summary.{IsSummary};
@@ -21,7 +21,7 @@ pub(crate) fn first_of_chunk<B: BitBlock>(blocks: &[B], summary: &[B], chunk: us
     first_of_block(blocks, first_of_block(summary, chunk))
 }
 
-// Takes the first 1 out. No branch depends on whether its block becomes 0: in a sparse set that is random.
+// Removes the first 1. No branch depends on whether its block becomes 0: in a sparse set that is random.
 #[inline]
 pub(crate) fn take_first_of_chunk<B: BitBlock>(
     blocks: &mut Vec<B>,

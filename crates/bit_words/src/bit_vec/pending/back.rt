@@ -45,7 +45,7 @@ impl<'a, B: BitBlock> Pending<'a, B> {
         self.end - self.index > B::bits() && is_nonzero(block_at(blocks, self.end - 1))
     }
 
-    // Leaves what is about the blocks before the last one, where that is past the block of the summary in hand.
+    // Leaves the bits of the blocks before the last one, which is past the block of the summary in hand.
     #[inline(always)]
     fn drop_last(&mut self)
         requires past { self.old.index + B.width < self.old.end }

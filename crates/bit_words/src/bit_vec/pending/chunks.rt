@@ -9,7 +9,7 @@ use bit_blocks::block::BitBlock;
 impl<'a, B: BitBlock> Pending<'a, B> {
     // Which blocks of the next chunk are not zero, by the stored block of the summary: the chunk is those past what
     // the block of the summary in hand covers, as many as a block has bits. `None` if that one is not used up yet,
-    // if none is stored and where the walk ends within the chunk.
+    // if none is stored, or if the iterator ends within the chunk.
     #[inline]
     pub(crate) fn next_chunk(&self) -> Option<B>
         requires walk { self.now.index ≤ self.now.end }

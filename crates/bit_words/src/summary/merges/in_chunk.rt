@@ -52,7 +52,7 @@ fn merge_full_or_part<B: BitBlock, O: Operation>(blocks: &mut [B], others: &[B],
     used_from(blocks, start)
 }
 
-// The same, and block `q` of the summary becomes that block if one is stored.
+// Does so, and block `q` of the summary becomes that block if one is stored.
 #[inline]
 fn merge_in_chunk<B: BitBlock, O: Operation>(
     blocks: &mut [B],

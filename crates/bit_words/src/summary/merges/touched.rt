@@ -11,8 +11,9 @@ use bit_blocks::block::operators::same;
 use bit_blocks::packed::access::{block_at, put_in};
 use bit_blocks::packed::others::Others;
 
-// Which blocks of a chunk a merge may change, where blocks of summaries say of which blocks of either side a bit may be 1.
-// The compiler knows the merge: what is left is `other` for a union, `own` for an intersection, and both for a difference.
+// Which blocks of a chunk a merge may change, given the blocks of the summaries that say which blocks of either
+// side may have a 1. The compiler knows the merge: what is left is `other` for a union, `own` for an intersection,
+// and both for a difference.
 #[inline(always)]
 pub(crate) fn touched_by<B: BitBlock, O: Operation>(own: B, other: B) -> B
     requires of_own { B.is_block own }
@@ -63,8 +64,8 @@ pub(crate) fn block_or_zero<B: BitBlock, S: Others<B>>(others: S, k: usize) -> B
     }
 }
 
-// The blocks of chunk `q` become their merges with the others, where only those at the ones of `touched` may change. `own`
-// is what the summary says of the chunk, and what it says then is returned.
+// The blocks of chunk `q` become their merges with the others; only those at the ones of `touched` may change.
+// `own` is what the summary says about the chunk. Returns what it says afterwards.
 #[inline]
 pub(crate) fn merge_touched<B: BitBlock, O: Operation, S: Others<B>>(
     blocks: &mut [B],
@@ -101,7 +102,7 @@ pub(crate) fn merge_touched<B: BitBlock, O: Operation, S: Others<B>>(
     digits
 }
 
-// Whether block `k` changes where it is merged with the other of its index, or with zeros if there is none.
+// Whether block `k` changes when it is merged with the other of its index, or with zeros if there is none.
 #[inline]
 fn is_changed<B: BitBlock, O: Operation, S: Others<B>>(blocks: &[B], others: S, k: usize) -> bool
     requires can { CanMerge B.is_block blocks.now (S.count others) (S.are_blocks others) }
@@ -112,7 +113,7 @@ fn is_changed<B: BitBlock, O: Operation, S: Others<B>>(blocks: &[B], others: S, 
     !same(block, O::of_blocks(block, block_or_zero(others, k)))
 }
 
-// Whether a block of chunk `q` changes by the merge with the others, where only those at the ones of `touched` may.
+// Whether a block of chunk `q` changes by the merge with the others; only those at the ones of `touched` may.
 #[inline]
 pub(crate) fn changes_touched<B: BitBlock, O: Operation, S: Others<B>>(
     blocks: &[B],
