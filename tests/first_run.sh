@@ -1,5 +1,5 @@
 #!/usr/bin/env -S bash -p
-# Looks whether the program `bitset` still compiles without the modules that left_out.txt names, as `./bitset` builds it:
+# Checks whether the program `bitset` still compiles without the modules that left_out.txt names, as `./bitset` builds it:
 # nothing is proved. The last line is 'N passed, M failed'.
 case $- in *p*) ;; *) exec bash -p "$0" "$@" ;; esac
 set -uo pipefail

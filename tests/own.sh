@@ -1,7 +1,7 @@
 #!/usr/bin/env bash
 # Tries the tests themselves: which verdicts they give on wrong bodies, what they record, and what the gate says that it
 # left out. The last line is 'N passed, M failed'.
-# Bash runs this where `sh` is called too. Options of it that are exported, and what it is to read first, are for other scripts.
+# Runs under bash even if called by `sh`. Ignores exported shell options and BASH_ENV.
 { [ -n "${BASH_VERSION:-}" ] && [[ ${SHELLOPTS@a}${BASHOPTS@a}${BASH_ENV+x} != *x* ]]; } || exec env -u SHELLOPTS -u BASHOPTS -u BASH_ENV bash "$0" "$@"
 set -euo pipefail
 unset CDPATH GLOBIGNORE POSIXLY_CORRECT

@@ -6,7 +6,7 @@ ghost use Rattle.bit_set.specs.Sets.{elements, has};
 
 use bit_set::{BitBlock, BitSet, laws};
 
-/// How many tickets are called before this one, or `None` where it does not wait.
+/// How many tickets are called before this one, or `None` if it does not wait.
 pub fn place_in_queue<B: BitBlock>(waiting: &BitSet<B>, ticket: usize) -> Option<usize>
     ensures place { MatchOption result (has (elements waiting.now.values) ticket ≡ false)
         (λ place. IsSelected (elements waiting.now.values) place ticket) }
