@@ -28,6 +28,7 @@ use spare::Spare;
 
 mod further;
 mod matrix;
+mod operators;
 mod spare;
 mod walks;
 
@@ -263,6 +264,14 @@ impl<B: BitBlock> BitSet<B> {
         }
     }
 
+    // Whether the first blocks of both sets are as they must be. Sets that differ mostly do so there, and a call of the library
+    // takes longer than a look.
+    #[inline]
+    fn begins_as(&self, other: &Self, must_be: impl Fn(u64, u64) -> bool) -> bool {
+        let blocks = self.as_slice().iter().zip(other.as_slice());
+        blocks.take(8).all(|(&block, &another)| must_be(block.into(), another.into()))
+    }
+
     /// Whether `value` is an element.
     #[inline]
     pub fn contains(&self, value: usize) -> bool {
@@ -313,7 +322,9 @@ impl<B: BitBlock> BitSet<B> {
 
     /// Moves what is in `other` into the set.
     pub fn append(&mut self, other: &mut Self) {
-        require(unsafe { B::append(self.write(), other.write()) });
+        if !other.set.is_null() {
+            require(unsafe { B::append(self.write(), other.set) });
+        }
     }
 
     /// Parts the set: the elements below `at` stay, and the others are returned.
@@ -344,7 +355,8 @@ impl<B: BitBlock> BitSet<B> {
 
     /// Whether every element is one of `other`.
     pub fn is_subset(&self, other: &Self) -> bool {
-        unsafe { B::is_subset(self.read(), other.read()) }
+        let may_be = self.begins_as(other, |block, another| block & !another == 0);
+        may_be && unsafe { B::is_subset(self.read(), other.read()) }
     }
 
     /// Whether every element of `other` is one of this set.
@@ -374,6 +386,9 @@ impl<B: BitBlock> Clone for BitSet<B> {
     }
 
     fn clone_from(&mut self, other: &Self) {
+        if other.set.is_null() {
+            return self.reset();
+        }
         require(unsafe { B::copy(self.write(), other.read()) });
     }
 }
@@ -396,7 +411,7 @@ impl<B: BitBlock> FromIterator<usize> for BitSet<B> {
 
 impl<B: BitBlock> PartialEq for BitSet<B> {
     fn eq(&self, other: &Self) -> bool {
-        unsafe { B::equals(self.read(), other.read()) }
+        self.begins_as(other, |block, another| block == another) && unsafe { B::equals(self.read(), other.read()) }
     }
 }
 

@@ -79,6 +79,56 @@ fn calls_on_two_sets() {
     }
 }
 
+fn operators<B: BitBlock>() {
+    let mut draws = Draws(7);
+    for _ in 0..300 {
+        let mut draw = || -> Vec<usize> {
+            let bound = [8, 300, 100_000][draws.below(3)];
+            (0..draws.below(40)).map(|_| draws.below(bound)).collect()
+        };
+        let (xs, ys) = (draw(), draw());
+        let (x, y) = (BitSet::<B>::from(&xs[..]), BitSet::<B>::from(&ys[..]));
+        let (a, b): (BTreeSet<usize>, BTreeSet<usize>) = (xs.into_iter().collect(), ys.into_iter().collect());
+        assert!((&x | &y).iter().eq(&a | &b));
+        assert!((&x & &y).iter().eq(&a & &b));
+        assert!((&x - &y).iter().eq(&a - &b));
+        assert!((&x ^ &y).iter().eq(&a ^ &b));
+        assert_eq!((&x & &y).as_slice().len(), x.as_slice().len().min(y.as_slice().len()));
+        assert_eq!((&x - &y).as_slice().len(), x.as_slice().len());
+        assert_eq!((x.is_subset(&y), x.is_superset(&y)), (a.is_subset(&b), a.is_superset(&b)));
+        assert_eq!((x == y, &x & &x == x, (&x - &x).is_empty()), (a == b, true, true));
+    }
+}
+
+over_both_widths!(operators_over_both_widths, operators);
+
+#[test]
+fn results_have_the_memory_of_the_shorter_set() {
+    let (few, far) = (BitSet::<u32>::from([1, 5, 9]), BitSet::from([5, 10_000_000]));
+    let made = [&few & &far, &far & &few, &few - &far];
+    assert!(made.iter().all(|set| set.capacity() <= 1024));
+    assert_eq!(made, [BitSet::from([5]), BitSet::from([5]), BitSet::from([1, 9])]);
+    assert_eq!(BitSet::<u32>::from([]).capacity(), 0);
+}
+
+#[test]
+#[should_panic(expected = "usize::MAX is no element")]
+fn a_set_of_what_is_no_element() {
+    let _ = BitSet::<u32>::from([1, usize::MAX]);
+}
+
+#[test]
+fn appending_no_elements_makes_no_set() {
+    let (mut a, mut b) = (BitSet::new(), BitSet::new());
+    a.append(&mut b);
+    assert_eq!((a.capacity(), b.capacity()), (0, 0));
+    b.insert(70);
+    a.append(&mut b);
+    b.append(&mut a);
+    a.append(&mut BitSet::new());
+    assert!(a.is_empty() && b.iter().eq([70]));
+}
+
 // A range whose end may be below its start, and then it has no number.
 fn range(draws: &mut Draws) -> std::ops::Range<usize> {
     let bound = [70, 700][draws.below(2)];
