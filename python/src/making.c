@@ -68,12 +68,12 @@ bool put(PyObject *self, PyObject *member)
  * the set grows once; without it those go in that come before the first that finds none. */
 static size_t insert_group(PyObject *self, const size_t *group, size_t count)
 {
-    size_t greatest = 0;
+    /* One more than the greatest, where NO_MEMBER counts for none. */
+    size_t bound = 0;
     for (size_t at = 0; at < count; at++)
-        if (group[at] > greatest && group[at] != NO_MEMBER)
-            greatest = group[at];
-    if (greatest >= bit_set_capacity(set_of(self)))
-        (void)!bit_set_reserve(set_of(self), greatest + 1);
+        bound = group[at] + 1 > bound ? group[at] + 1 : bound;
+    if (bound > bit_set_capacity(set_of(self)))
+        (void)!bit_set_reserve(set_of(self), bound);
     return bit_set_insert_members(set_of(self), group, count);
 }
 
@@ -92,15 +92,20 @@ struct gathered {
     size_t group[GROUP];
 };
 
-static int gather(void *with, PyObject *item)
+/* Puts a group in once it is full. */
+static inline bool gather(struct gathered *numbers, PyObject *item)
 {
-    struct gathered *numbers = with;
     if (!read_member(item, &numbers->group[numbers->count]))
-        return -1;
+        return false;
     if (++numbers->count < GROUP)
-        return 1;
+        return true;
     numbers->count = 0;
-    return put_group(numbers->set, numbers->group, GROUP) ? 1 : -1;
+    return put_group(numbers->set, numbers->group, GROUP);
+}
+
+static int gather_item(void *numbers, PyObject *item)
+{
+    return gather(numbers, item) ? 1 : -1;
 }
 
 /* Puts in what is left, also where an exception is raised. Returns whether all is in. */
@@ -127,7 +132,7 @@ static bool put_items(PyObject *self, PyObject *items)
     for (Py_ssize_t at = 0; is_good && at < size; at++) {
         PyObject *item = is_list ? PyList_GetItem(items, at) : PyTuple_GetItem(items, at);
         /* A list may become shorter meanwhile, by the `__index__` of an item. */
-        is_good = item && gather(&numbers, item) == 1;
+        is_good = item && gather(&numbers, item);
     }
     return put_rest(&numbers);
 }
@@ -136,7 +141,7 @@ static bool put_items(PyObject *self, PyObject *items)
 static bool put_set(PyObject *self, PyObject *items)
 {
     struct gathered numbers = {.set = self, .count = 0};
-    each_item(PyObject_GetIter(items), gather, &numbers);
+    each_item(PyObject_GetIter(items), gather_item, &numbers);
     return put_rest(&numbers);
 }
 
