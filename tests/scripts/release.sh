@@ -24,6 +24,8 @@ done
 # An edit meanwhile that is taken back before the end: all is of the commit.
 mkdir -p "$library/crates/bit_blocks/src"
 echo '// mark: committed' | tee "$library/crates/bit_blocks/src/lib.rt" > "$library/crates/bit_set_c/src/marks.rt"
+# rt looks for each crate that is named there.
+sed -i '/^\(bit_blocks\|bit_set_c\)[ :]/!d' "$library/crates.txt"
 in_library add . && in_library commit -qm marks
 echo 1 > "$STAND_INS/seconds.bit_blocks"
 forget_calls
