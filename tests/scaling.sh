@@ -39,7 +39,8 @@ make_room || exit 1
 # - `two` is {0, n}, and `zero` is {0} in as long a set. What goes by the summary takes a few instructions for each of its
 #   blocks, and so fewer than there are blocks in the set.
 # - `many` is one in 16 numbers, scattered, and `full` is all below n. What takes constant time for each number or block
-#   takes 16 times as many.
+#   takes 16 times as many. An operation in place that passes over all blocks may take 4 instructions for each, or 8 where it
+#   makes the summary too, so that it reads and writes each of them once.
 # - A call on a range takes 1,000 numbers in the middle, the same at each n; one named `_of_all` takes all from 2 to n.
 # - A graph is a chain of n nodes, whose closure merges about n² / 2 rows; of `solve` each of n blocks is visited twice.
 rows="$(
@@ -82,6 +83,15 @@ toggle_range_of_all           two    65536   17    180000
 contains_all_in_range_of_all  full   65536   17    120000
 contains_any_in_range_of_all  two    65536  2.6      1200
 count_in_range_of_all         two    65536  2.6      1250
+union_with                    many   65536   17     65500
+union_with                    two    65536   17     15000
+intersect_with                many   65536   17    131000
+intersect_with                two    65536   17     15000
+difference_with               two    65536   17     15000
+symmetric_difference_with     two    65536   17     15000
+is_subset                     many   65536   17    131000
+is_subset                     two    65536   17     15000
+is_disjoint                   two    65536   17     30000
 union_changes                 many   65536   17     49000
 union_changes                 two    65536   14     11300
 intersection_changes          many   65536   17     49000
