@@ -56,8 +56,11 @@ expect "c/build beside a header that was changed ends with $ended" ends_with 1
 expect 'c/build replaces a header that was changed' grep -qx '// theirs' "$room/theirs/bit_set.hpp"
 expect_no_edit "$library/c/build" "$library/c/build" "$room/built" --proved
 
-# An edit meanwhile: header and library are of the texts that it began with.
-mkdir -p "$library/crates/bit_blocks/src"
+# An edit meanwhile: header and library are of the texts that it began with. rt looks for each crate that is named.
+for name in $(sed -n 's/^\([a-z_0-9]*\)[ :].*/\1/p' "$library/crates.txt"); do
+    mkdir -p "$library/crates/$name/src"
+    [ "$name" = bit_set_c ] || echo '// a source' > "$library/crates/$name/src/lib.rt"
+done
 echo '// mark: 1' | tee "$library/crates/bit_blocks/src/lib.rt" > "$library/crates/bit_set_c/src/marks.rt"
 echo 1 > "$STAND_INS/seconds.bit_blocks"
 forget_calls
@@ -69,9 +72,11 @@ echo '/* later */' >> "$library/c/bit_set.h"
 finish "$begun"
 expect "c/build with an edit meanwhile ends with $ended: $(tail -n 1 "$room/said")" ends_with 0
 expect 'c/build takes the header of a later text' not grep -q later "$room/moment/bit_set.h"
-expect "c/build takes sources of a later text: $(cat "$STAND_INS/marks.bit_set_c")" \
-    [ "$(cat "$STAND_INS/marks.bit_set_c")" = $'bit_blocks: 1\nbit_set_c: 1' ]
-rm -r "$library/crates/bit_blocks" "$library/crates/bit_set_c/src/marks.rt" "$STAND_INS/seconds.bit_blocks"
+for text in 'bit_blocks: 1' 'bit_set_c: 1'; do
+    expect "c/build takes sources of a later text than $text" grep -qx "$text" "$STAND_INS/marks.bit_set_c"
+done
+rm -r "$library/crates/bit_set_c/src/marks.rt" "$STAND_INS/seconds.bit_blocks"
+find "$library/crates" -mindepth 1 -maxdepth 1 ! -name bit_set_c -exec rm -r {} +
 cp "$top/c/bit_set.h" "$library/c"
 
 # A disk that is full, or is only to be read: what is there stays.

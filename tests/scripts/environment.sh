@@ -63,6 +63,10 @@ expect_marks 'with locks' 53 1 1
 # A full disk for temporary files. The sources are so new that a later edit might have their times, so that the next run
 # is to read them.
 if mount_disk size=4k "$room/full" './bitset with a full disk for temporary files'; then
+    # Of so many that what is known of them does not fit into a pipe, as in the whole repository.
+    for ((number = 0; number < 500; number++)); do
+        echo > "$repository/crates/low/specs/$(printf '%0150d' "$number").antt"
+    done
     mark low 54
     head -c 8192 /dev/zero > "$room/full/theirs" 2> /dev/null
     TMPDIR="$room/full" run
