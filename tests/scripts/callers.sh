@@ -1,8 +1,9 @@
 # Which callers `tests/callers.sh` proves again, and what it records. To be sourced by tests/scripts.sh.
 # shellcheck shell=bash disable=SC2154
 repository="$room/callers"
-mkdir -p "$repository"/{crates/low/{src,out/rlib/low.rlib},crates/uses/src,tests/callers/adding} "$room/prover"
+mkdir -p "$repository"/{tools,crates/low/{src,out/rlib/low.rlib},crates/uses/src,tests/callers/adding} "$room/prover"
 cp "$here"/{callers.sh,callers.py,copies.py} "$repository/tests"
+cp "$top/tools/start.sh" "$repository/tools"
 printf '%s\n' 'low:' 'uses: low' > "$repository/crates.txt"
 echo '#![tactic(auto)]' > "$repository/crates/uses/src/lib.rt"
 echo '// one' > "$repository/crates/low/src/lib.rt"

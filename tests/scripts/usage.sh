@@ -155,7 +155,7 @@ make_older() {
 # An empty repository beside that from which libraries are copied.
 from="$room/from"
 mkdir -p "$from" "$room/theirs/crates"
-(cd "$top" && tar cf - --exclude=out add crates.txt tools LICENSE-* crates/bit_{blocks,words,set,matrix}) | tar xf - -C "$from"
+(cd "$top" && tar cf - --exclude=out add crates.txt tools LICENSE-* crates/sets crates/bit_{blocks,words,set,matrix}) | tar xf - -C "$from"
 # A few files of each say as much as all.
 find "$from/crates" -type f ! -iname 'lib.*' ! -name '*.md' ! -name bit_vec.rt -delete
 find "$from/crates" -mindepth 3 -type d -empty -delete
