@@ -177,7 +177,7 @@ ended_by_signal() {
 # Runs all parts side by side, the longest first, and counts what each says.
 run_all() {
     local at status begun=() parts=(c_build bitset usage c_folder states waiting environment signals long_tests release gate packages
-        others)
+        callers others)
     for at in "${!parts[@]}"; do
         start_group "$here/scripts.sh" "${parts[at]}" < /dev/null > "$room/$at" 2>&1
         begun+=("$!")
