@@ -3,11 +3,5 @@
 # slowest functions. One crate after another, with one job each: of all crates it takes hours.
 case $- in *p*) ;; *) exec bash -p "$0" "$@" ;; esac
 set -euo pipefail
-# shellcheck source=tools/start.sh
-. "$(dirname "$(readlink -f "$0")")/../tools/start.sh"
-here="$(dirname "$(readlink -f "${BASH_SOURCE[0]}")")"
-# Whatever the locale, texts are UTF-8.
-export PYTHONUTF8=1
-# It imports what is beside it.
-unset PYTHONSAFEPATH
-exec python3 -B "$here/cost.py" "$(dirname "$here")" "$@"
+# shellcheck source=tools/python.sh
+. "$(dirname "$(readlink -f "$0")")/../tools/python.sh"

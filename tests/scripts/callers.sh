@@ -3,7 +3,7 @@
 repository="$room/callers"
 mkdir -p "$repository"/{tools,crates/low/{src,out/rlib/low.rlib},crates/uses/src,tests/callers/adding} "$room/prover"
 cp "$here"/{callers.sh,callers.py,copies.py} "$repository/tests"
-cp "$top/tools/start.sh" "$repository/tools"
+cp "$top"/tools/{start,python}.sh "$repository/tools"
 printf '%s\n' 'low:' 'uses: low' > "$repository/crates.txt"
 echo '#![tactic(auto)]' > "$repository/crates/uses/src/lib.rt"
 echo '// one' > "$repository/crates/low/src/lib.rt"
