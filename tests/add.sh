@@ -38,7 +38,7 @@ start() {
 # The repository that is copied from, with a file in the place of what is proved: that is a gigabyte.
 from="$room/from"
 mkdir "$from"
-libraries=(bit_blocks sets bit_words bit_set bit_matrix graph_walks dataflow automata free_slots roaring)
+libraries=(bit_blocks set_algebra bit_words bit_set bit_matrix graph_walks dataflow automata free_slots roaring)
 (cd "$top" && tar cf - --exclude=out add tools crates.txt LICENSE-* crates/evens "${libraries[@]/#/crates/}") | tar xf - -C "$from"
 for library in "${libraries[@]}"; do
     mkdir -p "$from/crates/$library/out/rlib"
@@ -96,11 +96,11 @@ same_lines() { [ "$(sort "$1")" = "$(sort "$2")" ]; }
 try_first() {
     start first
     expect 'add fails in an empty repository' add
-    for library in bit_blocks sets bit_words bit_set; do
+    for library in bit_blocks set_algebra bit_words bit_set; do
         expect "the copy of $library is not the library" is_copy "$library"
     done
     expect 'a link of the copied documents leads nowhere' links_lead_on
-    expect 'crates.txt has not the lines of the libraries' same_lines crates.txt <(grep -E '^(bit_blocks|sets|bit_words|bit_set):' "$top/crates.txt")
+    expect 'crates.txt has not the lines of the libraries' same_lines crates.txt <(grep -E '^(bit_blocks|set_algebra|bit_words|bit_set):' "$top/crates.txt")
     expect 'HANDLES is not written' grep -qx 'Handles allowed: none.' HANDLES
     before="$(texts)"
     expect 'add fails where the copies are up to date' add
@@ -127,11 +127,11 @@ try_matrix() {
 try_walks() {
     start walks
     expect 'add fails with a library above the matrix' add graph_walks
-    expect 'add does not copy what a library stands on' copied bit_blocks sets bit_words bit_set bit_matrix graph_walks
+    expect 'add does not copy what a library stands on' copied bit_blocks set_algebra bit_words bit_set bit_matrix graph_walks
     expect 'the copy of graph_walks is not the library' is_copy graph_walks
     expect 'a link of the documents copied with graph_walks leads nowhere' links_lead_on
     expect 'add fails with two more libraries' add free_slots roaring
-    expect 'add does not copy two more' copied bit_blocks sets bit_words bit_set bit_matrix graph_walks free_slots roaring
+    expect 'add does not copy two more' copied bit_blocks set_algebra bit_words bit_set bit_matrix graph_walks free_slots roaring
 }
 
 try_everything() {
@@ -241,7 +241,7 @@ try_example() {
     start example
     expect 'add fails with an example' add --example crates/mine
     expect 'the example is not the one that is proved' is_example crates/mine
-    expect 'add does not copy the libraries beside an example' copied bit_blocks sets bit_words bit_set mine
+    expect 'add does not copy the libraries beside an example' copied bit_blocks set_algebra bit_words bit_set mine
     expect 'add writes over an example' refuses --example crates/mine
     expect 'add writes the example under the name of a library' refuses --example crates/bit_words
     expect 'add writes the example where rt does not look' refuses --example elsewhere/mine

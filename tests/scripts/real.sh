@@ -43,7 +43,7 @@ expect_run() {
 }
 
 touch "$room/stops"
-expect_run 'from nothing' 1 bit_blocks bit_set bit_set_commands bit_set_run bit_words bitset sets
+expect_run 'from nothing' 1 bit_blocks bit_set bit_set_commands bit_set_run bit_words bitset set_algebra
 expect 'it does not say why it ends' says 'this run stops here'
 rm "$room/stops"
 echo '// A comment.' >> "$repository/crates/bitset/src/main.rt"

@@ -155,7 +155,7 @@ make_older() {
 # An empty repository beside that from which libraries are copied.
 from="$room/from"
 mkdir -p "$from" "$room/theirs/crates"
-(cd "$top" && tar cf - --exclude=out add crates.txt tools LICENSE-* crates/sets crates/bit_{blocks,words,set,matrix}) | tar xf - -C "$from"
+(cd "$top" && tar cf - --exclude=out add crates.txt tools LICENSE-* crates/set_algebra crates/bit_{blocks,words,set,matrix}) | tar xf - -C "$from"
 # A few files of each say as much as all.
 find "$from/crates" -type f ! -iname 'lib.*' ! -name '*.md' ! -name bit_vec.rt -delete
 find "$from/crates" -mindepth 3 -type d -empty -delete
@@ -163,7 +163,7 @@ mkdir -p "$from/crates"/bit_{blocks,words,set,matrix}/{src,specs,proofs}
 cd "$room/theirs" || exit 1
 git init -q .
 mkdir -p crates/.add.Ab12Cd/src crates/.add.mine
-printf '%s\r\n' '# theirs' 'bit_set: sets bit_words bit_blocks serde_json thiserror' > crates.txt
+printf '%s\r\n' '# theirs' 'bit_set: set_algebra bit_words bit_blocks serde_json thiserror' > crates.txt
 ended=0
 "$from/add" > "$room/wrote" 2> "$room/said" || ended=$?
 expect "add beside a crates.txt with CRLF ends with $ended: $(cat "$room/said")" ends_with 0

@@ -1,7 +1,7 @@
 -- Whether a set that is made of bytes has a number.
 use Rattle.std.{proofs.{Common.{◌≡◌, ◌==◌, ℕ, ◌+◌, ◌-◌, ◌*◌, ◌/◌, ◌%◌, ◌<◌, ◌↔◌, IsTrue, Bool, false, List, get_or, div-add-mod', mod-lt, refl, sym, ap, ◌∙◌, arith}, lemmas.Bool.{eqb-true, eq-eqb}}, specs.Int.bit_at}
 use Rattle.bit_blocks.{specs.Bits.{blocks_of, digit_of, values_of_bytes}, proofs.{BitsLemmas.{blocks_of-digit, read_back}, ByteLemmas.{byte_value-is, get_or-values_of_bytes}}}
-use Rattle.sets.{specs.{Members.{HasBitsOf, HasLowBitsOf}, Sets.{has, elements}}, proofs.SetLemmas.has-elements}
+use Rattle.set_algebra.{specs.{Members.{HasBitsOf, HasLowBitsOf}, Sets.{has, elements}}, proofs.SetLemmas.has-elements}
 
 pub has-values_of_bytes : (bytes : List ℕ) (q r : ℕ) → r < 8 → IsTrue (has (elements (values_of_bytes bytes)) (8 * q + r)) ↔ (bit_at (get_or bytes q 0) (7 - r) ≡ 1)
 has-values_of_bytes bytes q r low =

@@ -4,7 +4,7 @@ use Rattle.std.proofs.Common.{Err}
 use Rattle.std.proofs.lemmas.{List.Elements.{All-nil, All-cons, All-head, All-tail}, Bool.Decides.nat_tests}
 use Rattle.bit_blocks.{specs.Bits.{Bits, blocks_for, capacity_of, true_end, whole_blocks}, proofs.BitsLemmas.{blocks_for-le, blocks_for-least, blocks_for-enough}}
 use Rattle.bit_words.{specs.Growth.Grows, proofs.CapacityLemmas.whole_blocks-fits}
-use Rattle.sets.{specs.Sets.{elements, elements_from, bound_of}, proofs.{SetLaws.slice_get-elements, SetLemmas.{IsAscending-elements, same_members}}}
+use Rattle.set_algebra.{specs.Sets.{elements, elements_from, bound_of}, proofs.{SetLaws.slice_get-elements, SetLemmas.{IsAscending-elements, same_members}}}
 use Rattle.bit_set.specs.{Capacity.{IsPastBlocks, Run}, declared.faults.SetError.{SetError, TheVariants.{Element, Length, Memory}}}
 
 -- more values take no less capacity

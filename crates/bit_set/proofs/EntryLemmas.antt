@@ -4,9 +4,9 @@ use Rattle.std.proofs.lemmas.{Bool.{cond_both, eqb-true, eqb-false, true≢false
 use Rattle.std.proofs.{Math.Nat.div-lt_iff_lt-mul}
 use Rattle.bit_blocks.{specs.Digits.is_one, proofs.{HighestLemmas.{highest_found, highest_within}, Masks.is_one-bit}}
 use Rattle.bit_words.specs.Nonzero.{nonzero_from}
-use Rattle.sets.specs.Sets.{AscendsFrom, elements_from, has}
+use Rattle.set_algebra.specs.Sets.{AscendsFrom, elements_from, has}
 use Rattle.bit_set.specs.{Indexes.{digits_from, indexes, indexes_of}, Walk.blocks_past}
-use Rattle.sets.proofs.SetLemmas.{AscendsFrom-lower, has-elements_from}
+use Rattle.set_algebra.proofs.SetLemmas.{AscendsFrom-lower, has-elements_from}
 use Rattle.bit_set.proofs.IndexLemmas.{AscendsFrom-indexes, indexes-apart, indexes-below, indexes-next, indexes-zero, value_in}
 use Rattle.bit_set.proofs.WalkLemmas.{values_of_blocks}
 

@@ -5,7 +5,7 @@ use Rattle.std.{proofs.{lemmas.{Bool.{cases_eq, Decides.nat_tests}, Nat.{Bits.bi
 use Rattle.bit_blocks.specs.{Bits.{blocks_for, blocks_of, digit_of}, Lowest.{IsLowest, IsCleared}, Digits.is_one, Storage.{value_at, IsZeroFrom}}
 use Rattle.bit_blocks.proofs.{BitsLemmas.{blocks_of-digit, whole_before}, Masks.is_one-zero}
 use Rattle.bit_blocks.proofs.StorageLemmas.{blocks-values_of, value_at-is, value_at-past, value_at-index, values_of-same}
-use Rattle.sets.proofs.SetLemmas.{get_or_padded}
+use Rattle.set_algebra.proofs.SetLemmas.{get_or_padded}
 use Rattle.bit_set.specs.{Json.HasZeroTail, Entries.IsPartlyPut}
 
 -- ---- one block

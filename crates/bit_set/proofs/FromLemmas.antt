@@ -5,13 +5,13 @@ use Rattle.std.proofs.lemmas.{Bool.Decides.nat_tests, List.{append-nil, drop-map
 use Rattle.std.proofs.lemmas.{Nat.Bits.bit_at-zero}
 use Rattle.bit_blocks.specs.{Bits.{blocks_for, blocks_of}, Digits.is_one}
 use Rattle.bit_words.specs.Nonzero.{Hand, Nonzeros, StartsPast}
-use Rattle.sets.specs.Sets.{AscendsFrom, IsAscending, elements_from, elements, those_from}
+use Rattle.set_algebra.specs.Sets.{AscendsFrom, IsAscending, elements_from, elements, those_from}
 use Rattle.bit_set.specs.Indexes.{indexes, indexes_of, left_between, seen_of, values_in, IsSparseWalk}
 use Rattle.bit_set.specs.Walk.{Walk, IsAtStart, IsAtStartFrom, IsAtFirstBlock, IsAtBlockOf, blocks_past}
 use Rattle.bit_set.proofs.IndexLemmas.{indexes-apart, indexes-below, indexes-next, indexes-zero, value_in, values_in-blocks_of}
-use Rattle.sets.proofs.SetLemmas.{AscendsFrom-elements_from, AscendsFrom-filter, AscendsFrom-lower, has-filter, IsAscending-elements, has-below, has-elements, has-elements_from, same_members}
+use Rattle.set_algebra.proofs.SetLemmas.{AscendsFrom-elements_from, AscendsFrom-filter, AscendsFrom-lower, has-filter, IsAscending-elements, has-below, has-elements, has-elements_from, same_members}
 use Rattle.bit_set.proofs.EntryLemmas.{ascends_entries, blocks_of_entries, each_entry, indexes_of-nonzero, passed_in_block}
-use Rattle.sets.proofs.SplitLemmas.{all_from}
+use Rattle.set_algebra.proofs.SplitLemmas.{all_from}
 use Rattle.bit_set.proofs.{SparseLemmas.whole_index, WalkLemmas.{IsWalkable-values_of_blocks, elements-values_of_blocks, values_of_blocks, length-blocks}}
 
 -- the block of a number, or one before, begins at the number or before

@@ -2,12 +2,12 @@
 use Rattle.std.proofs.Common.{◌≡◌, ℕ, ◌-◌, ◌++◌, max, replicate, length-append, Bool, false, List, [], length, take, ap, ◌∙◌, arith, ⊎_elim, length-take, get_or-take}
 use Rattle.std.proofs.lemmas.{Bool.cases_lt, List.{get_or_past, length-replicate}}
 use Rattle.bit_blocks.{specs.{Merges.merge_of, declared.block.merge.Merge.TheVariants.{Difference, Intersection, Union}}, proofs.MergeLemmas.{get_or-merged, length-merged}}
-use Rattle.sets.specs.{Members.{IsDifference, IsUnionWithIntersection}, Sets.{difference, elements, has, intersection, union}}
-use Rattle.sets.proofs.AlgebraLemmas.{elements-lengthened, has-difference, has-intersection, has-union}
-use Rattle.sets.proofs.SetLaws.{IsAscending-put_all}
+use Rattle.set_algebra.specs.{Members.{IsDifference, IsUnionWithIntersection}, Sets.{difference, elements, has, intersection, union}}
+use Rattle.set_algebra.proofs.AlgebraLemmas.{elements-lengthened, has-difference, has-intersection, has-union}
+use Rattle.set_algebra.proofs.SetLaws.{IsAscending-put_all}
 use Rattle.bit_set.proofs.ReportedLemmas.{elements-except}
-use Rattle.sets.proofs.SetLemmas.{AscendsFrom-filter, IsAscending-elements, elements-by_members, has-elements}
-use Rattle.sets.proofs.SetLemmas.{same_members}
+use Rattle.set_algebra.proofs.SetLemmas.{AscendsFrom-filter, IsAscending-elements, elements-by_members, has-elements}
+use Rattle.set_algebra.proofs.SetLemmas.{same_members}
 
 -- ---- a union with an intersection
 

@@ -7,8 +7,8 @@ use Rattle.std.proofs.lemmas.List.{append-nil, length-append, get_or_append_left
 use Rattle.std.{proofs.{lemmas.List.FromFn.{length-map-range_with_len, get_or-map-range_with_len}, Math.Nat.{div-add-mod', mod-lt}}, specs.{Int.bit_at, List.{sum_by, range_with_len, count_by}}}
 use Rattle.bit_blocks.proofs.{BitsLemmas.{blocks_of-digit, read_back}, OnesLemmas.ones_are_digits, Masks.{is_one-bit, is_one-zero}}
 use Rattle.bit_blocks.specs.{Bits.blocks_of, Highest.IsHighest, Lowest.{IsLowest, IsCleared}, Digits.is_one}
-use Rattle.sets.proofs.SetLemmas.{AscendsFrom-elements_from, elements-alike, length-elements-le, length-elements_from_both, length-elements}
-use Rattle.sets.specs.Sets.{AscendsFrom, elements_from, elements}
+use Rattle.set_algebra.proofs.SetLemmas.{AscendsFrom-elements_from, elements-alike, length-elements-le, length-elements_from_both, length-elements}
+use Rattle.set_algebra.specs.Sets.{AscendsFrom, elements_from, elements}
 use Rattle.bit_set.specs.Indexes.{digits_from}
 use Rattle.bit_set.specs.Indexes.{values_in, indexes}
 

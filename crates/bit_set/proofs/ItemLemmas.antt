@@ -2,11 +2,11 @@
 use Rattle.std.proofs.Common.{◌<◌, ◌≤◌, ◌≡◌, ◌≢◌, ℕ, ◌+◌, ◌↔◌, max, Bool, true, false, ◌||◌, List, [], ◌∷◌, ◌++◌, length, take, replicate, sym, ap, ◌∙◌, arith, length-take, Result, Ok, Err, OnOk}
 use Rattle.std.proofs.lemmas.{Bool.Decides.nat_tests, List.{get_or-take, get_or_past}}
 use Rattle.bit_blocks.specs.Bits.{Bits}
-use Rattle.sets.specs.{Choices.IsGreatest, Members.IsSameSet, Sets.{elements, has, put, put_all, bound_of}}
+use Rattle.set_algebra.specs.{Choices.IsGreatest, Members.IsSameSet, Sets.{elements, has, put, put_all, bound_of}}
 use Rattle.bit_set.specs.{Effects.TakesIn, Faults.IsInsertFault}
 use Rattle.bit_set.specs.declared.faults.SetError.{SetError, TheVariants.{Element, Length}}
-use Rattle.sets.proofs.{SizeLemmas.put_all-append, MemberLemmas.members_put_all, SetLaws.{bound_of-above, bound_of-least, has-put_all}, ValueLemmas.has-within}
-use Rattle.sets.proofs.SetLemmas.{elements-alike, elements-padded, has-elements}
+use Rattle.set_algebra.proofs.{SizeLemmas.put_all-append, MemberLemmas.members_put_all, SetLaws.{bound_of-above, bound_of-least, has-put_all}, ValueLemmas.has-within}
+use Rattle.set_algebra.proofs.SetLemmas.{elements-alike, elements-padded, has-elements}
 use Rattle.bit_words.specs.{Bounds.greatest, Growth.Grows}
 
 pub bound_of-push : (items : List ℕ) (n : ℕ) → bound_of (items ++ n ∷ []) ≡ max (bound_of items) (n + 1)

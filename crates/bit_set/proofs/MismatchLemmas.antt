@@ -6,8 +6,8 @@ use Rattle.std.{specs.Cmp.Lexicographic.bytes_decides}
 use Rattle.std.specs.{Prelude.IsTrue, Int.bit_at}
 use Rattle.bit_blocks.{specs.{Bits.{blocks_of, digit_of}, Mismatches.{IsFirstBlockMismatch, IsFirstNonzeroBlock, IsLowestMismatch}}, proofs.BitsLemmas.{blocks_of-digit, blocks_of-lt, read_back}}
 use Rattle.bit_blocks.proofs.LowestLemmas.{lowest_found}
-use Rattle.sets.specs.{Sets.{elements, has}, Mismatches.IsFirstMismatch, Order.same_sets}
-use Rattle.sets.proofs.{OrderLemmas.same_where_all_agree, SetLemmas.has-elements, SubsetLemmas.same_tests, ValueLemmas.has-within}
+use Rattle.set_algebra.specs.{Sets.{elements, has}, Mismatches.IsFirstMismatch, Order.same_sets}
+use Rattle.set_algebra.proofs.{OrderLemmas.same_where_all_agree, SetLemmas.has-elements, SubsetLemmas.same_tests, ValueLemmas.has-within}
 
 -- ---- the blocks of a list of truth values
 

@@ -5,9 +5,9 @@ use Rattle.std.proofs.lemmas.List.{append_assoc, drop_all, drop-append-le, drop-
 use Rattle.std.proofs.Math.Seq.{drop-append_seam, drop-drop}
 use Rattle.std.specs.{Iterator.YieldsLast, List.last_or}
 use Rattle.bit_words.specs.Nonzero.{Hand, Nonzeros, SkipsBlocks}
-use Rattle.sets.specs.Sets.{AscendsFrom, IsAscending}
+use Rattle.set_algebra.specs.Sets.{AscendsFrom, IsAscending}
 use Rattle.bit_set.specs.{Indexes.{indexes, indexes_of, left_between, seen_of, IsSparseWalk, Passes}, Walk.{Walk, Advances, PullsBlocks, PullsBlocksAlong, Skips}}
-use Rattle.sets.proofs.SetLemmas.{AscendsFrom-lower}
+use Rattle.set_algebra.proofs.SetLemmas.{AscendsFrom-lower}
 use Rattle.bit_set.proofs.{IndexLemmas.{indexes-none, length-indexes}, LeftLemmas.ones_of_entries, PartLaws.rank_of, PartLemmas.indexes_of-append}
 
 -- ---- lists

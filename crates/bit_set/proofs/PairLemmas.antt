@@ -4,11 +4,11 @@ use Rattle.std.{proofs.{Math.{Nat.mul-le-mul_right, Bool.and_comm}, lemmas.List.
 use Rattle.bit_blocks.specs.{Digits.is_one, Merges.{merge_of_values, merge_of}, declared.block.merge.Merge.{Merge, TheVariants.Intersection}, Bits.{blocks_of, blocks_for}}
 use Rattle.bit_words.specs.Source.{Source, PullsIf}
 use Rattle.bit_blocks.proofs.{Masks.is_one-zero, MergeLemmas.length-merged, BitsLemmas.blocks_for-le}
-use Rattle.sets.specs.Sets.{elements, intersection, merge_of_sets, has}
+use Rattle.set_algebra.specs.Sets.{elements, intersection, merge_of_sets, has}
 use Rattle.bit_set.specs.Indexes.{digits_from, values_in, Ahead, PullsBlock, PullsBlockIf, IsWalkable, IsMergedBlock, IsMergedPull}
-use Rattle.sets.proofs.AlgebraLemmas.{elements-merged, IsAscending-merge_of_sets, has-intersection}
+use Rattle.set_algebra.proofs.AlgebraLemmas.{elements-merged, IsAscending-merge_of_sets, has-intersection}
 use Rattle.bit_set.proofs.WalkLemmas.{length-values_of_blocks, length-blocks, elements-values_of_blocks, IsWalkable-of, All-pulled}
-use Rattle.sets.proofs.SetLemmas.{IsAscending-elements, length-elements-le, same_members}
+use Rattle.set_algebra.proofs.SetLemmas.{IsAscending-elements, length-elements-le, same_members}
 
 -- ---- what two lists of blocks have
 

@@ -3,10 +3,10 @@ use Rattle.std.proofs.Common.{◌≡◌, ℕ, zero, suc, ◌+◌, ◌≤◌, ◌
 use Rattle.std.proofs.Common.{arith}
 use Rattle.std.proofs.lemmas.{Bool.{cases_lt, Decides.nat_tests}, List.Folds.{list_any-append}}
 use Rattle.bit_blocks.specs.Ranges.{in_range}
-use Rattle.sets.specs.{Ranges.those_in_range, Sets.{AscendsFrom, IsAscending, has, those_below, those_from}}
-use Rattle.sets.proofs.RangeLemmas.{AscendsFrom-joined, AscendsFrom-those_from}
+use Rattle.set_algebra.specs.{Ranges.those_in_range, Sets.{AscendsFrom, IsAscending, has, those_below, those_from}}
+use Rattle.set_algebra.proofs.RangeLemmas.{AscendsFrom-joined, AscendsFrom-those_from}
 use Rattle.bit_set.proofs.{MissingLaws.in_range_from_0, PartLemmas.both_tests}
-use Rattle.sets.proofs.SetLemmas.{AscendsFrom-filter, has-below, has-filter, has-first, same_members}
+use Rattle.set_algebra.proofs.SetLemmas.{AscendsFrom-filter, has-below, has-filter, has-first, same_members}
 
 pub parts_of_sets : (s : List ℕ) (a b : ℕ) → IsAscending s → a ≤ b → those_below s a ++ (those_in_range s a b ++ those_from s b) ≡ s
 parts_of_sets s a b up to =

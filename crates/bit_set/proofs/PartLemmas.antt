@@ -5,10 +5,10 @@ use Rattle.std.proofs.lemmas.Bool.{cond_both, eqb-false, cases_lt, Decides.nat_t
 use Rattle.std.proofs.lemmas.List.{append-nil, append_assoc, map-append, Elements.{All-nil, All-cons, All-head, All-tail, All-filter, filter-append}, Sums.{count_by-le-length, length-filter}}
 use Rattle.bit_blocks.specs.{Bits.blocks_for, Ranges.in_range, Digits.is_one}
 use Rattle.bit_words.specs.Nonzero.{CutsAt, Hand, Nonzeros, nonzero_from}
-use Rattle.sets.specs.{Sets.{AscendsFrom, IsAscending, elements, elements_from, those_below, those_from}, Ranges.those_in_range}
+use Rattle.set_algebra.specs.{Sets.{AscendsFrom, IsAscending, elements, elements_from, those_below, those_from}, Ranges.those_in_range}
 use Rattle.bit_set.specs.{Indexes.{digits_from, indexes, indexes_of, left_between, seen_of, IsSparseWalk}, Walk.{blocks_past, IsAtBlockOf, IsAtBlocksOf, IsAtStartOfPart}}
 use Rattle.bit_set.proofs.{EntryLemmas.{blocks_of_entry, passed_in_block, some_index}, IndexLemmas.{AscendsFrom-indexes, indexes-below, indexes-none}}
-use Rattle.sets.proofs.SetLemmas.{AscendsFrom-filter, AscendsFrom-reach, IsAscending-elements, has-filter, same_members}
+use Rattle.set_algebra.proofs.SetLemmas.{AscendsFrom-filter, AscendsFrom-reach, IsAscending-elements, has-filter, same_members}
 use Rattle.bit_set.proofs.{FromLemmas.BeginsFrom, SparseLemmas.{ends_apart, whole_index}}
 
 -- ---- those of a block below a number

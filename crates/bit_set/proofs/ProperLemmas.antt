@@ -4,8 +4,8 @@ use Rattle.std.proofs.lemmas.{Bool.{cases_lt, cases_Bool, false≢true, or_right
 use Rattle.std.{proofs.Math.Nat.{div-add-mod', mod-lt}, specs.{Prelude.IsTrue, Cmp.Lexicographic.bytes_decides, List.list_all}}
 use Rattle.bit_blocks.specs.{BlockMerges.MergesToFalse, Bits.blocks_of, Mismatches.IsFirstBlockMismatch, Storage.value_at, declared.block.merge.Merge.TheVariants.Difference}
 use Rattle.bit_blocks.proofs.StorageLemmas.{value_at-is, value_at-index}
-use Rattle.sets.specs.{Runs.IsProperSubset, Sets.{elements, has, is_subset}}
-use Rattle.sets.proofs.{SetLemmas.{IsAscending-elements, has-first}, SubsetLemmas.{is_subset-both_ways, is_subset-members, same_tests}}
+use Rattle.set_algebra.specs.{Runs.IsProperSubset, Sets.{elements, has, is_subset}}
+use Rattle.set_algebra.proofs.{SetLemmas.{IsAscending-elements, has-first}, SubsetLemmas.{is_subset-both_ways, is_subset-members, same_tests}}
 use Rattle.bit_set.proofs.MismatchLemmas.{has-number, same_by_blocks}
 
 -- the blocks from one on have the values from its first on

@@ -7,10 +7,10 @@ use Rattle.std.specs.{Prelude.{codes, decimal}, Char.is_ascii_digit, List.{All, 
 use Rattle.std.specs.declared.ops.Range.{Range}
 use Rattle.bit_words.specs.Bounds.{greatest}
 use Rattle.bit_blocks.specs.Ranges.{in_range}
-use Rattle.sets.specs.Runs.{AreApartFrom, in_ranges, runs_of}
+use Rattle.set_algebra.specs.Runs.{AreApartFrom, in_ranges, runs_of}
 use Rattle.bit_set.specs.{RangeReading.{before_ranges, items_of, number_of, range_between, range_of, ranges_in, ranges_of}, RangeTexts.{ranges_text, run_text}}
-use Rattle.sets.specs.Sets.{IsAscending, has}
-use Rattle.sets.proofs.RunLemmas.{runs_are}
+use Rattle.set_algebra.specs.Sets.{IsAscending, has}
+use Rattle.set_algebra.proofs.RunLemmas.{runs_are}
 use Rattle.bit_set.proofs.RangeTextLemmas.{ends_alone, ends_apart, more_items, one_item}
 
 own : IsNumeralModel (λ ds. all_ascii_digits ds ≡ true) (digits_value 10)

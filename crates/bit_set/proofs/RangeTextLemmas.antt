@@ -9,7 +9,7 @@ use Rattle.std.specs.{Str.all_ascii_digits, Str.Parse.digits_value}
 use Rattle.std.specs.declared.ops.Range.{Range}
 use Rattle.bit_words.specs.Bounds.{greatest}
 use Rattle.bit_set.specs.RangeReading.{IsRangesFault, before_ranges, cut_at, end_of, items_left, items_of, number_of, range_between, range_of, ranges_in, ranges_of, without_space, without_spaces}
-use Rattle.sets.specs.{Members.{HasNone, UpdatesRange}, Ranges.span_end, Runs.in_ranges, Sets.has}
+use Rattle.set_algebra.specs.{Members.{HasNone, UpdatesRange}, Ranges.span_end, Runs.in_ranges, Sets.has}
 use Rattle.bit_set.specs.declared.range_texts.RangesError.{RangesError, TheVariants.{Memory, Number, Text}}
 
 -- ---- numbers

@@ -5,10 +5,10 @@ use Rattle.std.proofs.Common.{arith, ⊎_elim, Result, Ok, Err, get_or-take}
 use Rattle.std.proofs.lemmas.{Bool.{cases_lt}, List.{get_or_past, length-replicate}}
 use Rattle.std.specs.{Cmp.Lexicographic.bytes_decides, List.list_all, Prelude.{IfOk, OnOk}}
 use Rattle.bit_blocks.{specs.{Merges.merge_of, declared.block.merge.Merge.TheVariants.{Difference, Symmetric, Union}}, proofs.MergeLemmas.{get_or-merged, length-merged}}
-use Rattle.sets.specs.{Members.IsUnionWithDifference, Order.same_sets, Sets.{IsAscending, difference, elements, has, intersection, is_disjoint, is_subset, symmetric_difference, those_new, union}}
-use Rattle.sets.proofs.{AlgebraLemmas.{IsAscending-merge_of_sets, has-difference, has-symmetric, has-union}, MemberLemmas.none_from_members, SetLaws.{IsAscending-put_all, same_values}}
-use Rattle.sets.proofs.SetLemmas.{AscendsFrom-filter, elements-padded, IsAscending-elements, elements-by_members, has-elements, has-filter, same_members}
-use Rattle.sets.proofs.{SizeLemmas.{has-those_new, length-put_all}, SubsetLemmas.{all_pass, each_passes, is_subset-members, same_tests}}
+use Rattle.set_algebra.specs.{Members.IsUnionWithDifference, Order.same_sets, Sets.{IsAscending, difference, elements, has, intersection, is_disjoint, is_subset, symmetric_difference, those_new, union}}
+use Rattle.set_algebra.proofs.{AlgebraLemmas.{IsAscending-merge_of_sets, has-difference, has-symmetric, has-union}, MemberLemmas.none_from_members, SetLaws.{IsAscending-put_all, same_values}}
+use Rattle.set_algebra.proofs.SetLemmas.{AscendsFrom-filter, elements-padded, IsAscending-elements, elements-by_members, has-elements, has-filter, same_members}
+use Rattle.set_algebra.proofs.{SizeLemmas.{has-those_new, length-put_all}, SubsetLemmas.{all_pass, each_passes, is_subset-members, same_tests}}
 
 -- ---- a call that succeeded
 

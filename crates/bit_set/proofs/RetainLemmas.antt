@@ -7,13 +7,13 @@ use Rattle.std.proofs.lemmas.List.FromFn.{get_or-map-range_with_len, length-map-
 use Rattle.std.specs.{Bool.MatchBool, List.{items_where_true, Retain.{IsFiltered, ReturnsInTurn}}}
 use Rattle.bit_blocks.{proofs.BitsLemmas.block_past, specs.Digits.is_one}
 use Rattle.bit_words.specs.Kept.{KeepsInBlock}
-use Rattle.sets.specs.Sets.{AscendsFrom, IsAscending, elements, has, those_from, without}
+use Rattle.set_algebra.specs.Sets.{AscendsFrom, IsAscending, elements, has, those_from, without}
 use Rattle.bit_set.specs.{Indexes.{digits_from, indexes}, Retained.{HasTested, ones}}
-use Rattle.sets.proofs.RangeLemmas.{AscendsFrom-joined, AscendsFrom-those_from}
+use Rattle.set_algebra.proofs.RangeLemmas.{AscendsFrom-joined, AscendsFrom-those_from}
 use Rattle.bit_set.proofs.IndexLemmas.{AscendsFrom-indexes}
-use Rattle.sets.proofs.SetLemmas.{AscendsFrom-filter, AscendsFrom-lower, IsAscending-elements, elements-kept, has-below, has-elements, has-elements_from, has-filter, has-first, has-without}
-use Rattle.sets.proofs.SetLemmas.{same_members, same_members_from}
-use Rattle.sets.proofs.{SizeLemmas.without-first, ValueLemmas.has-past}
+use Rattle.set_algebra.proofs.SetLemmas.{AscendsFrom-filter, AscendsFrom-lower, IsAscending-elements, elements-kept, has-below, has-elements, has-elements_from, has-filter, has-first, has-without}
+use Rattle.set_algebra.proofs.SetLemmas.{same_members, same_members_from}
+use Rattle.set_algebra.proofs.{SizeLemmas.without-first, ValueLemmas.has-past}
 
 -- ---- what is kept of a list
 

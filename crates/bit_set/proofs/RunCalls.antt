@@ -2,8 +2,8 @@
 use Rattle.std.proofs.Common.{◌≡◌, ℕ, not, ◌&&◌, List, [], Option, Some, None, sym, ◌∙◌}
 use Rattle.std.specs.{Option.unwrap_or, declared.ops.Range.Range}
 use Rattle.bit_blocks.specs.Ranges.{in_range}
-use Rattle.sets.specs.{Members.TakesLeast, Ranges.those_in_range, Runs.IsFirstRun, Sets.{IsAscending, has}}
-use Rattle.sets.proofs.RunLemmas.{ends_before, ends_with_range}
+use Rattle.set_algebra.specs.{Members.TakesLeast, Ranges.those_in_range, Runs.IsFirstRun, Sets.{IsAscending, has}}
+use Rattle.set_algebra.proofs.RunLemmas.{ends_before, ends_with_range}
 use Rattle.bit_set.specs.Missing.{MissingWalk, PassesMembers}
 
 module _ (s : List ℕ) (start end : ℕ) (up : IsAscending s) (missing : List ℕ) (first : ℕ) (out : (n : ℕ) → has missing n ≡ (in_range first end n && not (has s n))) (t : List ℕ) (least : TakesLeast (those_in_range s start end) first t) where

@@ -7,9 +7,9 @@ use Rattle.std.proofs.lemmas.List.{append-nil, append_assoc, map-append, Element
 use Rattle.std.proofs.Math.Nat.{mul-div_cancel}
 use Rattle.bit_blocks.specs.{Highest.IsHighest, Lowest.{IsLowest, IsCleared}}
 use Rattle.bit_words.specs.Nonzero.{Hand, Nonzeros, PullsLast, PullsNonzero, Refills, RunsOut, TakesFirst, TakesLast}
-use Rattle.sets.specs.Sets.{AscendsFrom, IsAscending}
+use Rattle.set_algebra.specs.Sets.{AscendsFrom, IsAscending}
 use Rattle.bit_set.specs.{Indexes.{indexes, indexes_of, left_between, seen_of, IsSparseWalk}, Walk.{Walk, Advances, AdvancesBack, PullsBlocks, PullsBlocksBack}}
-use Rattle.sets.proofs.{MemberLemmas.{takes_greatest, takes_least}, SetLemmas.{AscendsFrom-init, AscendsFrom-lower, AscendsFrom-reach}}
+use Rattle.set_algebra.proofs.{MemberLemmas.{takes_greatest, takes_least}, SetLemmas.{AscendsFrom-init, AscendsFrom-lower, AscendsFrom-reach}}
 use Rattle.bit_set.proofs.IndexLemmas.{indexes-none, indexes-lowest, indexes-highest}
 
 pub whole_index : (w q : ℕ) → 0 < w → q * w / w ≡ q

@@ -5,9 +5,9 @@ use Rattle.std.proofs.lemmas.Iterator.{Consumers.{YieldsList-from_shown, max_fro
 use Rattle.std.specs.{Fn.{Mut, CalledAt}, Option.IfSome, List.AllZip}
 use Rattle.std.specs.{Ordering.{max_by_ordering, min_by_ordering, nat_cmp}, Cmp.Lexicographic.pointwise}
 use Rattle.std.specs.Iterator.{Adapters.{rev_source, rev_steps}, AlwaysYields, YieldsThen, ComparesItemsByEq, FindsItem, PicksByCmp}
-use Rattle.sets.specs.{Choices.{IsGreatest, IsLeast, IsLeastPassing}, Members.HasNone, Order.same_sets, Sets.{IsAscending, has}}
+use Rattle.set_algebra.specs.{Choices.{IsGreatest, IsLeast, IsLeastPassing}, Members.HasNone, Order.same_sets, Sets.{IsAscending, has}}
 use Rattle.bit_set.specs.Walk.{TwoSetWalk, BoundedWalk, Walk, AdvancesBack, AdvancesByEach, AdvancesWithBound}
-use Rattle.sets.proofs.TestLemmas.{finds, greatest_of, least_of}
+use Rattle.set_algebra.proofs.TestLemmas.{finds, greatest_of, least_of}
 
 -- ---- what a walk gives
 

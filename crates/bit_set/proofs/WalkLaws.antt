@@ -4,13 +4,13 @@ use Rattle.std.proofs.Common.{nat_lt, if◌then◌else◌, map, div-add-mod', ap
 use Rattle.std.proofs.{Math.{Bool.{or-false, and-false}, Nat.{mod-lt, lt_of_mul-lt-mul_left}, Seq.{drop-append_seam, take-append_seam}}, lemmas.{Nat.le-div, Bool.{ne_eqb, cond_both, ltb-true}}}
 use Rattle.std.{proofs.lemmas.{Bool.Decides.nat_tests, List.append-nil}, specs.Iterator.{Yields, YieldsFirst, YieldsThen, Drains}}
 use Rattle.bit_blocks.specs.{Bits.blocks_for, declared.block.merge.Merge.Merge}
-use Rattle.sets.specs.Sets.{IsAscending, has, elements, put_all, merge_of_sets, AscendsFrom}
+use Rattle.set_algebra.specs.Sets.{IsAscending, has, elements, put_all, merge_of_sets, AscendsFrom}
 use Rattle.bit_set.specs.Agreement.{WalksAgree}
 use Rattle.bit_set.specs.Walk.{Walk, TwoSetWalk, Advances, AdvancesBack, CallsEnd, GivesFromEnds, in_order, PullsBlocks, PullsBlocksBack, PullsEachBlock, IsAtFirstBlock, IsAtFirstBlocks}
 use Rattle.bit_set.specs.Walk.{AdvancesByEach, IsWalkedOut, IsWalkedOutByEach, IsAtStart}
-use Rattle.sets.proofs.{SetLemmas.{same_members, IsAscending-elements}, SetLaws.{has-put_all, IsAscending-put_all, put_all-items}}
+use Rattle.set_algebra.proofs.{SetLemmas.{same_members, IsAscending-elements}, SetLaws.{has-put_all, IsAscending-put_all, put_all-items}}
 use Rattle.bit_set.specs.Walk.{StartsOverTwo, WalksOverTwo, blocks_past}
-use Rattle.sets.proofs.AlgebraLemmas.{IsAscending-merge_of_sets}
+use Rattle.set_algebra.proofs.AlgebraLemmas.{IsAscending-merge_of_sets}
 use Rattle.bit_set.proofs.SparseLemmas.{whole_index}
 
 -- ---- calls of any kind

@@ -6,9 +6,9 @@ use Rattle.std.specs.{Prelude.IfSome, Option.{SomeIff, unwrap_or}}
 use Rattle.std.specs.Iterator.{UpTo, at_most, YieldsFirst}
 use mir.Val.{bool_byte}
 use Rattle.bit_blocks.{specs.{Bits.{blocks_of, blocks_for}, Lowest.{IsLowest, IsCleared}}, proofs.BitsLemmas.length-blocks_of}
-use Rattle.sets.specs.Sets.{elements_from, elements}
+use Rattle.set_algebra.specs.Sets.{elements_from, elements}
 use Rattle.bit_set.specs.{Walk.{GoesOn, TwoSetWalk}, Indexes.{digits_from, values_in, indexes, Ahead, PullsBlock, PullsBlockIf, IsWalkable, CanWalk, IsWalk}}
-use Rattle.sets.proofs.SetLemmas.{length-elements-le}
+use Rattle.set_algebra.proofs.SetLemmas.{length-elements-le}
 use Rattle.bit_set.proofs.IndexLemmas.{indexes-zero, indexes-next, indexes-lowest, length-digits_from, length-values_in, length-indexes-le, elements-blocks_of}
 use Rattle.bit_set.proofs.IndexLemmas.{elements-below}
 

@@ -1,7 +1,7 @@
 -- What several items do to a list of truth values.
 use Rattle.std.specs.Prelude.{◌≡◌, ℕ, ◌≤◌, max, Bool, List, length}
 use Rattle.bit_words.specs.Bounds.{greatest}
-use Rattle.sets.specs.{Members.IsUnion, Sets.{elements, put_all, bound_of}}
+use Rattle.set_algebra.specs.{Members.IsUnion, Sets.{elements, put_all, bound_of}}
 
 -- The items came into the set that the list keeps, and the list is just as long as they ask. None of them is the
 -- greatest `usize`.

@@ -3,7 +3,7 @@ use Rattle.std.specs.Prelude.{◌≡◌, ℕ, ◌+◌, ◌-◌, ◌*◌, ◌/◌
 use Rattle.std.specs.List.{range_with_len, flat_map}
 use Rattle.bit_blocks.specs.{Digits.is_one, Merges.{merge_of_values}, declared.block.merge.Merge.Merge}
 use Rattle.bit_words.specs.Nonzero.{Hand, Nonzeros}
-use Rattle.sets.specs.Sets.{AscendsFrom, IsAscending, elements_from, elements}
+use Rattle.set_algebra.specs.Sets.{AscendsFrom, IsAscending, elements_from, elements}
 use Rattle.bit_set.specs.Walk.{Walk}
 
 -- the w binary digits of m from digit a on, as truth values

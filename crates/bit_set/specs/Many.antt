@@ -1,7 +1,7 @@
 -- What is in some, and what is in each, of many sets.
 use Rattle.std.specs.{Prelude.{◌≡◌, ℕ, Bool, false, max, min, List, [], ◌∷◌, get_or, length}, List.{fold, list_all, list_any}}
 use Rattle.bit_blocks.specs.{Bits.Bits, Merges.merge_of_values, declared.block.merge.Merge.Merge}
-use Rattle.sets.specs.Sets.{elements, has, intersection, union}
+use Rattle.set_algebra.specs.Sets.{elements, has, intersection, union}
 
 -- what is in some of the sets
 abbrev pub union_all : List (List ℕ) → List ℕ

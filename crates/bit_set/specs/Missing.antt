@@ -1,6 +1,6 @@
 -- The walk over the numbers of a range that are not in a set.
 use Rattle.std.specs.{Prelude.{◌≡◌, ℕ, ◌+◌, ◌-◌, ◌*◌, ◌/◌, ◌^◌, ◌<◌, ◌≤◌, min, not, Bool, false, List, All, get_or, length, map, ⊤, Option, MatchOption}, Iterator.YieldsFirst, List.range_with_len}
-use Rattle.sets.specs.{Members.TakesLeast, Ranges.span, Sets.{difference, elements}}
+use Rattle.set_algebra.specs.{Members.TakesLeast, Ranges.span, Sets.{difference, elements}}
 use Rattle.bit_set.specs.Indexes.{indexes}
 
 -- What contracts see of it: the numbers that are left, the first number of the block in hand, and the end of the range.

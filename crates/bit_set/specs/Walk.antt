@@ -5,7 +5,7 @@ use Rattle.std.specs.Iterator.{YieldsFirst, YieldsLast, YieldsThen}
 use Rattle.std.specs.Iterator.{Drains}
 use Rattle.bit_words.specs.Bounds.{greatest}
 use Rattle.bit_blocks.specs.{Bits.blocks_for, declared.block.merge.Merge.Merge}
-use Rattle.sets.specs.{Choices.IsSelected, Members.{TakesGreatest, TakesLeast}, Ranges.those_in_range, Sets.{elements, merge_of_sets, those_from}}
+use Rattle.set_algebra.specs.{Choices.IsSelected, Members.{TakesGreatest, TakesLeast}, Ranges.those_in_range, Sets.{elements, merge_of_sets, those_from}}
 
 -- What contracts see of a walk over a set: the elements that are left, how often its block source gave it a block, or
 -- the end, the first number of the block in hand, and how many blocks are past that block, up to the one in hand at

@@ -1,6 +1,6 @@
 //! The texts of a set.
 ghost use Rattle.std.specs.{Prelude.{◌++◌, Some, codes, decimal}, Fmt.DisplaysOnOk, List.flat_map};
-ghost use Rattle.sets.specs.{Sets.elements, Texts.items_text};
+ghost use Rattle.set_algebra.specs.{Sets.elements, Texts.items_text};
 
 use crate::{BitBlock, BitSet, Iter};
 use std::fmt;

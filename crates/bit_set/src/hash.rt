@@ -1,6 +1,6 @@
 //! The hash of a set, which depends only on its elements.
 ghost use Rattle.std.{specs.Cmp.Lexicographic.bytes_decides, proofs.Common.ap};
-ghost use Rattle.sets.specs.{Sets.elements, Order.fed_of_set};
+ghost use Rattle.set_algebra.specs.{Sets.elements, Order.fed_of_set};
 
 use crate::{BitBlock, BitSet};
 use std::hash::{Hash, Hasher};

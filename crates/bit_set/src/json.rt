@@ -3,7 +3,7 @@
 ghost use Rattle.std.specs.Prelude.{◌≡◌, Bool, List, [], alloc_error, IfErr, IfOk, IsErrOf, IsOk, length};
 ghost use Rattle.bit_blocks.specs.Bits.{blocks_for, blocks_of, capacity_of};
 ghost use Rattle.serde_json.specs.View.{view};
-ghost use Rattle.sets.specs.{Members.IsSameSet, Sets.elements};
+ghost use Rattle.set_algebra.specs.{Members.IsSameSet, Sets.elements};
 ghost use Rattle.bit_set.specs.{Json.{IsFault, IsFirstFault, Spells}, declared.json.JsonError.JsonError};
 
 use crate::BitSet;

@@ -6,14 +6,14 @@ ghost use Rattle.std.specs.{Cmp.{IsEquivalence, IsTotalOrder}, Ordering.nat_cmp,
 ghost use Rattle.std.specs.FinSet as set;
 ghost use Rattle.bit_blocks.specs.{Bits.{blocks_for, blocks_of, true_end}, Merges.{merge_of_values, merge_of}, declared.block.merge.Merge.Merge};
 ghost use Rattle.serde_json.specs.Data.{Data};
-ghost use Rattle.sets.specs.Sets.{IsAscending, has, put, put_all, without, those_below, those_from, those_new, elements, bound_of, union, intersection, difference, symmetric_difference};
-ghost use Rattle.sets.specs.Sets.{merge_of_sets, is_subset, is_disjoint};
+ghost use Rattle.set_algebra.specs.Sets.{IsAscending, has, put, put_all, without, those_below, those_from, those_new, elements, bound_of, union, intersection, difference, symmetric_difference};
+ghost use Rattle.set_algebra.specs.Sets.{merge_of_sets, is_subset, is_disjoint};
 ghost use Rattle.bit_set.specs.{Agreement.WalksAgree, Changes.{Change, Changes, Event, Happens, outcomes, set_after, Outcome.{Done, NoMemory}}, Effects.TakesIn};
-ghost use Rattle.sets.specs.Choices.{IsGreatest, IsLeast, IsLeastPassing};
-ghost use Rattle.sets.specs.{Members.{HasNone, IsSameSet, TakesLeast}, Ranges.{span, span_end, those_in_range}};
+ghost use Rattle.set_algebra.specs.Choices.{IsGreatest, IsLeast, IsLeastPassing};
+ghost use Rattle.set_algebra.specs.{Members.{HasNone, IsSameSet, TakesLeast}, Ranges.{span, span_end, those_in_range}};
 ghost use Rattle.bit_set.specs.{Capacity.Run, Json.{IsFirstFault, Spells}, declared.json.JsonError.JsonError};
 ghost use Rattle.bit_set.specs.Walk.{Walk, TwoSetWalk, BoundedWalk, IsWalkedOut, IsAtStart};
-ghost use Rattle.sets.specs.Order.{same_sets, order_of_sets, fed_of_set};
+ghost use Rattle.set_algebra.specs.Order.{same_sets, order_of_sets, fed_of_set};
 ghost use Rattle.bit_set.specs.Walk.{IsAtStartFrom, CallsEnd, GivesFromEnds, in_order, StartsOverTwo, WalksOverTwo, blocks_past};
 
 use crate::bit_vec::Merge;
@@ -32,7 +32,7 @@ pub use ranges::{
     ends_of_searches, parts_of_ranges, ranks_of_members, walks_over_missing, walks_over_parts,
 };
 /// The laws of sets of numbers.
-pub use sets::laws::{
+pub use set_algebra::laws::{
     ends_of_sets, first_of_a_set, items_in_two_parts, members_are_below_lengths, members_of_chains,
     members_of_merged_sets, members_of_sets, merged_lists_keep_merged_sets,
     merged_sets_are_finite_sets, numbers_of_ranges, parted_sets, runs_of_sets, searches_of_members,

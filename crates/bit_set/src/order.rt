@@ -3,7 +3,7 @@ ghost use Rattle.std.specs.Prelude.{◌≡◌, ℕ, ◌≤◌, ◌↔◌, IsTrue
 ghost use Rattle.std.specs.Cmp.{on_equiv, on_per, on_po, on_total, partial_equiv_from_equiv, Lexicographic.nat_list_cmp_total};
 ghost use Rattle.std.{specs.{Cmp.Lexicographic.{nat_list_eq_equiv, texts_po, texts_ties}, Ordering.MatchOrdering}, proofs.Common.refl};
 ghost use Rattle.bit_blocks.specs.{Bits.blocks_of, Mismatches.IsFirstBlockMismatch};
-ghost use Rattle.sets.specs.{Members.IsSameSet, Sets.{elements, has}, Order.{same_sets, order_of_sets}};
+ghost use Rattle.set_algebra.specs.{Members.IsSameSet, Sets.{elements, has}, Order.{same_sets, order_of_sets}};
 
 use crate::bit_vec::{
     GROUP, block_or_zero, first_nonzero_block, has_one_from, lowest_mismatch, mismatch_between,

@@ -2,7 +2,7 @@
 ghost use Rattle.std.specs.{Prelude.{◌≡◌, ◌≢◌, ◌<◌, ◌≤◌, ◌∷◌, ◌++◌, ℕ, List, [], Err, Ok, IfErr, IfNone, IfOk, IfSome, MatchOption, length}, List.All};
 ghost use Rattle.std.specs.declared.ops.Range.{Range};
 ghost use Rattle.bit_blocks.specs.Bits.{blocks_for, capacity_of};
-ghost use Rattle.sets.specs.{Members.HasNone, Runs.in_ranges, Sets.{elements, has}};
+ghost use Rattle.set_algebra.specs.{Members.HasNone, Runs.in_ranges, Sets.{elements, has}};
 ghost use Rattle.bit_set.specs.RangeReading.{IsRangesFault, end_of, items_of, number_of, range_between, range_of, ranges_in, without_space};
 
 use crate::{BitBlock, BitSet};

@@ -4,7 +4,7 @@
 
 ghost use Rattle.std.specs.Prelude.{◌≡◌, ◌<◌, ◌≤◌, ◌↔◌, IsTrue, [], length};
 ghost use Rattle.bit_blocks.specs.Bits.{IsCapacityOfBlocks};
-ghost use Rattle.sets.specs.{Members.{HasNone, IsCounted}, Sets.{elements, has}};
+ghost use Rattle.set_algebra.specs.{Members.{HasNone, IsCounted}, Sets.{elements, has}};
 
 use crate::BitBlock;
 use crate::bit_vec::BitVec;
@@ -57,7 +57,7 @@ impl<B: BitBlock> Model for BitSet<B> {
 
 impl<B: BitBlock> BitSet<B> {
     /// Whether `value` is an element. Constant time.
-    #[tactic(auto, using(sets::proofs::MemberLemmas::reads))]
+    #[tactic(auto, using(set_algebra::proofs::MemberLemmas::reads))]
     #[inline]
     pub fn contains(&self, value: usize) -> bool
         ensures value { result ≡ has (elements self.now.values) value }
@@ -69,7 +69,7 @@ impl<B: BitBlock> BitSet<B> {
 
     /// How many elements there are. Adds up the ones of each block, and skips as many blocks at once as a block has
     /// bits, if they are all zero.
-    #[tactic(auto, using(sets::proofs::MemberLemmas::reads))]
+    #[tactic(auto, using(set_algebra::proofs::MemberLemmas::reads))]
     #[inline]
     pub fn count(&self) -> usize
         ensures value { result ≡ length (elements self.now.values) }

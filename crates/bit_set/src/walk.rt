@@ -1,6 +1,6 @@
 //! The iterators over a set's elements, and over the results of operations on two sets.
 ghost use Rattle.std.specs.{Prelude.{◌≡◌, IfSome, MatchOption, length}, Iterator.{UpTo, item_count, Runs.YieldsInOrder, SizeHint.IsWithinCount}};
-ghost use Rattle.sets.specs.{Choices.{IsFirstOf, IsLeast}, Members.HasNone, Sets.elements};
+ghost use Rattle.set_algebra.specs.{Choices.{IsFirstOf, IsLeast}, Members.HasNone, Sets.elements};
 ghost use Rattle.bit_set.specs.Walk.{Advances, IsAtStart, bound_on_rest};
 
 use crate::bit_vec::{BitVec, Nonzero, block_or_zero, take_lowest_one};

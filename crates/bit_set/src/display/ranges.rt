@@ -1,6 +1,6 @@
 // The text of a set as the runs of its elements.
 ghost use Rattle.std.specs.{Prelude.{◌≡◌, ℕ, ◌<◌, ◌++◌, Some, codes}, Fmt.DisplaysOnOk, List.flat_map};
-ghost use Rattle.sets.specs.{Runs.runs_of, Sets.elements};
+ghost use Rattle.set_algebra.specs.{Runs.runs_of, Sets.elements};
 ghost use Rattle.bit_set.specs.RangeTexts.{ranges_text, run_text};
 
 use crate::{BitBlock, BitSet, Runs};
@@ -17,7 +17,7 @@ pub struct Ranges<'a, B: BitBlock> {
 
 impl<'a, B: BitBlock> Model for Ranges<'a, B> {
     ghost use Rattle.std.specs.Prelude.{ℕ, List};
-    ghost use Rattle.sets.specs.Sets.{elements};
+    ghost use Rattle.set_algebra.specs.Sets.{elements};
 
     ghost Value = { List ℕ };
 

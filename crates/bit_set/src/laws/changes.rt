@@ -1,7 +1,7 @@
 // Laws of what operations in place return.
 ghost use Rattle.std.specs.Prelude.{◌≡◌, ◌↔◌, ℕ, List, [], true};
-ghost use Rattle.sets.specs.Order.{same_sets};
-ghost use Rattle.sets.specs.Sets.{IsAscending, difference, intersection, is_disjoint, is_subset, symmetric_difference, union};
+ghost use Rattle.set_algebra.specs.Order.{same_sets};
+ghost use Rattle.set_algebra.specs.Sets.{IsAscending, difference, intersection, is_disjoint, is_subset, symmetric_difference, union};
 
 /// When an operation in place leaves a set unchanged, which `union_changes` and the calls like it return: a union
 /// if the other set is a subset of this one, an intersection if this one is a subset of the other, a difference if

@@ -1,6 +1,6 @@
 // The law of the texts of ranges.
 ghost use Rattle.std.specs.{Prelude.{◌≡◌, ◌<◌, ℕ, List, IsTrue, Ok}};
-ghost use Rattle.sets.specs.{Runs.runs_of, Sets.{IsAscending, has}};
+ghost use Rattle.set_algebra.specs.{Runs.runs_of, Sets.{IsAscending, has}};
 ghost use Rattle.bit_set.specs.{RangeReading.ranges_in, RangeTexts.ranges_text};
 
 /// The text that `ranges` writes for a set reads as exactly the runs of that set, so `from_ranges` makes the same

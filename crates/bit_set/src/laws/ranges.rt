@@ -1,9 +1,9 @@
 // Laws of the members and the absent numbers of a range, and of searches for the nearest member.
 ghost use Rattle.std.specs.{Prelude.{◌≡◌, ℕ, ◌+◌, ◌/◌, ◌≤◌, ◌++◌, ◌↔◌, MatchOption, None, Option, Some, IsTrue, List, [], length, slice_get, Bool}, Iterator.{Drains, YieldsThen}};
 ghost use Rattle.bit_blocks.specs.Searches.{FindsBefore, FindsFrom};
-ghost use Rattle.sets.specs.{Choices.{IsFirstOf, IsGreatest, IsLastOf, IsLeast}, Members.HasNone, Ranges.{span, those_in_range}};
+ghost use Rattle.set_algebra.specs.{Choices.{IsFirstOf, IsGreatest, IsLastOf, IsLeast}, Members.HasNone, Ranges.{span, those_in_range}};
 ghost use Rattle.bit_set.specs.{Agreement.WalksAgree, Missing.{MissingWalk, StartsMissing}};
-ghost use Rattle.sets.specs.Sets.{IsAscending, difference, elements, has, is_disjoint, those_below, those_from, union};
+ghost use Rattle.set_algebra.specs.Sets.{IsAscending, difference, elements, has, is_disjoint, those_below, those_from, union};
 ghost use Rattle.bit_set.specs.Walk.{CallsEnd, GivesFromEnds, IsAtStartOfPart, Walk, blocks_past, in_order};
 
 use crate::{BitBlock, Iter, Missing};

@@ -1,7 +1,7 @@
 // A set of bytes, and its bytes.
 ghost use Rattle.std.specs.{Prelude.{◌≡◌, ◌≢◌, ℕ, ◌+◌, ◌-◌, ◌*◌, ◌<◌, ◌↔◌, IfErr, IfOk, IsErrOf, IsOk, IsTrue, length, slice_index}, Int.bit_at};
 ghost use Rattle.bit_blocks.specs.Bits.{blocks_for, blocks_of, capacity_of, values_of_bytes};
-ghost use Rattle.sets.specs.{Members.{HasBitsOf, HasLowBitsOf}, Sets.{elements, has}};
+ghost use Rattle.set_algebra.specs.{Members.{HasBitsOf, HasLowBitsOf}, Sets.{elements, has}};
 
 use crate::bit_vec::BitVec;
 use crate::{BitBlock, BitSet, SetError};

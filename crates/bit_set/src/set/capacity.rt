@@ -2,7 +2,7 @@
 ghost use Rattle.std.specs.{Prelude.{◌≡◌, ℕ, ◌*◌, ◌<◌, ◌≤◌, Bool, IsOk, OnErr, OnOk, [], length, max, slice_set}, Borrow.sem};
 ghost use Rattle.bit_blocks.specs.Bits.{blocks_for, capacity_of, whole_blocks, IsWithinCapacity};
 ghost use Rattle.bit_words.specs.Growth.{Grows};
-ghost use Rattle.sets.specs.{Members.{IsSameSet, Updates}, Sets.{bound_of, elements}};
+ghost use Rattle.set_algebra.specs.{Members.{IsSameSet, Updates}, Sets.{bound_of, elements}};
 ghost use Rattle.bit_set.specs.{Changes.{Change, Changes, outcome_of_result}, Lends.lends_bits};
 
 use crate::bit_vec::BitVec;

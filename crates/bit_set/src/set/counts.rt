@@ -1,6 +1,6 @@
 // How many elements the merges of two sets have.
 ghost use Rattle.std.specs.Prelude.{◌≡◌, length};
-ghost use Rattle.sets.specs.Sets.{difference, elements, intersection, merge_of_sets, symmetric_difference, union};
+ghost use Rattle.set_algebra.specs.Sets.{difference, elements, intersection, merge_of_sets, symmetric_difference, union};
 
 use crate::bit_vec::Merge;
 use crate::{BitBlock, BitSet};

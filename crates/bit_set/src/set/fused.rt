@@ -2,9 +2,9 @@
 // that changes.
 ghost use Rattle.std.specs.Prelude.{◌≡◌, ◌+◌, ◌≤◌, max, not, if◌then◌else◌, IfOk, OnOk, length, false};
 ghost use Rattle.bit_words.specs.Growth.{Grows};
-ghost use Rattle.sets.specs.Members.{IsCounted, IsDifference, IsUnionWithIntersection};
-ghost use Rattle.sets.specs.Sets.{elements, union, intersection, difference, is_subset};
-ghost use Rattle.sets.specs.Order.{same_sets};
+ghost use Rattle.set_algebra.specs.Members.{IsCounted, IsDifference, IsUnionWithIntersection};
+ghost use Rattle.set_algebra.specs.Sets.{elements, union, intersection, difference, is_subset};
+ghost use Rattle.set_algebra.specs.Order.{same_sets};
 ghost use Rattle.bit_set.specs.Changes.{Change, Changes, outcome_of_flag};
 
 use crate::bit_vec::Merge;

@@ -1,7 +1,7 @@
 // The call that looks for missing numbers in a row.
 ghost use Rattle.std.specs.Prelude.{◌≤◌, IfSome, length, max};
 ghost use Rattle.bit_blocks.specs.Searches.{FindsFrom};
-ghost use Rattle.sets.specs.{Gaps.{FindsGap, is_gap}, Sets.elements};
+ghost use Rattle.set_algebra.specs.{Gaps.{FindsGap, is_gap}, Sets.elements};
 
 use crate::{BitBlock, BitSet};
 

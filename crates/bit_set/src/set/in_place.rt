@@ -1,8 +1,8 @@
 // Calls that merge a set in place with another.
 ghost use Rattle.std.specs.Prelude.{◌≡◌, ◌-◌, ◌++◌, max, OnOk, length, replicate, false};
 ghost use Rattle.bit_words.specs.Growth.{Grows};
-ghost use Rattle.sets.specs.Members.{IsDifference, IsIntersection, IsMerged, IsSymmetricDifference, IsUnion};
-ghost use Rattle.sets.specs.Sets.{elements, union, intersection, difference, symmetric_difference, merge_of_sets};
+ghost use Rattle.set_algebra.specs.Members.{IsDifference, IsIntersection, IsMerged, IsSymmetricDifference, IsUnion};
+ghost use Rattle.set_algebra.specs.Sets.{elements, union, intersection, difference, symmetric_difference, merge_of_sets};
 ghost use Rattle.bit_set.specs.Changes.{Change};
 ghost use Rattle.bit_set.specs.Changes.{Changes, outcome_of_result};
 

@@ -2,7 +2,7 @@
 ghost use Rattle.std.specs.{Prelude.{◌≡◌, ◌≢◌, ℕ, ◌≤◌, ◌↔◌, IfOk, IfErr, IsOk, List, [], length, Some}, Iterator.{Drains, IsFinite, YieldsThen, Runs.WholeRun}};
 ghost use Rattle.bit_blocks.specs.Bits.{blocks_for, capacity_of};
 ghost use Rattle.bit_words.specs.Bounds.{greatest};
-ghost use Rattle.sets.specs.{Sets.{bound_of, elements, put_all}, Members.{HasNone, HasTrueOf, IsSameSet}};
+ghost use Rattle.set_algebra.specs.{Sets.{bound_of, elements, put_all}, Members.{HasNone, HasTrueOf, IsSameSet}};
 ghost use Rattle.bit_set.specs.Capacity.{IsPastBlocks};
 
 use crate::bit_vec::BitVec;
@@ -37,7 +37,7 @@ impl<B: BitBlock> BitSet<B> {
     }
 
     /// The set of the indexes at which the bit vector is true. Constant time.
-    #[tactic(auto, using(sets::proofs::MemberLemmas::reads))]
+    #[tactic(auto, using(set_algebra::proofs::MemberLemmas::reads))]
     #[inline]
     pub fn from_bit_vec_general(bit_vec: BitVec<B>) -> Self
         ensures value { result ≡ bit_vec }

@@ -1,7 +1,7 @@
 // Calls that make a set of many.
 ghost use Rattle.std.specs.Prelude.{◌≡◌, ◌≢◌, ℕ, ◌+◌, ◌*◌, ◌<◌, ◌≤◌, ◌↔◌, All, Any, IfOk, IsOk, IsTrue, [], false, get_or, length, map, true};
 ghost use Rattle.bit_blocks.specs.{Bits.{blocks_for, capacity_of}, Merges.merge_of_values};
-ghost use Rattle.sets.specs.Sets.{elements, has};
+ghost use Rattle.set_algebra.specs.Sets.{elements, has};
 ghost use Rattle.bit_set.specs.Many.{HasEach, HasSome, intersection_all, longest, merged_at, shortest, union_all};
 
 use crate::bit_vec::{BitVec, Merge};

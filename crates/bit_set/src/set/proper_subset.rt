@@ -1,7 +1,7 @@
 // Whether every element is in another set, which has more.
 ghost use Rattle.std.specs.Prelude.{◌≡◌, ◌<◌, ◌&&◌, ◌↔◌, ℕ, All, IsTrue, get_or, map, not};
 ghost use Rattle.bit_blocks.specs.{BlockMerges.MergesToFalse, declared.block.merge.Merge.Merge};
-ghost use Rattle.sets.specs.{Runs.IsProperSubset, Sets.{elements, is_subset}};
+ghost use Rattle.set_algebra.specs.{Runs.IsProperSubset, Sets.{elements, is_subset}};
 
 use crate::bit_vec::first_mismatching_block;
 use crate::{BitBlock, BitSet};

@@ -1,9 +1,9 @@
 // Calls on the numbers of a range.
 ghost use Rattle.std.specs.Prelude.{◌≡◌, ℕ, ◌+◌, ◌-◌, ◌<◌, ◌≤◌, ◌↔◌, ◌++◌, false, length, max, not, true, IfErr, IsTrue, OnOk};
 ghost use Rattle.bit_words.specs.Growth.{Grows};
-ghost use Rattle.sets.specs.{Members.UpdatesRange, Ranges.{span, span_end, those_in_range}};
+ghost use Rattle.set_algebra.specs.{Members.UpdatesRange, Ranges.{span, span_end, those_in_range}};
 ghost use Rattle.bit_set.specs.{Changes.{Change, Changes, Outcome.Done, outcome_of_result}, Faults.IsInsertFault};
-ghost use Rattle.sets.specs.Sets.{elements, has, is_disjoint, is_subset, symmetric_difference, those_below, those_from, union};
+ghost use Rattle.set_algebra.specs.Sets.{elements, has, is_disjoint, is_subset, symmetric_difference, those_below, those_from, union};
 
 use crate::{BitBlock, BitSet, SetError};
 use std::ops::Range;

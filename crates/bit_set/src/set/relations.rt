@@ -1,6 +1,6 @@
 // Calls that relate the elements of two sets.
 ghost use Rattle.std.specs.Prelude.{◌≡◌, ◌↔◌, IsTrue};
-ghost use Rattle.sets.specs.{Members.{IsDisjoint, IsSubset}, Sets.{elements, is_subset, is_disjoint}};
+ghost use Rattle.set_algebra.specs.{Members.{IsDisjoint, IsSubset}, Sets.{elements, is_subset, is_disjoint}};
 
 use crate::{BitBlock, BitSet};
 

@@ -2,9 +2,9 @@
 ghost use Rattle.std.specs.Prelude.{◌≡◌, ◌<◌, ◌≤◌, ◌↔◌, max, min, IfErr, IfOk, IsErrOf, IsOk, OnOk, length};
 ghost use Rattle.bit_blocks.specs.Bits.{blocks_for, capacity_of, IsWithinCapacity};
 ghost use Rattle.bit_words.specs.Growth.{Grows};
-ghost use Rattle.sets.specs.{Moved.{IsLowered, IsRaised, KeepsRange, lowered, raised}, Ranges.{span_end, those_in_range}};
+ghost use Rattle.set_algebra.specs.{Moved.{IsLowered, IsRaised, KeepsRange, lowered, raised}, Ranges.{span_end, those_in_range}};
 ghost use Rattle.bit_set.specs.Changes.{Change, Changes, Outcome.Done, outcome_of_shift};
-ghost use Rattle.sets.specs.Sets.{bound_of, elements};
+ghost use Rattle.set_algebra.specs.Sets.{bound_of, elements};
 
 use crate::{BitBlock, BitSet, SetError};
 use std::alloc::{AllocError, Global};

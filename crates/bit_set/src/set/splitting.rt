@@ -2,7 +2,7 @@
 ghost use Rattle.std.specs.Prelude.{◌≡◌, ◌<◌, ◌≤◌, if◌then◌else◌, nat_lt, max, min, IfOk, OnOk, OnErr, IsOk, [], length};
 ghost use Rattle.bit_blocks.specs.Bits.{blocks_for, capacity_of};
 ghost use Rattle.bit_words.specs.Growth.{Grows};
-ghost use Rattle.sets.specs.{Sets.{elements, those_below, those_from, union}, Members.{HasNone, IsUnion, KeepsBelow, KeepsFrom}};
+ghost use Rattle.set_algebra.specs.{Sets.{elements, those_below, those_from, union}, Members.{HasNone, IsUnion, KeepsBelow, KeepsFrom}};
 ghost use Rattle.bit_set.specs.Changes.{Change, Changes, outcome_of_result};
 
 use crate::{BitBlock, BitSet};

@@ -1,6 +1,6 @@
 // The iterator over a set's elements, from the back.
 ghost use Rattle.std.specs.{Prelude.{◌≡◌, MatchOption, None}, Iterator.{Adapters.{RevKeepsRuns, rev_source}, Runs.YieldsInReverse}, List.last_or};
-ghost use Rattle.sets.specs.{Choices.{IsGreatest, IsLastOf}, Members.HasNone};
+ghost use Rattle.set_algebra.specs.{Choices.{IsGreatest, IsLastOf}, Members.HasNone};
 ghost use Rattle.bit_set.specs.Walk.{AdvancesBack};
 
 use crate::BitBlock;

@@ -1,6 +1,6 @@
 // The iterator over what two sets have in common.
 ghost use Rattle.std.specs.{Prelude.{◌≡◌, Some, min, IfSome, length}, Iterator.{UpTo, item_count, Runs.YieldsInOrder, SizeHint.IsWithinCount}};
-ghost use Rattle.sets.specs.{Members.IsIntersection, Sets.{elements, intersection}};
+ghost use Rattle.set_algebra.specs.{Members.IsIntersection, Sets.{elements, intersection}};
 ghost use Rattle.bit_set.specs.Walk.{AdvancesWithBound, StartsOverTwo};
 
 use super::two_sets::TwoSets;

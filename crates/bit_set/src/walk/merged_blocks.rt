@@ -1,7 +1,7 @@
 // The blocks of two sets, merged.
 ghost use Rattle.std.specs.Prelude.{◌≡◌, ◌<◌, ◌^◌, max, IfSome, All, length};
 ghost use Rattle.bit_blocks.specs.Bits.{blocks_for};
-ghost use Rattle.sets.specs.Sets.{elements, merge_of_sets};
+ghost use Rattle.set_algebra.specs.Sets.{elements, merge_of_sets};
 ghost use Rattle.bit_set.specs.Indexes.{IsMergedPull, IsWalkable, PullsBlock, PullsBlockIf};
 
 use crate::BitBlock;

@@ -1,7 +1,7 @@
 // The iterator over the absent numbers of a range.
 ghost use Rattle.std.specs.{Prelude.{◌≡◌, ℕ, ◌+◌, ◌-◌, ◌&&◌, not, IfSome, Some, length}, Iterator.{UpTo, item_count, Runs.YieldsInOrder, SizeHint.IsWithinCount}};
 ghost use Rattle.bit_blocks.specs.Ranges.{in_range};
-ghost use Rattle.sets.specs.{Ranges.{span, those_in_range}, Sets.{difference, elements, has}};
+ghost use Rattle.set_algebra.specs.{Ranges.{span, those_in_range}, Sets.{difference, elements, has}};
 ghost use Rattle.bit_set.specs.Missing.{PassesMembers, StartsMissing};
 
 use crate::bit_vec::{BitVec, clear_below, take_lowest_one};

@@ -1,7 +1,7 @@
 // The iterators over a part of a set's elements.
 ghost use Rattle.std.specs.{Prelude.{◌≡◌, ℕ, ◌-◌, ◌*◌, ◌/◌, ◌<◌, ◌&&◌, All, get_or, length, map, max, min, nat_le}, Iterator.Runs.YieldsInOrder};
 ghost use Rattle.bit_blocks.specs.{Digits.is_one, Ranges.in_range};
-ghost use Rattle.sets.specs.{Ranges.those_in_range, Sets.{elements, has, those_from}};
+ghost use Rattle.set_algebra.specs.{Ranges.those_in_range, Sets.{elements, has, those_from}};
 ghost use Rattle.bit_set.specs.Walk.{Advances, IsAtStartFrom, IsAtStartOfPart};
 
 use crate::bit_vec::{BitVec, block_or_zero, clear_below, clear_from};

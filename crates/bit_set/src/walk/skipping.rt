@@ -1,6 +1,6 @@
 // The iterator over a set's elements, skipping many of them at once.
 ghost use Rattle.std.specs.Prelude.{◌≤◌, length};
-ghost use Rattle.sets.specs.Sets.{IsAscending};
+ghost use Rattle.set_algebra.specs.Sets.{IsAscending};
 ghost use Rattle.bit_set.specs.{Indexes.Passes, Walk.Skips};
 
 use crate::BitBlock;

@@ -1,4 +1,4 @@
-use Rattle.sets.proofs.SetLaws.{put_all-items}
+use Rattle.set_algebra.proofs.SetLaws.{put_all-items}
 use Rattle.bit_set.{specs.Walk.{AdvancesByEach, AdvancesWithBound}, proofs.WalkLaws.collected}
 use Rattle.bit_blocks.specs.declared.block.merge.Merge.TheVariants.{Union, Intersection, Difference, Symmetric}
 use Rattle.bit_set.proofs.laws.collected_walks.Goals as goal

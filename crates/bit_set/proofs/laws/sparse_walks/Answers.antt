@@ -1,5 +1,5 @@
 use Rattle.std.proofs.Common.{◌+◌, ap, ◌∙◌, arith}
-use Rattle.sets.proofs.SetLemmas.{AscendsFrom-lower}
+use Rattle.set_algebra.proofs.SetLemmas.{AscendsFrom-lower}
 use Rattle.bit_set.proofs.WalkLaws.{pulled_at_most, pulled_sparsely, pulled_whole, summary_pulled, has-blocks_past, AscendsFrom-blocks_past, walked_out}
 use Rattle.bit_set.specs.Walk.{IsAtBlockOf, IsAtFirstBlock, blocks_past}
 use Rattle.bit_set.proofs.laws.sparse_walks.Goals as goal

@@ -1,4 +1,4 @@
-use Rattle.sets.proofs.OrderLemmas.{order-alike}
+use Rattle.set_algebra.proofs.OrderLemmas.{order-alike}
 use Rattle.bit_set.proofs.MismatchLemmas.{all_alike}
 use Rattle.bit_set.proofs.order.order_by.Goals as goal
 

@@ -1,7 +1,7 @@
 use Rattle.std.proofs.Common.{sym, ◌+◌, ◌*◌, ◌<◌, ◌^◌, length, get_or, ap, ◌∙◌, arith}
 use Rattle.bit_blocks.specs.Bits.{blocks_of}
-use Rattle.sets.specs.{Mismatches.IsFirstMismatch, Sets.elements}
-use Rattle.sets.proofs.OrderLemmas.{by_holder, by_other_holder}
+use Rattle.set_algebra.specs.{Mismatches.IsFirstMismatch, Sets.elements}
+use Rattle.set_algebra.proofs.OrderLemmas.{by_holder, by_other_holder}
 use Rattle.bit_set.proofs.{MismatchLemmas.{first_mismatch_is, first_within}, order.order_in_block.Goals.After-bits}
 use Rattle.bit_set.proofs.order.order_in_block.Goals as goal
 

@@ -1,6 +1,6 @@
 use Rattle.std.proofs.{Common.{◌≡◌, ◌∷◌, [], ◌++◌, refl, subst, sym, ap, ◌∙◌, append_assoc, rules, arith}, lemmas.Grind.{common_steps, put_four}}
 use Rattle.std.specs.{Prelude.{codes, decimal}, List.flat_map, Fmt.HasWritten}
-use Rattle.sets.specs.Sets.{elements}
+use Rattle.set_algebra.specs.Sets.{elements}
 use Rattle.bit_set.proofs.display.BitSetDisplay.fmt.Goals.{in-Some+in_ok-write+in_ok-write_rest, in_default}
 use Rattle.bit_set.proofs.display.BitSetDisplay.fmt.Goals as goal
 

@@ -1,5 +1,5 @@
 use Rattle.std.{proofs.Common.{◌≡◌, ℕ, List, ◌++◌}, specs.{Prelude.codes, List.flat_map, Fmt.{HasWritten, IsPlainFormatter}}}
-use Rattle.sets.specs.Runs.{runs_of}
+use Rattle.set_algebra.specs.Runs.{runs_of}
 use Rattle.bit_set.specs.RangeTexts.{run_text}
 use Rattle.bit_set.proofs.display.ranges.write_rest.Given as goal
 

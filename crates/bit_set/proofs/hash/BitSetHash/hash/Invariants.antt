@@ -1,5 +1,5 @@
 use Rattle.std.{proofs.Common.◌≡◌, specs.List.fold}
-use Rattle.sets.specs.{Sets.elements, Order.fed_of_set}
+use Rattle.set_algebra.specs.{Sets.elements, Order.fed_of_set}
 use Rattle.bit_set.proofs.hash.BitSetHash.hash.Given as goal
 
 -- what is left is still to be fed

@@ -1,6 +1,6 @@
 use Rattle.std.proofs.Common.{ap}
 use Rattle.bit_blocks.specs.Bits.{blocks_of}
-use Rattle.sets.proofs.MemberLemmas.{tells_same}
+use Rattle.set_algebra.proofs.MemberLemmas.{tells_same}
 use Rattle.bit_set.proofs.MismatchLemmas.{same_by_blocks}
 use Rattle.bit_set.proofs.order.BitSetPartialEq.eq.Goals as goal
 

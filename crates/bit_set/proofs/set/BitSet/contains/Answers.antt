@@ -1,5 +1,5 @@
 use Rattle.std.proofs.Common.{sym, ap, ◌∙◌, arith, length}
-use Rattle.sets.proofs.ValueLemmas.{has-slice_get, has-within}
+use Rattle.set_algebra.proofs.ValueLemmas.{has-slice_get, has-within}
 use Rattle.bit_set.proofs.set.BitSet.contains.Goals as goal
 
 pub returns-clause-value : goal.returns-clause-value

@@ -1,4 +1,4 @@
-use Rattle.sets.proofs.RangeQueryLemmas.{is_subset-range, tells_all}
+use Rattle.set_algebra.proofs.RangeQueryLemmas.{is_subset-range, tells_all}
 use Rattle.bit_set.proofs.set.BitSet.contains_all_in_range.Goals as goal
 
 pub returns-clause-members : goal.returns-clause-members

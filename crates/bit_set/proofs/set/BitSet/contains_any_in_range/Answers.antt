@@ -1,4 +1,4 @@
-use Rattle.sets.proofs.RangeQueryLemmas.{is_disjoint-range, tells_none}
+use Rattle.set_algebra.proofs.RangeQueryLemmas.{is_disjoint-range, tells_none}
 use Rattle.bit_set.proofs.set.BitSet.contains_any_in_range.Goals as goal
 
 pub returns-clause-members : goal.returns-clause-members

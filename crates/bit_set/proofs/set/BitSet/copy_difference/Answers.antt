@@ -1,8 +1,8 @@
 use Rattle.std.proofs.{Common.{◌∙◌, ap, length, not}}
-use Rattle.sets.proofs.MemberLemmas.{counted_within}
+use Rattle.set_algebra.proofs.MemberLemmas.{counted_within}
 use Rattle.bit_set.proofs.FusedLemmas.{elements-replaced, length-replaced, members-replaced}
 use Rattle.bit_set.proofs.ReportedLemmas.{reported_of_lengthened, reported_unchanged}
-use Rattle.sets.specs.{Order.same_sets, Sets.elements}
+use Rattle.set_algebra.specs.{Order.same_sets, Sets.elements}
 use Rattle.bit_set.specs.Changes.{Changes, Outcome.Returned}
 use Rattle.bit_set.proofs.set.BitSet.copy_difference.Goals as goal
 

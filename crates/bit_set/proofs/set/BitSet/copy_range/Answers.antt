@@ -1,7 +1,7 @@
 use Rattle.std.proofs.Common.{◌≡◌, length, sym, ap, ◌∙◌, arith}
 use Rattle.bit_blocks.specs.Bits.{blocks_for, capacity_of}
-use Rattle.sets.specs.Sets.{elements}
-use Rattle.sets.proofs.MovedLemmas.{elements-part, length-part, members_part, none_in_part}
+use Rattle.set_algebra.specs.Sets.{elements}
+use Rattle.set_algebra.proofs.MovedLemmas.{elements-part, length-part, members_part, none_in_part}
 use Rattle.bit_set.proofs.set.BitSet.copy_range.Goals as goal
 
 pub returns-then-range-end-clause-elements : goal.returns-then-range-end-clause-elements

@@ -1,6 +1,6 @@
 use Rattle.std.proofs.Common.{◌∙◌, arith}
-use Rattle.sets.specs.Sets.{elements}
-use Rattle.sets.proofs.{RangeLemmas.in_range-le, RangeQueryLemmas.count_range, SetLemmas.IsAscending-elements}
+use Rattle.set_algebra.specs.Sets.{elements}
+use Rattle.set_algebra.proofs.{RangeLemmas.in_range-le, RangeQueryLemmas.count_range, SetLemmas.IsAscending-elements}
 use Rattle.bit_set.proofs.set.BitSet.count_in_range.Goals as goal
 
 pub returns-clause-value : goal.returns-clause-value

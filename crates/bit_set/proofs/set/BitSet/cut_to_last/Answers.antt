@@ -1,5 +1,5 @@
 use Rattle.std.proofs.Common.{◌≡◌, length, take, max, length-take, ap, ◌∙◌, arith}
-use Rattle.sets.{specs.Sets.{bound_of, elements}, proofs.MemberLemmas.none_from_members}
+use Rattle.set_algebra.{specs.Sets.{bound_of, elements}, proofs.MemberLemmas.none_from_members}
 use Rattle.bit_set.proofs.ItemLemmas.{bound-elements, bound_of_greatest, elements-cut}
 use Rattle.bit_set.proofs.set.BitSet.cut_to_last.Goals.{in-Some, in-None}
 use Rattle.bit_set.proofs.set.BitSet.cut_to_last.Goals as goal

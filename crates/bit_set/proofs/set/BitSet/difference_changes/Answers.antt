@@ -1,5 +1,5 @@
 use Rattle.std.proofs.Common.{not}
-use Rattle.sets.{proofs.SetLemmas.IsAscending-elements, specs.Sets.{difference, elements, has, is_disjoint}}
+use Rattle.set_algebra.{proofs.SetLemmas.IsAscending-elements, specs.Sets.{difference, elements, has, is_disjoint}}
 use Rattle.bit_set.proofs.ReportedLemmas.{reported_fewer, filter_kept, filter_count}
 use Rattle.bit_set.proofs.set.BitSet.difference_changes.Goals as goal
 

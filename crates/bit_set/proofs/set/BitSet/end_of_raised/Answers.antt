@@ -1,6 +1,6 @@
 use Rattle.std.proofs.Common.{ap, sym, refl, ◌∙◌, arith}
-use Rattle.sets.specs.Sets.{bound_of, elements}
-use Rattle.sets.proofs.{MemberLemmas.none_from_members, MovedLemmas.{bound-raised, none_raised}}
+use Rattle.set_algebra.specs.Sets.{bound_of, elements}
+use Rattle.set_algebra.proofs.{MemberLemmas.none_from_members, MovedLemmas.{bound-raised, none_raised}}
 use Rattle.bit_set.proofs.set.BitSet.end_of_raised.Goals as goal
 
 pub returns-in_default-clause-ok : goal.returns-in_default-clause-ok

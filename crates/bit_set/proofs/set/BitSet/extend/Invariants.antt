@@ -1,5 +1,5 @@
 use Rattle.std.proofs.Common.{◌≡◌, ◌<◌, ◌≤◌, All, length, max}
-use Rattle.sets.specs.Sets.{bound_of}
+use Rattle.set_algebra.specs.Sets.{bound_of}
 use Rattle.bit_set.proofs.ItemLemmas.{IsAhead}
 use Rattle.bit_set.specs.declared.set.changing.TheConstants.{LEAST_GROWN}
 use Rattle.bit_set.proofs.set.BitSet.extend.Given as goal

@@ -1,6 +1,6 @@
 use Rattle.std.proofs.Common.{length, ap, arith}
 use Rattle.bit_blocks.specs.Searches.{FindsFrom}
-use Rattle.sets.{specs.Sets.{elements, has}, proofs.{EndLemmas.{finds_members, first_of_those, found_within, least_of_all}, SetLemmas.IsAscending-elements, SplitLemmas.all_from}}
+use Rattle.set_algebra.{specs.Sets.{elements, has}, proofs.{EndLemmas.{finds_members, first_of_those, found_within, least_of_all}, SetLemmas.IsAscending-elements, SplitLemmas.all_from}}
 use Rattle.bit_set.proofs.set.BitSet.first.{Given.Over, Goals.After-first_one}
 use Rattle.bit_set.proofs.set.BitSet.first.Goals as goal
 

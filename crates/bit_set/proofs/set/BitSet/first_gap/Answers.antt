@@ -1,7 +1,7 @@
 use Rattle.std.proofs.Common.{◌+◌, ◌<◌, ◌≤◌, Some, None, arith}
 use Rattle.std.proofs.lemmas.Bool.Decides.{nat_tests}
-use Rattle.sets.specs.Sets.{elements}
-use Rattle.sets.proofs.GapLemmas.{finds_gap, first_gap, in_the_way, none_across, none_asked}
+use Rattle.set_algebra.specs.Sets.{elements}
+use Rattle.set_algebra.proofs.GapLemmas.{finds_gap, first_gap, in_the_way, none_across, none_asked}
 use Rattle.bit_set.proofs.set.BitSet.first_gap.Goals as goal
 
 pub returns-then-count-eq0-clause-members : goal.returns-then-count-eq0-clause-members

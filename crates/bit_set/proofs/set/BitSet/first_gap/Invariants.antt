@@ -1,5 +1,5 @@
 use Rattle.std.proofs.Common.{◌≡◌, ℕ, ◌-◌, ◌^◌, ◌<◌, ◌≤◌, max, false, length}
-use Rattle.sets.specs.{Gaps.IsGap, Sets.{elements, has}}
+use Rattle.set_algebra.specs.{Gaps.IsGap, Sets.{elements, has}}
 use Rattle.bit_set.proofs.set.BitSet.first_gap.Given as goal
 
 -- the number is missing, and no gap that is wide enough begins before it

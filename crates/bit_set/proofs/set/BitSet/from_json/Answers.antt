@@ -1,7 +1,7 @@
 use Rattle.std.proofs.{Common.{◌≡◌, Bool, List, Err, length, ap, ◌∙◌}, lemmas.Result.err_from_is_err_and}
 use Rattle.serde_json.specs.View.{view}
 use Rattle.bit_blocks.specs.Bits.{Bits, blocks_of}
-use Rattle.sets.specs.Sets.{elements, has}
+use Rattle.set_algebra.specs.Sets.{elements, has}
 use Rattle.bit_set.{specs.{Entries.numbers_of, Json.Spells}, proofs.JsonLemmas.{fault_of_first, one_fault, one_list, spelt_has_no_fault}}
 use Rattle.bit_set.proofs.set.BitSet.from_json.Goals as goal
 

@@ -1,5 +1,5 @@
 use Rattle.std.proofs.Common.{refl}
-use Rattle.sets.proofs.SetLemmas.{has-set}
+use Rattle.set_algebra.proofs.SetLemmas.{has-set}
 use Rattle.bit_set.proofs.set.BitSet.get_mut.Goals as goal
 
 pub returns : goal.returns

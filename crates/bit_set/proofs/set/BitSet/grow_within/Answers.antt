@@ -1,5 +1,5 @@
 use Rattle.std.proofs.Common.{ap, ◌∙◌}
-use Rattle.sets.specs.Sets.{elements}
+use Rattle.set_algebra.specs.Sets.{elements}
 use Rattle.bit_set.proofs.ItemLemmas.{elements-grown}
 use Rattle.bit_set.proofs.set.BitSet.grow_within.Goals as goal
 

@@ -1,5 +1,5 @@
 use Rattle.std.{proofs.Common.{◌≡◌, ◌+◌, length}, specs.Option.option_map_or}
-use Rattle.sets.specs.Sets.{elements}
+use Rattle.set_algebra.specs.Sets.{elements}
 use Rattle.bit_set.{specs.RangeReading.items_left, proofs.RangeTextLemmas.Fills}
 use Rattle.bit_set.proofs.set.BitSet.insert_ranges.Given as goal
 

@@ -1,4 +1,4 @@
-use Rattle.sets.{proofs.SetLemmas.IsAscending-elements, specs.Sets.{elements, has, intersection, is_subset}}
+use Rattle.set_algebra.{proofs.SetLemmas.IsAscending-elements, specs.Sets.{elements, has, intersection, is_subset}}
 use Rattle.bit_set.proofs.ReportedLemmas.{reported_fewer, filter_kept, filter_count}
 use Rattle.bit_set.proofs.set.BitSet.intersection_changes.Goals as goal
 

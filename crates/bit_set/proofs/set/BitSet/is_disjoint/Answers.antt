@@ -1,4 +1,4 @@
-use Rattle.sets.{proofs.{SubsetLemmas.is_disjoint-elements, MemberLemmas.tells_disjoint}, specs.Sets.elements}
+use Rattle.set_algebra.{proofs.{SubsetLemmas.is_disjoint-elements, MemberLemmas.tells_disjoint}, specs.Sets.elements}
 use Rattle.bit_set.proofs.set.BitSet.is_disjoint.Goals as goal
 
 pub returns-clause-returned : goal.returns-clause-returned

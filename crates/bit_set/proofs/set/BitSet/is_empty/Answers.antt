@@ -1,4 +1,4 @@
-use Rattle.sets.{proofs.{ValueLemmas.empty_where_all_false, MemberLemmas.tells_empty}, specs.Sets.elements}
+use Rattle.set_algebra.{proofs.{ValueLemmas.empty_where_all_false, MemberLemmas.tells_empty}, specs.Sets.elements}
 use Rattle.bit_set.proofs.set.BitSet.is_empty.Goals as goal
 
 pub returns-clause-elements : goal.returns-clause-elements

@@ -1,4 +1,4 @@
-use Rattle.sets.{proofs.{SubsetLemmas.is_subset-elements, MemberLemmas.tells_subset}, specs.Sets.elements}
+use Rattle.set_algebra.{proofs.{SubsetLemmas.is_subset-elements, MemberLemmas.tells_subset}, specs.Sets.elements}
 use Rattle.bit_set.proofs.set.BitSet.is_subset.Goals as goal
 
 pub returns-clause-returned : goal.returns-clause-returned

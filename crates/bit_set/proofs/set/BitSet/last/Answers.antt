@@ -1,5 +1,5 @@
 use Rattle.std.proofs.Common.{◌≡◌, length, sym, ap, ◌∙◌, subst, arith}
-use Rattle.sets.{specs.{Choices.IsLastOf, Sets.elements}, proofs.{EndLemmas.greatest_of_all, SplitLemmas.all_below, ValueLemmas.has-within}}
+use Rattle.set_algebra.{specs.{Choices.IsLastOf, Sets.elements}, proofs.{EndLemmas.greatest_of_all, SplitLemmas.all_below, ValueLemmas.has-within}}
 use Rattle.bit_set.proofs.set.BitSet.last.Goals as goal
 
 pub returns-clause-elements : goal.returns-clause-elements

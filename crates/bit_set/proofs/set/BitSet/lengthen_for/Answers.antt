@@ -1,4 +1,4 @@
-use Rattle.sets.proofs.SetLemmas.{elements-padded}
+use Rattle.set_algebra.proofs.SetLemmas.{elements-padded}
 use Rattle.bit_set.proofs.set.BitSet.lengthen_for.Goals as goal
 
 pub returns-clause-same : goal.returns-clause-same

@@ -1,5 +1,5 @@
 use Rattle.std.proofs.Common.{length, refl, ap}
-use Rattle.sets.{proofs.ValueLemmas.elements-all_false, specs.Sets.has}
+use Rattle.set_algebra.{proofs.ValueLemmas.elements-all_false, specs.Sets.has}
 use Rattle.bit_set.specs.Changes.{Changes}
 use Rattle.bit_set.proofs.set.BitSet.make_empty.Goals as goal
 

@@ -1,7 +1,7 @@
 use Rattle.std.proofs.Common.{◌-◌, ◌∙◌, ap, length, not}
-use Rattle.sets.proofs.{AlgebraLemmas.{elements-lengthened, length-lengthened}, MemberLemmas.{counted_within, members_merged}}
+use Rattle.set_algebra.proofs.{AlgebraLemmas.{elements-lengthened, length-lengthened}, MemberLemmas.{counted_within, members_merged}}
 use Rattle.bit_set.proofs.ReportedLemmas.{reported_of_lengthened, reported_unchanged}
-use Rattle.sets.specs.{Order.same_sets, Sets.elements}
+use Rattle.set_algebra.specs.{Order.same_sets, Sets.elements}
 use Rattle.bit_set.specs.Changes.{Changes, Outcome.Returned}
 use Rattle.bit_set.proofs.set.BitSet.merge_changes.Goals as goal
 

@@ -1,5 +1,5 @@
 use Rattle.std.proofs.Common.{◌-◌, length}
-use Rattle.sets.{proofs.{AlgebraLemmas.{elements-lengthened, length-lengthened}, MemberLemmas.members_merged}, specs.Sets.elements}
+use Rattle.set_algebra.{proofs.{AlgebraLemmas.{elements-lengthened, length-lengthened}, MemberLemmas.members_merged}, specs.Sets.elements}
 use Rattle.bit_set.proofs.set.BitSet.merge_with.Goals as goal
 
 pub returns-clause-elements : goal.returns-clause-elements

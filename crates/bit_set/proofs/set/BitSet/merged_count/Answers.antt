@@ -1,6 +1,6 @@
 use Rattle.std.proofs.Common.{length, ap, sym, ◌∙◌}
 use Rattle.bit_blocks.specs.Merges.{merge_of}
-use Rattle.sets.proofs.{AlgebraLemmas.elements-merged, SetLemmas.length-elements}
+use Rattle.set_algebra.proofs.{AlgebraLemmas.elements-merged, SetLemmas.length-elements}
 use Rattle.bit_set.proofs.set.BitSet.merged_count.Goals as goal
 
 pub returns : goal.returns

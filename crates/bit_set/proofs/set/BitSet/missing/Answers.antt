@@ -1,6 +1,6 @@
 use Rattle.std.proofs.Common.{◌+◌, length, ap, ◌∙◌}
-use Rattle.sets.specs.{Ranges.those_in_range, Sets.{elements, has}}
-use Rattle.sets.proofs.{RangeLemmas.count_missing, SetLemmas.IsAscending-elements}
+use Rattle.set_algebra.specs.{Ranges.those_in_range, Sets.{elements, has}}
+use Rattle.set_algebra.proofs.{RangeLemmas.count_missing, SetLemmas.IsAscending-elements}
 use Rattle.bit_set.proofs.{ChainLemmas.runs_past_members, MissingLemmas.has-missing}
 use Rattle.bit_set.proofs.set.BitSet.missing.Goals as goal
 

@@ -1,4 +1,4 @@
-use Rattle.sets.proofs.EndLemmas.{finds_missing}
+use Rattle.set_algebra.proofs.EndLemmas.{finds_missing}
 use Rattle.bit_set.proofs.set.BitSet.next_missing.Goals as goal
 
 pub returns-clause-members : goal.returns-clause-members

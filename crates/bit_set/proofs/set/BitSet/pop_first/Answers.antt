@@ -1,5 +1,5 @@
 use Rattle.bit_set.proofs.ChangeLemmas.{changes_popped}
-use Rattle.sets.proofs.EndLemmas.{count_popped_first, popped_first}
+use Rattle.set_algebra.proofs.EndLemmas.{count_popped_first, popped_first}
 use Rattle.bit_set.proofs.set.BitSet.pop_first.Goals as goal
 
 pub returns-clause-elements : goal.returns-clause-elements

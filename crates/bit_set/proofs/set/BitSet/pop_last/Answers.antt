@@ -1,5 +1,5 @@
 use Rattle.bit_set.proofs.ChangeLemmas.{changes_popped_last}
-use Rattle.sets.{specs.Sets.elements, proofs.{EndLemmas.takes_last, SetLemmas.IsAscending-elements}}
+use Rattle.set_algebra.{specs.Sets.elements, proofs.{EndLemmas.takes_last, SetLemmas.IsAscending-elements}}
 use Rattle.bit_set.proofs.set.BitSet.pop_last.Goals as goal
 
 pub returns-in_err-value-clause-elements : goal.returns-in_err-value-clause-elements

@@ -1,5 +1,5 @@
 use Rattle.std.proofs.Common.{length, ap, arith}
-use Rattle.sets.{specs.Sets.elements, proofs.{EndLemmas.{finds_members_before, last_of_those, found_within_before}, SetLemmas.IsAscending-elements}}
+use Rattle.set_algebra.{specs.Sets.elements, proofs.{EndLemmas.{finds_members_before, last_of_those, found_within_before}, SetLemmas.IsAscending-elements}}
 use Rattle.bit_set.proofs.set.BitSet.previous.Goals as goal
 
 pub returns-clause-members : goal.returns-clause-members

@@ -1,6 +1,6 @@
 use Rattle.std.proofs.{Common.{◌≡◌, ◌<◌, ◌≤◌, ℕ, ◌+◌, ◌-◌, true, max, length, length-set, length-append, ap, ◌∙◌, refl, arith}, lemmas.List.length-replicate}
 use Rattle.bit_blocks.specs.Bits.{Bits}
-use Rattle.sets.{specs.Sets.{elements, put}, proofs.SetLemmas.{elements-padded, elements-set_true}}
+use Rattle.set_algebra.{specs.Sets.{elements, put}, proofs.SetLemmas.{elements-padded, elements-set_true}}
 use Rattle.bit_set.specs.declared.set.changing.TheConstants.{LEAST_GROWN}
 use Rattle.bit_set.proofs.set.BitSet.put_ahead.Goals.{then-item-len+in_ok-lengthen_past, else-item-len}
 use Rattle.bit_set.proofs.set.BitSet.put_ahead.Goals as goal

@@ -1,6 +1,6 @@
 use Rattle.std.proofs.Common.{ap, ◌∙◌}
 use Rattle.bit_blocks.specs.Ranges.{in_range}
-use Rattle.sets.{specs.Sets.{elements, has}, proofs.SetLemmas.has-filter}
+use Rattle.set_algebra.{specs.Sets.{elements, has}, proofs.SetLemmas.has-filter}
 use Rattle.bit_set.proofs.ChainLemmas.{runs_of_walk}
 use Rattle.bit_set.proofs.set.BitSet.range.Goals as goal
 

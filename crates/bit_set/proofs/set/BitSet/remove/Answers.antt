@@ -1,9 +1,9 @@
 use Rattle.std.proofs.Common.{ℕ, Bool, false, List, sym, ap, ap₂, ◌∙◌, arith}
 use Rattle.bit_blocks.specs.Bits.{Bits}
-use Rattle.sets.specs.Sets.{elements}
+use Rattle.set_algebra.specs.Sets.{elements}
 use Rattle.bit_set.specs.Changes.{Changes, Outcome.Returned}
-use Rattle.sets.proofs.{SetLemmas.{IsAscending-elements, elements-set_false, without_absent}, ValueLemmas.{has-past, has-read, written_again}}
-use Rattle.sets.proofs.MemberLemmas.{count_without, updates_without}
+use Rattle.set_algebra.proofs.{SetLemmas.{IsAscending-elements, elements-set_false, without_absent}, ValueLemmas.{has-past, has-read, written_again}}
+use Rattle.set_algebra.proofs.MemberLemmas.{count_without, updates_without}
 use Rattle.bit_set.proofs.set.BitSet.remove.Goals as goal
 
 pub returns-then-value-len-clause-returned : goal.returns-then-value-len-clause-returned

@@ -1,5 +1,5 @@
 use Rattle.std.proofs.Common.{refl}
-use Rattle.sets.proofs.{RangeLemmas.{count_removed, members_cleared, removed_range}, SetLemmas.IsAscending-elements}
+use Rattle.set_algebra.proofs.{RangeLemmas.{count_removed, members_cleared, removed_range}, SetLemmas.IsAscending-elements}
 use Rattle.bit_set.specs.Changes.{Changes}
 use Rattle.bit_set.proofs.set.BitSet.remove_range.Goals as goal
 

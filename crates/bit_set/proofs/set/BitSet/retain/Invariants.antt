@@ -1,5 +1,5 @@
 use Rattle.std.proofs.Common.{◌≡◌, ℕ, ◌-◌, ◌*◌, ◌/◌, ◌^◌, ◌<◌, ◌≤◌, length}
-use Rattle.sets.specs.Sets.{elements, those_from}
+use Rattle.set_algebra.specs.Sets.{elements, those_from}
 use Rattle.bit_set.specs.Retained.{HasTested}
 use Rattle.bit_set.proofs.set.BitSet.retain.Given as goal
 

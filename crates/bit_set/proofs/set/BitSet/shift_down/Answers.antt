@@ -1,6 +1,6 @@
 use Rattle.std.proofs.Common.{refl}
 use Rattle.bit_set.specs.Changes.{Changes}
-use Rattle.sets.proofs.{MovedLemmas.{lowered_by_members, members_lowered}, SetLemmas.IsAscending-elements}
+use Rattle.set_algebra.proofs.{MovedLemmas.{lowered_by_members, members_lowered}, SetLemmas.IsAscending-elements}
 use Rattle.bit_set.proofs.set.BitSet.shift_down.Goals as goal
 
 pub returns-clause-members : goal.returns-clause-members

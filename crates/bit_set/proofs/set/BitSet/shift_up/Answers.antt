@@ -1,6 +1,6 @@
 use Rattle.std.proofs.Common.{◌-◌, length, arith}
 use Rattle.bit_set.proofs.ChangeLemmas.{changes_raised}
-use Rattle.sets.proofs.{MovedLemmas.{members_raised, raised_by_members}, SetLemmas.IsAscending-elements}
+use Rattle.set_algebra.proofs.{MovedLemmas.{members_raised, raised_by_members}, SetLemmas.IsAscending-elements}
 use Rattle.bit_set.proofs.set.BitSet.shift_up.Goals as goal
 
 pub returns-clause-members : goal.returns-clause-members

@@ -1,7 +1,7 @@
 use Rattle.std.proofs.Common.{ap, length, ◌∙◌, arith}
 use Rattle.bit_blocks.specs.Bits.{blocks_for, whole_blocks}
 use Rattle.bit_words.proofs.CapacityLemmas.{whole_blocks-fits, whole_blocks-past}
-use Rattle.sets.specs.Sets.{elements, has}
+use Rattle.set_algebra.specs.Sets.{elements, has}
 use Rattle.bit_set.proofs.{CapacityLemmas.{elements-true_values, true_end-bound, whole_blocks-empty}, ChangeLemmas.changes_shrunk}
 use Rattle.bit_set.proofs.set.BitSet.shrink_to_fit.Goals as goal
 

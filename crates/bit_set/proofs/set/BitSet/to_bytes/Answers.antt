@@ -1,5 +1,5 @@
 use Rattle.std.{proofs.{Common.{◌-◌, ◌*◌, length, sym, ap, ◌∙◌}, lemmas.Result.IfOk-weaker}}
-use Rattle.sets.{specs.Sets.{elements, has}, proofs.SetLemmas.elements-padded}
+use Rattle.set_algebra.{specs.Sets.{elements, has}, proofs.SetLemmas.elements-padded}
 use Rattle.bit_set.proofs.ByteLemmas.{bits_of_bytes}
 use Rattle.bit_set.proofs.set.BitSet.to_bytes.Goals as goal
 

@@ -1,5 +1,5 @@
 use Rattle.std.proofs.Common.{sym, ◌∙◌, arith, rules}
-use Rattle.sets.proofs.ValueLemmas.{has-within}
+use Rattle.set_algebra.proofs.ValueLemmas.{has-within}
 use Rattle.bit_set.proofs.{CapacityLemmas.Grows-there, ChangeLemmas.changes_toggled}
 use Rattle.bit_set.proofs.set.BitSet.toggle.Goals as goal
 

@@ -1,5 +1,5 @@
 use Rattle.std.proofs.Common.{not, refl}
-use Rattle.sets.proofs.{RangeLemmas.{count_toggled, members_changed, toggled_range}, SetLemmas.IsAscending-elements}
+use Rattle.set_algebra.proofs.{RangeLemmas.{count_toggled, members_changed, toggled_range}, SetLemmas.IsAscending-elements}
 use Rattle.bit_set.specs.Changes.{Changes}
 use Rattle.bit_set.proofs.set.BitSet.toggle_range.Goals as goal
 

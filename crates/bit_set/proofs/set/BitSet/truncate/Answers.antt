@@ -1,5 +1,5 @@
 use Rattle.std.proofs.Common.{refl}
-use Rattle.sets.{proofs.{ValueLemmas.elements-take, MemberLemmas.members_below}, specs.Sets.elements}
+use Rattle.set_algebra.{proofs.{ValueLemmas.elements-take, MemberLemmas.members_below}, specs.Sets.elements}
 use Rattle.bit_set.specs.Changes.{Changes}
 use Rattle.bit_set.proofs.set.BitSet.truncate.Goals as goal
 

@@ -1,4 +1,4 @@
-use Rattle.sets.{proofs.SetLemmas.IsAscending-elements, specs.Sets.{elements, is_subset, union}}
+use Rattle.set_algebra.{proofs.SetLemmas.IsAscending-elements, specs.Sets.{elements, is_subset, union}}
 use Rattle.bit_set.proofs.ReportedLemmas.{reported_as, reported_more, union_kept, union_count}
 use Rattle.bit_set.proofs.set.BitSet.union_changes.Goals as goal
 

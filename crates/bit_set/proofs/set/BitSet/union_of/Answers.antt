@@ -1,4 +1,4 @@
-use Rattle.sets.specs.Sets.{elements}
+use Rattle.set_algebra.specs.Sets.{elements}
 use Rattle.bit_set.specs.Many.{HasSome}
 use Rattle.bit_set.proofs.{ManyLemmas.{none_longer, union_lists, union_members, union_some}}
 use Rattle.bit_set.proofs.set.BitSet.union_of.{Given.Over, Goals.In_ok-bits}

@@ -1,10 +1,10 @@
 use Rattle.std.proofs.{Common.{◌∙◌, ◌-◌, ap, length, not, take}}
 use Rattle.bit_blocks.specs.{declared.block.merge.Merge.TheVariants.{Difference, Union}, Merges.merge_of}
-use Rattle.sets.proofs.{AlgebraLemmas.elements-lengthened, MemberLemmas.counted_within}
+use Rattle.set_algebra.proofs.{AlgebraLemmas.elements-lengthened, MemberLemmas.counted_within}
 use Rattle.bit_set.proofs.ReportedLemmas.{elements-except, length-lengthened-except, members-except, reported_of_lengthened}
 use Rattle.bit_set.proofs.ReportedLemmas.{reported_unchanged, union_count, union_kept}
-use Rattle.sets.proofs.SetLemmas.{IsAscending-elements}
-use Rattle.sets.specs.{Order.same_sets, Sets.{difference, elements, union}}
+use Rattle.set_algebra.proofs.SetLemmas.{IsAscending-elements}
+use Rattle.set_algebra.specs.{Order.same_sets, Sets.{difference, elements, union}}
 use Rattle.bit_set.specs.Changes.{Changes, Outcome.Returned}
 use Rattle.bit_set.proofs.set.BitSet.union_with_difference.Goals as goal
 

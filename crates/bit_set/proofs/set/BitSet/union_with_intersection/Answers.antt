@@ -1,10 +1,10 @@
 use Rattle.std.proofs.{Common.{◌∙◌, ◌-◌, ap, length, not, take}}
 use Rattle.bit_blocks.specs.{declared.block.merge.Merge.TheVariants.{Intersection, Union}, Merges.merge_of}
-use Rattle.sets.proofs.{AlgebraLemmas.elements-lengthened, MemberLemmas.counted_within}
+use Rattle.set_algebra.proofs.{AlgebraLemmas.elements-lengthened, MemberLemmas.counted_within}
 use Rattle.bit_set.proofs.FusedLemmas.{elements-common, length-lengthened-common, members-common}
 use Rattle.bit_set.proofs.ReportedLemmas.{reported_of_lengthened, reported_unchanged, union_count, union_kept}
-use Rattle.sets.proofs.SetLemmas.{IsAscending-elements}
-use Rattle.sets.specs.{Order.same_sets, Sets.{elements, intersection, union}}
+use Rattle.set_algebra.proofs.SetLemmas.{IsAscending-elements}
+use Rattle.set_algebra.specs.{Order.same_sets, Sets.{elements, intersection, union}}
 use Rattle.bit_set.specs.Changes.{Changes, Outcome.Returned}
 use Rattle.bit_set.proofs.set.BitSet.union_with_intersection.Goals as goal
 

@@ -1,5 +1,5 @@
 use Rattle.std.proofs.{Common.{false, ap}, lemmas.List.length-replicate}
-use Rattle.sets.{proofs.ValueLemmas.elements-all_false, specs.Sets.has}
+use Rattle.set_algebra.{proofs.ValueLemmas.elements-all_false, specs.Sets.has}
 use Rattle.bit_set.proofs.set.BitSet.with_capacity_general.Goals as goal
 
 pub returns-clause-elements : goal.returns-clause-elements

@@ -1,5 +1,5 @@
 use Rattle.std.proofs.Common.{subst, ap}
-use Rattle.sets.specs.Sets.{IsAscending}
+use Rattle.set_algebra.specs.Sets.{IsAscending}
 use Rattle.bit_set.proofs.walk.Iter.ascends.Goals as goal
 
 pub returns : goal.returns

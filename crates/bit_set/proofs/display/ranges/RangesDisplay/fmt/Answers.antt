@@ -1,5 +1,5 @@
 use Rattle.std.proofs.{Common.{◌≡◌, ◌∷◌, [], length, refl, sym, ap, ◌∙◌, rules}, lemmas.Grind.{put_two}}
-use Rattle.sets.{specs.{Ranges.those_in_range, Runs.runs_of, Sets.elements}, proofs.RunLemmas.whole_range}
+use Rattle.set_algebra.{specs.{Ranges.those_in_range, Runs.runs_of, Sets.elements}, proofs.RunLemmas.whole_range}
 use Rattle.bit_set.proofs.display.ranges.RangesDisplay.fmt.Goals.{After-runs-rest}
 use Rattle.bit_set.proofs.display.ranges.RangesDisplay.fmt.Goals as goal
 

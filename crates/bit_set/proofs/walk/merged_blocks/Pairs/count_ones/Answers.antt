@@ -1,6 +1,6 @@
 use Rattle.std.proofs.{Common.{◌≡◌, ◌∙◌, max, length, map, arith}, lemmas.List.Elements.All-same}
 use Rattle.bit_words.specs.MergedOnes.{merged_ones}
-use Rattle.sets.specs.Sets.{elements}
+use Rattle.set_algebra.specs.Sets.{elements}
 use Rattle.bit_set.proofs.{TallyLemmas.merged_elements, walk.merged_blocks.Pairs.count_ones.Goals.After-as_slice-2}
 use Rattle.bit_set.proofs.walk.merged_blocks.Pairs.count_ones.Goals as goal
 

@@ -1,7 +1,7 @@
 use Rattle.std.proofs.Common.{◌≡◌, ◌+◌, ◌-◌, ◌≤◌, ◌<◌, ◌^◌, count_ones, length, ap, ◌∙◌, arith}
 use Rattle.std.specs.List.{count_by}
 use Rattle.bit_blocks.specs.Ranges.{values_in_range}
-use Rattle.sets.specs.Sets.{elements}
+use Rattle.set_algebra.specs.Sets.{elements}
 use Rattle.bit_set.specs.Missing.{missing_values}
 use Rattle.bit_set.proofs.{IndexLemmas.length-indexes, MissingLemmas.{count-missing, length-missing}, walk.missing.Missing.count.Given.Over, walk.missing.Missing.count.Goals.After-self}
 use Rattle.bit_set.proofs.walk.missing.Missing.count.Goals as goal

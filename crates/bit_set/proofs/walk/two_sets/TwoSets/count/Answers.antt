@@ -1,5 +1,5 @@
 use Rattle.std.proofs.Common.{◌≡◌, ◌+◌, ◌<◌, ◌^◌, length, ap, arith}
-use Rattle.sets.specs.Sets.{elements}
+use Rattle.set_algebra.specs.Sets.{elements}
 use Rattle.bit_set.proofs.{IndexLemmas.length-indexes, walk.two_sets.TwoSets.count.Goals.After-count_ones}
 use Rattle.bit_set.proofs.walk.two_sets.TwoSets.count.Goals as goal
 

@@ -1,5 +1,5 @@
 use Rattle.std.{proofs.Common.{◌-◌, refl, ap, ◌∙◌, arith}, specs.Option.unwrap_or}
-use Rattle.sets.{specs.Sets.elements, proofs.MemberLemmas.members_merged}
+use Rattle.set_algebra.{specs.Sets.elements, proofs.MemberLemmas.members_merged}
 use Rattle.bit_set.{specs.Walk.IsAtFirstBlocks, proofs.{WalkLemmas.{IsBegun, begun}, walk.two_sets.TwoSets.over.Goals.After-zero}}
 use Rattle.bit_set.proofs.walk.two_sets.TwoSets.over.Goals as goal
 

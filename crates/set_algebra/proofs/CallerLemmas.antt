@@ -1,0 +1,116 @@
+-- What a caller cites of sets.
+use Rattle.std.proofs.Common.{◌≡◌, ℕ, ◌+◌, ◌-◌, ◌*◌, ◌/◌, ◌%◌, ◌<◌, ◌≤◌, ◌++◌, ◌⊎◌, inl, inr, Bool, ◌&&◌, not, nat_le, ltb}
+use Rattle.std.proofs.Common.{filter, take, List, [], ◌∷◌, IsTrue, refl, sym, ap, ◌∙◌, zero, suc}
+use Rattle.std.proofs.Common.{append_assoc, arith, div-add-mod', length, reverse, ◌==◌}
+use Rattle.std.proofs.Math.Nat.{add-mod_right}
+use Rattle.std.proofs.lemmas.{Bool.{cases_Bool, Decides.nat_tests}, Grind.take_at_read, Nat.mod-mul-add}
+use Rattle.std.proofs.lemmas.{List.{append-nil, reverse-append}, List.Folds.list_any-append, List.Sums.{length-filter, count_by-le-length, sum_by-append}}
+use Rattle.set_algebra.specs.{Ranges.span, Sets.{AscendsFrom, IsAscending, elements, has, those_below}}
+use Rattle.set_algebra.proofs.AlgebraLemmas.{members_of_merged_sets}
+use Rattle.set_algebra.proofs.TestLemmas.{below_all, below_none, filter_all, filter_none, from_all, from_none}
+use Rattle.set_algebra.proofs.PlaceLemmas.{all_by_places, any_by_places, at_place, has_place, in_order}
+use Rattle.set_algebra.proofs.RangeLemmas.{IsAscending-span, filtered_apart, has-span, length-span}
+use Rattle.set_algebra.proofs.SetLemmas.{AscendsFrom-filter, IsAscending-elements, has-filter, has-first, same_members}
+
+-- a test keeps no more than there is
+pub length-filter-le : (p : ℕ → Bool) (s : List ℕ) → length (filter p s) ≤ length s
+length-filter-le p s = omega (arith, length-filter p s, count_by-le-length p s)
+
+-- the front of a list that has a first
+pub take-first : (n x : ℕ) (xs : List ℕ) → 0 < n → take n (x ∷ xs) ≡ x ∷ take (n - 1) xs
+take-first zero x xs pos = absurd (omega arith)
+take-first (suc n) x xs pos = let less : n ≡ suc n - 1 = omega arith in ap (λ k. x ∷ take k xs) less
+
+-- a list from its back has the same members
+pub has-reverse : (s : List ℕ) (n : ℕ) → has (reverse s) n ≡ has s n
+has-reverse [] n = refl
+has-reverse (x ∷ xs) n =
+    ap (λ l. has l n) (reverse-append (x ∷ []) xs)
+    ∙ list_any-append (λ m. m == n) (reverse xs) (x ∷ []) ∙ (let rest = has-reverse xs n in grind (arith, nat_tests))
+
+-- a list that ascends and had a number pushed ascends, or some member is no less
+ascends_pushed_from : (low : ℕ) (s : List ℕ) (x : ℕ) → low ≤ x → AscendsFrom low s → AscendsFrom low (s ++ x ∷ []) ⊎ ((y : ℕ) × IsTrue (has s y) × (x ≤ y))
+ascends_pushed_from low [] x from up = inl (from, tt)
+ascends_pushed_from low (y ∷ ys) x from up =
+    elim (cases_Bool (nat_le x y)) [
+      | inl less ↦ inr (y, has-first y ys, grind (arith, nat_tests))
+      | inr more ↦
+          elim (ascends_pushed_from (y + 1) ys x (grind (arith, nat_tests)) up.1) [
+            | inl rest ↦ inl (up.0, rest)
+            | inr found ↦ inr (found.0, (let is = found.1 in grind (arith, nat_tests)), found.2)
+          ]
+    ]
+
+pub ascends_pushed : (s : List ℕ) (x : ℕ) → IsAscending s → (s ++ x ∷ [] ≡ s ++ x ∷ []) × (IsAscending (s ++ x ∷ []) ⊎ ((y : ℕ) × IsTrue (has s y) × (x ≤ y)))
+ascends_pushed s x up = (refl, ascends_pushed_from 0 s x (omega arith) up)
+
+-- a set of two parts has as many members as they have
+
+pub length_of_parts : (whole a b : List ℕ) → IsAscending whole → IsAscending a → IsAscending b
+    → ((x : ℕ) → has a x ≡ (has whole x && not (has b x))) → ((x : ℕ) → IsTrue (has b x) → IsTrue (has whole x)) → length a + length b ≡ length whole
+length_of_parts whole a b up up_a up_b others within =
+    let first : a ≡ filter (λ x. not (has b x)) whole = same_members a (filter (λ x. not (has b x)) whole) up_a (AscendsFrom-filter 0 _ whole up)
+    (λ x. let kept = has-filter (λ x. not (has b x)) whole x in let is = others x in grind (arith, nat_tests)) in
+    let second : b ≡ filter (has b) whole = same_members b (filter (has b) whole) up_b (AscendsFrom-filter 0 _ whole up)
+    (λ x. let kept = has-filter (has b) whole x in let is = within x in grind (arith, nat_tests)) in
+    omega (arith, filtered_apart (has b) whole, ap length first, ap length second)
+
+-- what is below n and not in a set, with what is in it below n, is n
+pub count_complement : (n : ℕ) (rest set : List Bool) → ((x : ℕ) → has (elements rest) x ≡ (ltb x n && not (has (elements set) x)))
+    → length (elements rest) + length (those_below (elements set) n) ≡ n
+count_complement n rest set is =
+    let s = elements set in
+    let up = IsAscending-elements set in
+    omega (
+      arith,
+      length-span 0 n,
+      length_of_parts (span 0 n) (elements rest) (those_below s n) (IsAscending-span 0 n) (IsAscending-elements rest)
+          (AscendsFrom-filter 0 (λ y. ltb y n) s up)
+          (λ x. let kept = has-filter (λ y. ltb y n) s x in let inside = has-span 0 n x in let rests = is x in grind (arith, nat_tests))
+          (λ x. let kept = has-filter (λ y. ltb y n) s x in let inside = has-span 0 n x in grind (arith, nat_tests)),
+    )
+
+-- members that are all below a number are no more than it
+few_from : (low n : ℕ) (s : List ℕ) → AscendsFrom low s → ((x : ℕ) → IsTrue (has s x) → x < n) → length s ≤ n - low
+few_from low n [] up below = omega arith
+few_from low n (x ∷ xs) up below =
+    let rest = few_from (x + 1) n xs up.1 (λ y is. below y (grind (arith, nat_tests))) in
+    let first = below x (has-first x xs) in
+    let from = up.0 in
+    omega (arith, rest, first, from)
+
+pub few_below : (s : List ℕ) (n : ℕ) → IsAscending s → ((x : ℕ) → IsTrue (has s x) → x < n) → length s ≤ n
+few_below s n up below = omega (arith, few_from 0 n s up below)
+
+-- a set in another has no more members
+pub fewer_within : (s t : List ℕ) → IsAscending s → IsAscending t → ((x : ℕ) → IsTrue (has s x) → IsTrue (has t x)) → length s ≤ length t
+fewer_within s t up_s up_t within =
+    let same : s ≡ filter (has s) t = same_members s (filter (has s) t) up_s (AscendsFrom-filter 0 _ t up_t)
+    (λ x. let kept = has-filter (has s) t x in let is = within x in grind (arith, nat_tests)) in
+    omega (arith, ap length same, length-filter-le (has s) t)
+
+-- steps of k from a multiple: there is no other before the next one, which is one
+between_multiples : (m k x : ℕ) → m % k ≡ 0 → m ≤ x → x < m + k → x % k ≡ x - m
+between_multiples m k x at from below =
+    let split : x ≡ m / k * k + (x - m) = omega (arith, div-add-mod' m k) in
+    ap (λ n. n % k) split ∙ mod-mul-add (m / k) k (x - m) (omega arith)
+
+pub multiples : (m k : ℕ) → (m % k ≡ m % k)
+    × ((x : ℕ) → m % k ≡ 0 → m ≤ x → x < m + k → x % k ≡ x - m) × ((x : ℕ) → x ≡ m + k → x % k ≡ m % k)
+multiples m k = (refl, between_multiples m k, λ x is. ap (λ n. n % k) is ∙ add-mod_right m k)
+
+-- what loops over a set use, for `grind`
+pub ruleset set_steps = (nat_tests, has-filter, below_none, below_all, from_none, from_all, length-filter-le, take-first, append_assoc, append-nil)
+
+-- all that callers use, for `grind`: a crate names it once, at its root
+pub ruleset calls = (set_steps, members_of_merged_sets, has-reverse, at_place, has_place, in_order, IsAscending-elements, ascends_pushed, list_any-append, take_at_read, sum_by-append)
+
+-- for a function whose clause says that a test which is no bound keeps none, or all
+pub ruleset kept_by_tests = (calls, filter_none, filter_all)
+
+-- for a loop that goes on by steps of a number: a function that needs it names it
+pub ruleset steps = (nat_tests, multiples)
+
+-- the same for loops over a row of sets whose contract says `All` or `Any`, and whose invariant `list_all` or `list_any`:
+-- with these two beside the places a loop over one set may stay open
+pub ruleset rows = (set_steps, all_by_places, any_by_places)

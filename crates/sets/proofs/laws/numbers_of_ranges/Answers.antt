@@ -1,5 +1,0 @@
-use Rattle.sets.proofs.RangeLemmas.{toggled_twice}
-use Rattle.sets.proofs.laws.numbers_of_ranges.Goals as goal
-
-pub returns-clause-twice : goal.returns-clause-twice
-returns-clause-twice c = toggled_twice
