@@ -105,7 +105,7 @@ fn put_blocks(bits: &mut BitVec<Block>, from: usize, blocks: &[Block]) -> bool
 
 /// Replaces the blocks from an index on by the given ones, and returns whether it could: nothing changes if memory
 /// runs out, or the length would be above `usize::MAX`. Copies them all at once, and then reads each once.
-#[tactic(auto, using(bit_set::proofs::MemberLemmas::reads))]
+#[tactic(auto, using(set_algebra::proofs::MemberLemmas::reads))]
 #[unsafe(no_mangle)]
 pub extern "C" fn bit_set_put_blocks(set: &mut Exclusive, from: usize, blocks: &[Block]) -> bool
     requires here { IsAt set.ref_ptr set.old.at }

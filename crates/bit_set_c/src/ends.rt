@@ -7,7 +7,7 @@ use crate::handed::Exclusive;
 use crate::searching::or_max;
 
 /// Removes the least member and returns it, or `usize::MAX` if there is none.
-#[tactic(auto, using(bit_set::proofs::ValueLemmas::members_are_below_lengths))]
+#[tactic(auto, using(set_algebra::proofs::ValueLemmas::members_are_below_lengths))]
 #[unsafe(no_mangle)]
 pub extern "C" fn bit_set_pop_first(set: &mut Exclusive) -> usize
     requires here { IsAt set.ref_ptr set.old.at }
@@ -26,7 +26,7 @@ pub extern "C" fn bit_set_pop_first(set: &mut Exclusive) -> usize
 }
 
 /// Removes the greatest member and returns it, or `usize::MAX` if there is none.
-#[tactic(auto, using(bit_set::proofs::ValueLemmas::members_are_below_lengths))]
+#[tactic(auto, using(set_algebra::proofs::ValueLemmas::members_are_below_lengths))]
 #[unsafe(no_mangle)]
 pub extern "C" fn bit_set_pop_last(set: &mut Exclusive) -> usize
     requires here { IsAt set.ref_ptr set.old.at }
