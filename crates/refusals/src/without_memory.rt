@@ -369,6 +369,8 @@ fn set_two<B: BitBlock>(bits: &mut BitVec<B>) -> bool {
 fn merge<B: BitBlock>(bits: &mut BitVec<B>, lent: &BitVec<B>) {
     if lent.len() <= bits.len() {
         bits.merge_blocks(lent, Merge::Symmetric, &mut Steps::new());
+    }
+    if lent.len() <= bits.len() {
         bits.merge(lent, Merge::Union);
     }
 }
