@@ -33,6 +33,11 @@ NO_FIELD = """\
   has no field `values`
   its fields are `value`, `len`
 """
+# A goal that fails at some numbers: of what was read, some says nothing of it.
+FAILS = """\
+./proofs/packed/put/Answers.antt:20:55: error: `returns-clause-most`: `omega`: the goal does not follow from what it read.
+  All of that holds, and the goal fails, at `c.args.most` = 1. 1 of them has no atom in common with the goal
+"""
 LIMIT = """\
 ./proofs/packed/put/Answers.antt:21:61: error: `returns-clause-value`: the tactic
   ran out of its steps
@@ -46,6 +51,7 @@ class Verdicts(unittest.TestCase):
 
     def test_of_a_wrong_value(self):
         self.assertEqual(self.verdict(WRONG + NOT_PROVED), REFUSED)
+        self.assertEqual(self.verdict(FAILS + NOT_PROVED), REFUSED)
 
     def test_of_a_name_that_is_gone(self):
         self.assertEqual(self.verdict(NO_FIELD + NOT_PROVED), "NO GOAL")
