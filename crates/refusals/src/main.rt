@@ -7,6 +7,7 @@ mod bits;
 mod ends;
 mod failing_writers;
 mod faults;
+mod feed;
 mod flow_problems;
 mod json;
 mod matrices;

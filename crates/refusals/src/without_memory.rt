@@ -1,8 +1,8 @@
 // Calls that take no memory, in groups, of which each returns numbers.
-ghost use Rattle.std.specs.Prelude.{◌+◌, ◌%◌, ◌^◌, length};
 ghost use Rattle.std.specs.Iterator.{IsFinite};
 
 use crate::faults::Fault;
+use crate::feed::Feed;
 use crate::states::{Capacity, FIRST, LENT, Sets, State};
 use crate::sweep::{Row, Sweep, Trial};
 use crate::{ends, failing_writers};
@@ -13,26 +13,6 @@ use std::alloc::{AllocError, Global};
 use std::cmp::Ordering;
 use std::hash::{Hash, Hasher};
 use std::mem;
-
-// Counts the bytes that it is fed.
-#[derive(Drop)]
-struct Feed {
-    count: u64,
-}
-
-impl Hasher for Feed {
-    ghost write = { λ feed bytes. record { count = (feed.count + length bytes) % 2 ^ 64 } };
-
-    ghost finish = { λ feed. feed.count };
-
-    fn finish(&self) -> u64 {
-        self.count
-    }
-
-    fn write(&mut self, bytes: &[u8]) {
-        self.count = self.count.wrapping_add(bytes.len() as u64);
-    }
-}
 
 #[derive(Clone, Copy)]
 enum Kind {
