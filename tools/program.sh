@@ -213,6 +213,11 @@ can_start() {
     done
 }
 
+# Puts the crates with the most text first: of those that can be begun at one time the longest gets all cores.
+order_crates() {
+    mapfile -t crates < <(cd "$room/copy/crates" && du -s --apparent-size -- "${crates[@]}" | sort -rn | cut -f 2)
+}
+
 # Begins each crate that is not begun, and stands on what is built.
 start_all() {
     local crate
@@ -278,6 +283,7 @@ build() {
     start_time="$(date +%s)"
     read_toolchain
     take_copy "$room/copy" find_parts || stop "the sources cannot be copied to $room/copy"
+    order_crates
     while [ "${#sums[@]}" -lt "${#crates[@]}" ]; do
         start_all
         [ "${#runs[@]}" -eq 0 ] || finish_some
