@@ -1,11 +1,11 @@
 #!/usr/bin/env -S bash -p
-# Builds c/example.c over the library for C with the system's compilers, runs it, and runs it again with one request for
-# memory after another failing; it also does the first over blocks of 32 bits, and with c/example.cc in C++. Bounds the
-# memory that the calls that make a set may request, and makes random calls beside a table. Compares the prototypes of both
-# headers with what the library exports, and these with the calls of BitSet and BitMatrix; and runs the Python module if
-# there is a python3.
-#   tests/c.sh [FOLDER]      over the library that c/build wrote into the folder; if none is given it is built, over the
-#                            libraries as `rt ci` has just proved them here
+# Builds bindings/c/example.c over the library for C with the system's compilers, runs it, and runs it again with one
+# request for memory after another failing; it also does the first over blocks of 32 bits, and with example.cc in C++.
+# Bounds the memory that the calls that make a set may request, and makes random calls beside a table. Compares the
+# prototypes of both headers with what the library exports, and these with the calls of BitSet and BitMatrix; and runs the
+# Python module if there is a python3.
+#   tests/c.sh [FOLDER]      over the library that bindings/c/build wrote into the folder; if none is given it is built,
+#                            over the libraries as `rt ci` has just proved them here
 # The last line is 'N passed, M failed'.
 case $- in *p*) ;; *) exec bash -p "$0" "$@" ;; esac
 set -uo pipefail
@@ -13,6 +13,7 @@ set -uo pipefail
 . "$(dirname "$(readlink -f "$0")")/../tools/start.sh"
 here="$(dirname "$(readlink -f "${BASH_SOURCE[0]}")")"
 top="$(dirname "$here")"
+bindings="$top/bindings"
 passed=0
 failed=0
 if [ $# -gt 1 ] || [[ "${1:-}" = -* ]]; then
@@ -39,23 +40,23 @@ pass() { passed=$((passed + 1)); }
 # As the current folder one of its own, and in `library` the one with the library.
 find_library() {
     if ! command -v cc > /dev/null; then
-        fail 'there is no cc to build c/example.c with'
+        fail 'there is no cc to build bindings/c/example.c with'
         finish
     fi
     if [ $# -gt 0 ]; then
         library="$(readlink -f "$1")"
     else
         library="$room/library"
-        if ! "$top/c/build" "$library" --proved > "$room/said" 2>&1; then
+        if ! "$bindings/c/build" "$library" --proved > "$room/said" 2>&1; then
             cat "$room/said"
-            fail 'c/build builds no library'
+            fail 'bindings/c/build builds no library'
             finish
         fi
     fi
     cd "$room" || exit 1
 
     # What the example must write, which is not taken from it.
-    cp "$top/c/example.out" written
+    cp "$bindings/c/example.out" written
     : > nothing
     echo 'no memory' > refused
 }
@@ -85,7 +86,7 @@ over_blocks() {
 warnings=(-Wall -Wextra -Werror -pedantic)
 
 try_examples() {
-    if cc -std=c99 "${warnings[@]}" -O2 -I"$library" "$top/c/example.c" "$library/libbit_set.a" -o example 2> said; then
+    if cc -std=c99 "${warnings[@]}" -O2 -I"$library" "$bindings/c/example.c" "$library/libbit_set.a" -o example 2> said; then
         run ./example
         judge 'the example' 0 written nothing
     else
@@ -93,7 +94,7 @@ try_examples() {
         fail 'cc does not build the example'
         finish
     fi
-    if cc -std=c99 -I"$library" "$top/c/example.c" -L"$library" -lbit_set -Wl,-rpath,"$library" -o shared 2> said; then
+    if cc -std=c99 -I"$library" "$bindings/c/example.c" -L"$library" -lbit_set -Wl,-rpath,"$library" -o shared 2> said; then
         run ./shared
         judge 'the example over the shared object' 0 written nothing
     else
@@ -101,7 +102,7 @@ try_examples() {
         fail 'cc does not build the example over the shared object'
     fi
     # The example reads the same where each name of a call is that of the other header.
-    over_blocks 32 "$top/c/example.c" > example32.c
+    over_blocks 32 "$bindings/c/example.c" > example32.c
     if cc -std=c99 "${warnings[@]}" -O2 -I"$library" example32.c "$library/libbit_set.a" -o example32 2> said; then
         run ./example32
         judge 'the example over blocks of 32 bits' 0 written nothing
@@ -115,7 +116,7 @@ try_examples() {
 watch_example() {
     echo 'int main(void) { return 0; }' > empty.c
     if cc -fsanitize=address empty.c -o empty 2> said && ./empty; then
-        if cc -std=c99 -g -fsanitize=address -I"$library" "$top/c/example.c" "$library/libbit_set.a" -o watched; then
+        if cc -std=c99 -g -fsanitize=address -I"$library" "$bindings/c/example.c" "$library/libbit_set.a" -o watched; then
             run ./watched
             judge 'the example under the address sanitizer' 0 written nothing
         else
@@ -136,7 +137,7 @@ try_cpp() {
         fi
     done
     if command -v c++ > /dev/null; then
-        if c++ -std=c++17 "${warnings[@]}" -O2 -I"$library" "$top/c/example.cc" "$library/libbit_set.a" -o example_cc 2> said; then
+        if c++ -std=c++17 "${warnings[@]}" -O2 -I"$library" "$bindings/c/example.cc" "$library/libbit_set.a" -o example_cc 2> said; then
             run ./example_cc
             judge 'the example in C++' 0 written nothing
         else
@@ -261,9 +262,9 @@ try_python() {
         fi
         if [ ! -f "$(python3 -c 'import sysconfig; print(sysconfig.get_path("include"))')/Python.h" ]; then
             echo 'left out: the Python module, without the headers of Python'
-        elif "$top/python/build" "$library" module > said 2>&1; then
+        elif "$bindings/python/build" "$library" module > said 2>&1; then
             # The headers of Python 3.8 have this for it.
-            if CC='cc -DPyMODINIT_FUNC=PyObject*' "$top/python/build" "$library" older > said 2>&1 \
+            if CC='cc -DPyMODINIT_FUNC=PyObject*' "$bindings/python/build" "$library" older > said 2>&1 \
                 && nm -D --defined-only older/bit_set/*.so | grep -q ' PyInit__bit_set$'; then
                 pass
             else
@@ -271,11 +272,11 @@ try_python() {
                 fail 'the Python module cannot be loaded where the headers of Python 3.8 built it'
             fi
             for file in tests faults; do
-                if PYTHONPATH=module python3 -B "$top/python/$file.py" > said 2>&1; then
+                if PYTHONPATH=module python3 -B "$bindings/python/$file.py" > said 2>&1; then
                     pass
                 else
                     cat said
-                    fail "the Python module fails python/$file.py"
+                    fail "the Python module fails bindings/python/$file.py"
                 fi
             done
         else

@@ -41,13 +41,13 @@ def exported(top):
 
 
 def declared(top):
-    lines = (top / "c/bit_set.h").read_text().splitlines()
+    lines = (top / "bindings/c/bit_set.h").read_text().splitlines()
     found = [re.match(r"[a-z].*\b(bit_(?:set|matrix)_[a-z_]+)\(", line) for line in lines if not line.startswith("static")]
     return {it.group(1) for it in found if it}
 
 
 def made_in_bit_set_sys(top):
-    text = (top / "rust/bit-set-sys/src/lib.rs").read_text()
+    text = (top / "bindings/rust/bit-set-sys/src/lib.rs").read_text()
     parts = zip(re.split(r"^calls! \{", text, flags=re.MULTILINE)[1:], ["bit_set_", "bit_matrix_"])
     lines = [(prefix, line) for part, prefix in parts for line in part.splitlines()]
     return {prefix + name for prefix, line in lines for name in re.findall(r"^        \[?(\w+)(?:\(| of)", line)}
@@ -55,7 +55,7 @@ def made_in_bit_set_sys(top):
 
 def made_in_bit_set(top):
     found = set()
-    for text in texts_in(top / "rust/bit-set/src", "*.rs"):
+    for text in texts_in(top / "bindings/rust/bit-set/src", "*.rs"):
         found |= {f"bit_matrix_{name}" for name in re.findall(r"\bB::Rows::(\w+)", text)}
         found |= {f"bit_set_{name}" for name in re.findall(r"\b(?:B|raw::Calls>)::([a-z]\w+)", text)}
     # The others are of its own trait.
@@ -63,7 +63,7 @@ def made_in_bit_set(top):
 
 
 def made_in_python(top):
-    texts = texts_in(top / "python/src", "*.c")
+    texts = texts_in(top / "bindings/python/src", "*.c")
     return {name for text in texts for name in re.findall(r"\bbit_(?:set|matrix)_\w+", text)}
 
 
@@ -90,7 +90,7 @@ def functions_in_rust(folder, own):
 def functions_in_cpp(top):
     """The public ones of each class, with its operators."""
     found, name, is_public = {}, None, False
-    for line in (top / "c/bit_set.hpp").read_text().splitlines():
+    for line in (top / "bindings/c/bit_set.hpp").read_text().splitlines():
         if head := re.match(r"class (\w+) \{", line):
             name, is_public = head.group(1), False
         elif line == "public:":
@@ -102,7 +102,7 @@ def functions_in_cpp(top):
 
 def functions_in_python(top):
     """The methods and attributes in the tables of the module."""
-    text = (top / "python/src/module.c").read_text()
+    text = (top / "bindings/python/src/module.c").read_text()
     methods = {name: re.findall(rf"^    METHOD\({name}, (\w+)", text, re.MULTILINE) for name in ("set", "matrix")}
     attributes = re.search(r"matrix_attributes\[\] = \{(.*?)\n\};", text, re.DOTALL).group(1)
     return {"BitSet": Counter(methods["set"]), "BitMatrix": Counter(methods["matrix"] + re.findall(r'\{"(\w+)"', attributes))}
@@ -111,7 +111,7 @@ def functions_in_python(top):
 def functions_in_stub(top):
     """What the file of the module's types has of each class, but for what Python calls itself."""
     found, name = {}, None
-    for line in (top / "python/src/__init__.pyi").read_text().splitlines():
+    for line in (top / "bindings/python/src/__init__.pyi").read_text().splitlines():
         if head := re.match(r"class (\w+)", line):
             name = head.group(1)
         elif it := re.match(r"    def ([a-z]\w*)\(", line):
@@ -120,8 +120,8 @@ def functions_in_stub(top):
 
 
 FUNCTIONS = {
-    "bit-set": lambda top: functions_in_rust(top / "rust/bit-set", "BitSet"),
-    "fixedbitset": lambda top: functions_in_rust(top / "rust/fixedbitset", "FixedBitSet"),
+    "bit-set": lambda top: functions_in_rust(top / "bindings/rust/bit-set", "BitSet"),
+    "fixedbitset": lambda top: functions_in_rust(top / "bindings/rust/fixedbitset", "FixedBitSet"),
     "C++": functions_in_cpp,
     "Python": functions_in_python,
     "Python's types": functions_in_stub,

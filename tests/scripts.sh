@@ -1,7 +1,7 @@
 #!/usr/bin/env -S bash -p
-# Tries the scripts `bitset`, `look`, `add`, `gate`, `c/build`, `release` and `tests/callers.sh` in small repositories, with
-# stand-ins for the toolchain's commands that prove nothing: what is built when, what stays of runs that are ended, and what is said. Then
-# what those find who build over the packages and the headers of a release.
+# Tries the scripts `bitset`, `look`, `add`, `gate`, `bindings/c/build`, `release` and `tests/callers.sh` in small
+# repositories, with stand-ins for the toolchain's commands that prove nothing: what is built when, what stays of runs that
+# are ended, and what is said. Then what those find who build over the packages and the headers of a release.
 #   tests/scripts.sh           all of that, in parts that run side by side
 #   tests/scripts.sh PART..    the parts that are named: each is a file of tests/scripts
 #   tests/scripts.sh --real    instead `./bitset` with the real toolchain and a comment that changes, over the libraries

@@ -1,5 +1,5 @@
-# What c/build and release share: the crate bit_set_c, proved and compiled to assembly, and the source release that is
-# made of it. To be sourced after tools/ending.sh and tools/copy.sh.
+# What bindings/c/build and release share: the crate bit_set_c, proved and compiled to assembly, and the source release
+# that is made of it. To be sourced after tools/ending.sh and tools/copy.sh.
 # shellcheck shell=bash disable=SC2034,SC2154
 
 # A program would take what is closed here for the first file that it opens, as bash does for the script.
@@ -13,7 +13,8 @@ done
 use_sources() {
     top="$1"
     crates="$top/crates"
-    version="$(sed -n 's/^#define BIT_SET_VERSION "\(.*\)"$/\1/p' "$top/c/bit_set.h")"
+    c="$top/bindings/c"
+    version="$(sed -n 's/^#define BIT_SET_VERSION "\(.*\)"$/\1/p' "$c/bit_set.h")"
 }
 use_sources "$(dirname "$(dirname "$(readlink -f "${BASH_SOURCE[0]}")")")"
 kit="$(dirname "$(rt doc | head -n 1)")"
@@ -161,18 +162,18 @@ assemble_both() {
 
 # The headers, of which that over blocks of 32 bits is made of the other.
 write_headers() {
-    cp "$top"/c/bit_set.{h,hpp} "$1"
+    cp "$c"/bit_set.{h,hpp} "$1"
     sed 's/bit_\(set\|matrix\)/bit_\132/g; s/bit_set32_c\b/bit_set_c/; s/BIT_\(SET\|MATRIX\)/BIT_\132/g
         s/uint64_t bit_set32_block/uint32_t bit_set32_block/
-        s/blocks have 64 bits/blocks have 32 bits/; s,n % 64,n % 32,; s,n / 64,n / 32,' "$top/c/bit_set.h" > "$1/bit_set32.h"
+        s/blocks have 64 bits/blocks have 32 bits/; s,n % 64,n % 32,; s,n / 64,n / 32,' "$c/bit_set.h" > "$1/bit_set32.h"
 }
 
 # The parts that the library is made of, of which the files are what `write_source` copies. Each has its name here, since
 # what an editor or a compiler left beside them, of which git may be told to say nothing, is no part of it.
 find_parts() {
     local name part
-    parts=(./crates.txt ./CHANGELOG.md ./LICENSE-{MIT,APACHE} ./c/bit_set.{h,hpp} ./c/example.{c,cc,out}
-        ./c/source/{Makefile,CMakeLists.txt,README.md,mem.c})
+    parts=(./crates.txt ./CHANGELOG.md ./LICENSE-{MIT,APACHE} ./bindings/c/bit_set.{h,hpp} ./bindings/c/example.{c,cc,out}
+        ./bindings/c/source/{Makefile,CMakeLists.txt,README.md,mem.c})
     [ ! -f "$top/HANDLES" ] || parts+=(./HANDLES)
     for name in "$top"/tests/c_*.[ch]; do
         parts+=("./tests/${name##*/}")
@@ -187,9 +188,9 @@ find_parts() {
 # Writes all of the source release into a folder but for its assembly.
 write_source() {
     mkdir -p "$1"/{include,src,examples,tests}
-    cp "$top"/c/source/{Makefile,CMakeLists.txt,README.md} "$top"/LICENSE-{MIT,APACHE} "$top/CHANGELOG.md" "$1"
-    cp "$top/c/source/mem.c" "$1/src"
-    cp "$top"/c/example.{c,cc,out} "$1/examples"
+    cp "$c"/source/{Makefile,CMakeLists.txt,README.md} "$top"/LICENSE-{MIT,APACHE} "$top/CHANGELOG.md" "$1"
+    cp "$c/source/mem.c" "$1/src"
+    cp "$c"/example.{c,cc,out} "$1/examples"
     cp "$top"/tests/c_*.[ch] "$1/tests"
     write_headers "$1/include"
 }

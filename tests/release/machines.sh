@@ -28,9 +28,9 @@ try_here() {
     done
     cp -r "$source" "$room/packages"
     try 'the packages for Python and Rust from the source release' bare sh -ec "
-        cd '$room/packages' && make -s && python/build include MODULE build/x86-64/libbit_set.a
-        PYTHONPATH=\$PWD/MODULE python3 python/tests.py
-        cd rust && BIT_SET_LIBRARY_DIR=\$PWD/../build/x86-64 cargo test --offline"
+        cd '$room/packages' && make -s && bindings/python/build include MODULE build/x86-64/libbit_set.a
+        PYTHONPATH=\$PWD/MODULE python3 bindings/python/tests.py
+        cd bindings/rust && BIT_SET_LIBRARY_DIR=\$PWD/../../build/x86-64 cargo test --offline"
     for flags in '' -Ctarget-cpu=x86-64-v3; do
         try "the tests of Cargo's packages, with RUSTFLAGS=$flags" bare sh -ec "
             export RUSTFLAGS='$flags'
@@ -159,9 +159,10 @@ try_arm_module() {
     mkdir -p "$room/arm-wheel"
     python3 -m zipfile -e "$release/bit_set-$version"-cp38-abi3-*_aarch64.whl "$room/arm-wheel"
     try 'aarch64: the tests of Python over the wheel' on_arm -E PYTHONHOME="$sysroot/usr" -E PYTHONPATH="$room/arm-wheel" \
-        "$sysroot/usr/bin/python3" "$source/python/tests.py"
+        "$sysroot/usr/bin/python3" "$source/bindings/python/tests.py"
     dpkg-deb -x "$release/python3-bit-set_$version-1_arm64.deb" "$room/arm-packages"
     try 'aarch64: the tests of Python over the packages' on_arm -E PYTHONHOME="$sysroot/usr" \
         -E PYTHONPATH="$room/arm-packages/usr/lib/python3/dist-packages" \
-        -E LD_LIBRARY_PATH="$room/arm-packages/usr/lib/aarch64-linux-gnu" "$sysroot/usr/bin/python3" "$source/python/tests.py"
+        -E LD_LIBRARY_PATH="$room/arm-packages/usr/lib/aarch64-linux-gnu" \
+        "$sysroot/usr/bin/python3" "$source/bindings/python/tests.py"
 }

@@ -67,7 +67,7 @@ try_packages() {
             gcc -O2 bit_set-\$VERSION/tests/$calls.c \$(pkg-config --cflags --libs bit_set) -o $calls
             ./$calls \$ROUNDS"
     done
-    try "$on: the tests of Python over the package" inside 'python3 bit_set-$VERSION/python/tests.py
+    try "$on: the tests of Python over the package" inside 'python3 bit_set-$VERSION/bindings/python/tests.py
         [ "$(python3 -c "from importlib import metadata; print(metadata.version(\"bit-set\"))")" = "$VERSION" ]
         python3 -m pip list | grep "^bit[-_]set "'
     try "$on: the packages are removed" inside '
@@ -97,7 +97,7 @@ try_module() {
     try "$on: pip installs the wheel" inside '
         python3 -m venv "/en v" && "/en v/bin/python" -m pip install --no-index bit_set-$VERSION-cp38-abi3-*_x86_64.whl
         "/en v/bin/python" -m pip check'
-    try "$on: the tests of Python over the wheel" inside '"/en v/bin/python" bit_set-$VERSION/python/tests.py'
+    try "$on: the tests of Python over the wheel" inside '"/en v/bin/python" bit_set-$VERSION/bindings/python/tests.py'
     try "$on: pip removes it" inside '
         "/en v/bin/python" -m pip uninstall -y bit_set && ! find "/en v" -iname "*bit_set*" | grep .'
 }

@@ -22,18 +22,21 @@ exec sleep "$(cat "$STAND_INS/seconds")"
 RUNS
 chmod +x "$room/runs/cargo"
 for signal in HUP INT QUIT TERM; do
-    ended_by_signal c/clients "$signal" 'test --offline' env PATH="$room/runs:$PATH" "$top/c/clients" "$room/built" "$clients"
-    ended_by_signal 'c/clients speed' "$signal" 'run --offline' \
-        env PATH="$room/runs:$PATH" "$top/c/clients" "$room/built" "$clients" speed
+    ended_by_signal bindings/c/clients "$signal" 'test --offline' \
+        env PATH="$room/runs:$PATH" "$top/bindings/c/clients" "$room/built" "$clients"
+    ended_by_signal 'bindings/c/clients speed' "$signal" 'run --offline' \
+        env PATH="$room/runs:$PATH" "$top/bindings/c/clients" "$room/built" "$clients" speed
 done
 ended=0
-env PATH="$room/runs:$PATH" "$top/c/clients" "$room/built" "$clients" speed > "$room/wrote" 2> "$room/said" < /dev/null || ended=$?
-expect "c/clients speed ends with $ended: $(cat "$room/said")" ends_with 0
+env PATH="$room/runs:$PATH" "$top/bindings/c/clients" "$room/built" "$clients" speed \
+    > "$room/wrote" 2> "$room/said" < /dev/null || ended=$?
+expect "bindings/c/clients speed ends with $ended: $(cat "$room/said")" ends_with 0
 ln -sf "$(type -P false)" "$room/runs/cargo"
 ended=0
-env PATH="$room/runs:$PATH" "$top/c/clients" "$room/built" "$clients" > "$room/wrote" 2> "$room/said" < /dev/null || ended=$?
-expect "c/clients whose first tests fail ends with $ended" ends_with 1
-expect 'c/clients goes on where tests fail' not says 'all passed'
+env PATH="$room/runs:$PATH" "$top/bindings/c/clients" "$room/built" "$clients" \
+    > "$room/wrote" 2> "$room/said" < /dev/null || ended=$?
+expect "bindings/c/clients whose first tests fail ends with $ended" ends_with 1
+expect 'bindings/c/clients goes on where tests fail' not says 'all passed'
 
 # Tables of times, over peers that are empty here, where a stand-in for rustc makes a program that only begins.
 benched="$room/benched"

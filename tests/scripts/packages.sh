@@ -52,11 +52,11 @@ expect "Python finds no package of Debian's: $(cat "$room/said")" wrote '1.2.3 >
 # Python's headers for another machine, which include those of its own kind, are found wherever temporary files are. What
 # stands for Python says where these are, from /usr/include on.
 colon="$room/a : b"
-mkdir -p "$colon"/{machine,python/src,include} "$room/their_python"
-cp "$top/python/build" "$colon/python"
-touch "$colon/python/src"/{__init__.py,__init__.pyi,py.typed} "$colon/include/bit_set.h" "$colon/machine/its.h"
+mkdir -p "$colon"/{machine,bindings/python/src,include} "$room/their_python"
+cp "$top/bindings/python/build" "$colon/bindings/python"
+touch "$colon/bindings/python/src"/{__init__.py,__init__.pyi,py.typed} "$colon/include/bit_set.h" "$colon/machine/its.h"
 echo '#include <none-linux-gnu/its.h>' > "$colon/include/Python.h"
-echo '#include <Python.h>' > "$colon/python/src/module.c"
+echo '#include <Python.h>' > "$colon/bindings/python/src/module.c"
 printf '%s\n' '#!/bin/sh' "case \"\$2\" in *MULTIARCH*) echo '../..$colon/machine' ;; *) echo '$colon/include' ;; esac" > "$room/their_python/python3"
 chmod +x "$room/their_python/python3"
 ended=0
@@ -71,15 +71,15 @@ expect "a module is not built where TMPDIR has a colon: $(cat "$room/said")" end
 
 # Rights and files that git is told to leave out of archives are in a release all the same.
 library="$room/committed"
-mkdir -p "$library/python" "$room/archived"
-printf '%s\n' '#!/bin/sh' | tee "$library/python/build" > "$library/python/faults.py"
-chmod +x "$library/python/build"
+mkdir -p "$library/bindings/python" "$room/archived"
+printf '%s\n' '#!/bin/sh' | tee "$library/bindings/python/build" > "$library/bindings/python/faults.py"
+chmod +x "$library/bindings/python/build"
 echo '*.py export-ignore' > "$room/attributes"
 in_library init -q && in_library add . && in_library commit -qm stand_in
 in_library config tar.umask 0177 && in_library config core.attributesFile "$room/attributes"
-(. "$top/tools/release/folder.sh" && here="$library" commit=HEAD write_committed "$room/archived" python) > "$room/said" 2>&1
-expect "git's tar.umask has a release lose rights: $(cat "$room/said")" [ -x "$room/archived/python/build" ]
-expect 'a file is left out of a release by attributes of its user' [ -f "$room/archived/python/faults.py" ]
+(. "$top/tools/release/folder.sh" && here="$library" commit=HEAD write_committed "$room/archived" bindings/python) > "$room/said" 2>&1
+expect "git's tar.umask has a release lose rights: $(cat "$room/said")" [ -x "$room/archived/bindings/python/build" ]
+expect 'a file is left out of a release by attributes of its user' [ -f "$room/archived/bindings/python/faults.py" ]
 
 # Programs that ask for more warnings have none of a header, whatever they include it in.
 cat > "$room/body" << 'BODY'

@@ -54,19 +54,19 @@ release
 expect "release into a folder that is not empty ended with $ended" ends_with 1
 expect 'release does not say that a folder is not empty' says 'is not empty'
 rm -r "$room/released"
-echo '# changed' >> "$library/c/build"
+echo '# changed' >> "$c/build"
 release
 expect "release of what is not committed ended with $ended" ends_with 1
 expect 'release does not say what is not committed' says 'not committed'
 expect 'release makes a folder where it fails' [ ! -e "$room/released" ]
-in_library checkout -q c/build
+in_library checkout -q bindings/c/build
 for unseen in skip-worktree assume-unchanged; do
-    in_library update-index "--$unseen" c/build
-    echo '# changed' >> "$library/c/build"
+    in_library update-index "--$unseen" bindings/c/build
+    echo '# changed' >> "$c/build"
     release
     expect "release of a change that git is told not to see, by $unseen, ended with $ended" ends_with 1
     expect "release does not say what is not committed, by $unseen" says 'not committed'
-    in_library update-index "--no-$unseen" c/build && in_library checkout -q c/build
+    in_library update-index "--no-$unseen" bindings/c/build && in_library checkout -q bindings/c/build
 done
 
 # A disk that keeps no owner of a file, as root has it say.
@@ -89,7 +89,7 @@ expect "a release on a disk that keeps no owners ends with $ended: $(cat "$room/
 expect 'a release is not handed over' cmp "$room/made/a file" "$room/handed/over/a file"
 
 # What a compiler or an editor left beside the sources.
-left=("$library"/{c/example.o,c/other.h,LICENSE-MIT.orig})
+left=("$c"/{example.o,other.h} "$library/LICENSE-MIT.orig")
 touch "${left[@]}"
 (. "$library/tools/c_library.sh" && write_source "$room/written") > "$room/wrote" 2> "$room/said" < /dev/null
 expect "a release takes what a compiler left: $(cd "$room/written" && find . -type f | tr '\n' ' ')" \

@@ -51,12 +51,14 @@ expect_begun() {
     expect "$what: another program was run" wrote "$(marks "${@:2}")"
 }
 
-# One with the library for C.
+# One with the library for C, and what is in it for C alone.
 library="$room/library"
+c="$library/bindings/c"
 set_up_library() {
-    mkdir -p "$library/crates" "$library/tests"
-    cp -r "$top"/{c,tools,gate,crates.txt,CHANGELOG.md} "$top"/LICENSE-* "$library"
-    rm -rf "$library/c/out"
+    mkdir -p "$library"/{bindings,crates,tests}
+    cp -r "$top"/{tools,gate,crates.txt,CHANGELOG.md} "$top"/LICENSE-* "$library"
+    cp -r "$top/bindings/c" "$library/bindings"
+    rm -rf "$c/out"
     cp "$top"/tests/c_*.[ch] "$library/tests"
     (cd "$top/crates" && tar cf - --exclude=out bit_set_c) | tar xf - -C "$library/crates"
 }

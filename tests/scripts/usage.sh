@@ -2,7 +2,7 @@
 # shellcheck shell=bash disable=SC2154
 set_up_waiting
 
-for script in add bitset gate look c/build c/clients python/build release diff/run bench/run; do
+for script in add bitset gate look bindings/{c/build,c/clients,python/build} release diff/run bench/run; do
     ended=0
     env -u HOME PATH=/usr/bin:/bin "$top/$script" --help > "$room/wrote" 2> "$room/said" < /dev/null || ended=$?
     expect "$script --help ends with $ended" ends_with 0
@@ -22,7 +22,7 @@ done
 
 # Where the usage cannot be written, these do not go on to work.
 mkdir "$room/no_words"
-for script in add gate c/clients python/build tests/add.sh tests/scripts.sh; do
+for script in add gate bindings/{c/clients,python/build} tests/add.sh tests/scripts.sh; do
     for call in '--wrong --words 2>&-' '--help >&-'; do
         [[ "$script $call" != tests/*help* ]] || continue
         ended=0
@@ -35,7 +35,8 @@ expect 'add copies libraries where its usage cannot be written' [ ! -e "$room/no
 
 # Each script that bash runs.
 scripts() {
-    find "$top" "$top"/{bench,c,diff,diff/roaring,python,tests,tools} -maxdepth 1 -type f -exec sed -ns '1{/^#!.*bash/F}' {} +
+    find "$top" "$top"/{bench,bindings/{c,python},diff,diff/roaring,tests,tools} -maxdepth 1 -type f \
+        -exec sed -ns '1{/^#!.*bash/F}' {} +
 }
 
 # None calls a function or has an option that is exported. Each is run where there are no commands but those that its first
@@ -53,13 +54,13 @@ while read -r script; do
     env "${functions[@]}" SHELLOPTS=xtrace PATH="$room/few_commands" timeout 20 "$script" > "$room/wrote" 2> "$room/said" < /dev/null
     expect "$script calls a function that is exported" [ ! -e "$room/called" ]
     # What is at work for others with Python alone begins as bash that is told nothing.
-    [ "$script" = "$top/python/build" ] || expect "$script has an option that is exported" not grep -q '^+' "$room/said"
+    [ "$script" = "$top/bindings/python/build" ] || expect "$script has an option that is exported" not grep -q '^+' "$room/said"
 done < <(scripts)
 expect 'there is no script' [ "$(scripts | wc -l)" -gt 20 ]
 
 # What they then do is the same.
 for words in tests/{add,c,scripts}.sh\ --wrong 'tests/cost.sh none' tests/{program,refusals,release}.sh tools/needed add\ --help \
-    {bitset,gate,look,c/build,c/clients,release,diff/run,bench/run}\ --help; do
+    {bitset,gate,look,bindings/c/build,bindings/c/clients,release,diff/run,bench/run}\ --help; do
     for way in env with_options; do
         ended=0
         # shellcheck disable=SC2086  # a command and its words
@@ -288,13 +289,14 @@ mkdir "$room/by_hook"
 expect 'add works in the repository whose hook runs it' cmp "$room/of_hook_before" <(find "$room/of_hook" | sort)
 
 # Each call that is given a row looks first where C asks for it. An entry may be any number.
+header="$top/bindings/c/bit_set.h"
 while read -r call; do
-    expect "with BIT_SET_CHECKED $call does not look at its row" grep -qx "#define $call bit_matrix_checked_.*" "$top/c/bit_set.h"
-done < <(sed -n 's/^[a-z].*\b\(bit_matrix_[a-z_]*\)(.*\bsize_t \(row\|read\)\b.*/\1/p' "$top/c/bit_set.h" | grep -v -e _stop_ -e _checked_)
-expect 'with BIT_SET_CHECKED some entry ends the process' not grep -q checked_dominators "$top/c/bit_set.h"
+    expect "with BIT_SET_CHECKED $call does not look at its row" grep -qx "#define $call bit_matrix_checked_.*" "$header"
+done < <(sed -n 's/^[a-z].*\b\(bit_matrix_[a-z_]*\)(.*\bsize_t \(row\|read\)\b.*/\1/p' "$header" | grep -v -e _stop_ -e _checked_)
+expect 'with BIT_SET_CHECKED some entry ends the process' not grep -q checked_dominators "$header"
 
 # Where the library is installed may have a space, which pkg-config would take for the end of a word.
-cp -r "$top/c/source" "$room/source"
+cp -r "$top/bindings/c/source" "$room/source"
 make -s -C "$room/source" PREFIX='/opt/a b' PROCESSOR=none build/none/bit_set.pc > "$room/wrote" 2>&1 < /dev/null
 for name in prefix= libdir= includedir=; do
     expect "bit_set.pc has a space of a path as it is in $name" grep -q "^$name/opt/a\\\\ b" "$room/source/build/none/bit_set.pc"
@@ -350,34 +352,34 @@ chmod +x "$room/words"/*
 declare -A run_of=()
 for run in first second; do
     PATH="$room/words:$PATH" CC='cc --theirs' PYTHON="$room/words/python" \
-        start_group "$top/python/build" "$room/headers" "$room/module" < /dev/null > "$room/$run" 2>&1
+        start_group "$top/bindings/python/build" "$room/headers" "$room/module" < /dev/null > "$room/$run" 2>&1
     run_of[$!]="$run"
 done
 for run in "${!run_of[@]}"; do
     finish "$run"
-    expect "python/build, the ${run_of[$run]} of two, ends with $ended: $(cat "$room/${run_of[$run]}")" ends_with 0
+    expect "bindings/python/build, the ${run_of[$run]} of two, ends with $ended: $(cat "$room/${run_of[$run]}")" ends_with 0
 done
-expect 'python/build leaves a file of its own' [ "$(find "$room/module" -type f | wc -l)" -eq 4 ]
+expect 'bindings/python/build leaves a file of its own' [ "$(find "$room/module" -type f | wc -l)" -eq 4 ]
 
 # A Python that is older than the module takes.
 printf '%s\n' '#!/bin/sh' "exec python3 -c 'import sys, sysconfig; sys.version_info = (3, 7, 1); exec(sys.argv.pop())' \"\$2\"" \
     > "$room/words/older"
 chmod +x "$room/words/older"
 ended=0
-PYTHON="$room/words/older" "$top/python/build" "$room/headers" "$room/module" > "$room/wrote" 2> "$room/said" < /dev/null || ended=$?
-expect "python/build by an older Python ends with $ended" ends_with 1
-expect 'python/build does not say that Python is too old' says 'this is Python 3.7, and'
+PYTHON="$room/words/older" "$top/bindings/python/build" "$room/headers" "$room/module" > "$room/wrote" 2> "$room/said" < /dev/null || ended=$?
+expect "bindings/python/build by an older Python ends with $ended" ends_with 1
+expect 'bindings/python/build does not say that Python is too old' says 'this is Python 3.7, and'
 
 # The headers of Python 3.12 count no reference in these, which each version before it frees then.
 expect 'the Python module returns None with no reference where newer headers built it' \
-    not grep -rqwE 'Py_RETURN_(NONE|TRUE|FALSE|NOTIMPLEMENTED)' "$top/python/src"
+    not grep -rqwE 'Py_RETURN_(NONE|TRUE|FALSE|NOTIMPLEMENTED)' "$top/bindings/python/src"
 
 # A variable that is empty names no folder: then the package takes the library that it has in it.
 if command -v rustc > /dev/null; then
     mkdir -p "$room/package/lib/x86-64"
     touch "$room/package/lib/x86-64/libbit_set.a"
     expect 'rustc does not build the script of bit-set-sys' \
-        rustc --edition 2021 "$top/rust/bit-set-sys/build.rs" -o "$room/build_script" --crate-name build_script
+        rustc --edition 2021 "$top/bindings/rust/bit-set-sys/build.rs" -o "$room/build_script" --crate-name build_script
     env BIT_SET_LIBRARY_DIR= CARGO_MANIFEST_DIR="$room/package" CARGO_CFG_TARGET_ARCH=x86_64 CARGO_CFG_TARGET_OS=linux \
         "$room/build_script" > "$room/wrote" 2> "$room/said"
     expect 'bit-set-sys takes an empty variable for a folder' \
@@ -447,7 +449,7 @@ if locale -a 2> /dev/null | grep -qx 'tr_TR\.utf8'; then
     printf '\t.globl\t%s\n' bit_set_insert bit_matrix_fill_row | LC_ALL=tr_TR.utf8 bash -c '
         . "$1/tools/c_library.sh"
         name_calls 32' bash "$top" > "$room/wrote" 2> "$room/said"
-    expect 'c/build leaves calls under other names in Turkish' wrote $'\t.globl\tbit_set32_insert\n\t.globl\tbit_matrix32_fill_row'
+    expect 'bindings/c/build leaves calls under other names in Turkish' wrote $'\t.globl\tbit_set32_insert\n\t.globl\tbit_matrix32_fill_row'
     mkdir "$room/theirs/crates/.add.iiiiii"
     (cd "$room/theirs" && LC_ALL=tr_TR.utf8 "$from/add") > "$room/wrote" 2> "$room/said"
     expect 'add leaves what an earlier run left in Turkish' [ ! -e "$room/theirs/crates/.add.iiiiii" ]

@@ -23,7 +23,7 @@ make_crates() {
     done
 }
 
-version_of() { sed -n 's/^version = "\(.*\)"$/\1/p' "$source/rust/$1/Cargo.toml"; }
+version_of() { sed -n 's/^version = "\(.*\)"$/\1/p' "$source/bindings/rust/$1/Cargo.toml"; }
 
 # Copies a package, under a version.
 #   crate NAME VERSION
@@ -31,7 +31,7 @@ crate() {
     local tree="$trees/$1-$2" set_version
     set_version="$(version_of bit-set)"
     mkdir -p "$tree"
-    cp -r "$source/rust/$1/." "$tree"
+    cp -r "$source/bindings/rust/$1/." "$tree"
     cp "$source"/{LICENSE-*,PROOF.txt} "$tree"
     sed -i "s/^version = .*/version = \"$2\"/
         s,path = \"\.\./bit-set-sys\",version = \"=$version\"\, path = \"../$sys\",

@@ -13,7 +13,7 @@ make_source() {
         done
     done
     write_proof "$room/crates" "$made/PROOF.txt"
-    write_committed "$made" python rust
+    write_committed "$made" bindings/python bindings/rust
     pack "$made" "$folder/bit_set-$version.tar.gz"
     cp -p "$made/PROOF.txt" "$folder"
     tar xzf "$folder/bit_set-$version.tar.gz" -C "$room"

@@ -10,7 +10,7 @@ python_module() {
     mkdir -p "$2" "$headers"
     ln -sfn "/usr/include/$own" "$headers/$1-linux-gnu"
     # CPATH would part a path that has a colon.
-    CC="$(tool_of "$1" gcc)" "$source/python/build" "$source/include" "${@:2}" -I "$headers" < /dev/null
+    CC="$(tool_of "$1" gcc)" "$source/bindings/python/build" "$source/include" "${@:2}" -I "$headers" < /dev/null
 }
 
 # Writes what pip and importlib.metadata say of the package.

@@ -1,4 +1,4 @@
-//! Sets of whole numbers, and matrices of bits, for C: `c/bit_set.h` has the prototypes.
+//! Sets of whole numbers, and matrices of bits, for C: `bindings/c/bit_set.h` has the prototypes.
 #![tactic(auto)]
 
 mod block;

@@ -1,9 +1,9 @@
 """Times calls of the module beside Python's own sets: the least of many rounds, in turns. Where `intbitset` and `bitarray`
 can be imported, beside these too.
 
-    PYTHONPATH=MODULE python3 python/speed.py
-    PYTHONPATH=MODULE python3 python/speed.py shapes    the calls that take over five times as long as with `set`, on sets of
-                                                        several shapes
+    PYTHONPATH=MODULE python3 bindings/python/speed.py
+    PYTHONPATH=MODULE python3 bindings/python/speed.py shapes    the calls that take over five times as long as with
+                                                                 `set`, on sets of several shapes
 """
 
 import array

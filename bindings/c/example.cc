@@ -1,5 +1,5 @@
 // The primes below 100 by the sieve of Eratosthenes, and how many are not of the form 4n + 1, and what a node of a graph
-// reaches: c/example.c in C++.
+// reaches: example.c in C++.
 #include "bit_set.hpp"
 #include <cstdio>
 

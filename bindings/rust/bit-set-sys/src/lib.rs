@@ -1,5 +1,5 @@
-//! The calls of `c/bit_set.h`, and those of `bit_set32.h`, which are the same over blocks of 32 bits. A pointer is never
-//! null but for `free`.
+//! The calls of `bindings/c/bit_set.h`, and those of `bit_set32.h`, which are the same over blocks of 32 bits. A pointer
+//! is never null but for `free`.
 //!
 //! Packages over this library share this one, since one program links the library once.
 #![no_std]

@@ -1,5 +1,5 @@
-//! Links the library: that in the folder whose absolute path the variable BIT_SET_LIBRARY_DIR has, as `c/build` or a
-//! release has it, or else the one that this package has in it for the processor that is built for.
+//! Links the library: that in the folder whose absolute path the variable BIT_SET_LIBRARY_DIR has, as `bindings/c/build`
+//! or a release has it, or else the one that this package has in it for the processor that is built for.
 use std::env;
 use std::path::Path;
 
@@ -43,7 +43,7 @@ fn missing_library() -> String {
     let target = env::var("TARGET").unwrap_or_default();
     format!(
         "this package has no library for {target}: set BIT_SET_LIBRARY_DIR to a folder with \
-         libbit_set.a, as c/build or the source release's make writes it"
+         libbit_set.a, as bindings/c/build or the source release's make writes it"
     )
 }
 

@@ -1,6 +1,6 @@
 """Calls each method where something fails or changes the set on the way, beside Python's own sets.
 
-    PYTHONPATH=MODULE python3 python/faults.py
+    PYTHONPATH=MODULE python3 bindings/python/faults.py
 
 It also looks for what is not given back then, and, where Python has its module _testcapi, lets each of Python's requests for
 memory fail in turn.
