@@ -1,4 +1,4 @@
-# Proves and builds the program `bitset` from a copy of its sources. To be sourced by `bitset`.
+# Proves and builds the program `bitset` from a copy of its sources. To be sourced by tools/run.sh.
 # shellcheck shell=bash disable=SC2154
 # In `out` stand NAME.rlib of each library, with statements and no proofs; the program; and for each of these NAME.made,
 # which says of what it was made and what its own checksum is. All that a run reads and makes is in `room`, a folder of its
@@ -8,10 +8,10 @@
 . "$root/tools/ending.sh"
 # The crates of the program, lowest first, what the line of each names, and which crates are below it.
 crates=()
-declare -A named=() below=()
+declare -gA named=() below=()
 # Of each crate the checksum of what is built, once it is, and of what that is made of. The crate that each process proves,
 # and when each began.
-declare -A sums=() made=() runs=() began=()
+declare -gA sums=() made=() runs=() began=()
 # The process that was given all cores, where one was.
 first=""
 # Where the toolchain is, and what it is.
@@ -67,7 +67,7 @@ read_toolchain() {
 find_parts() {
     local crate part
     read_crates "$root/crates.txt"
-    parts=("${tools[@]}" ./bitset ./crates.txt ./tools/{start,copy,ending,program}.sh ./tools/{left_out.txt,needed})
+    parts=("${tools[@]}" ./bitset ./crates.txt ./tools/{run,start,copy,ending,program}.sh ./tools/{left_out.txt,needed})
     for crate in "${crates[@]}"; do
         for part in src specs proofs; do
             [ ! -d "$root/crates/$crate/$part" ] || parts+=("crates/$crate/$part")

@@ -11,7 +11,7 @@ set_up_repository() {
     local crate
     mkdir -p "$repository/tools" "$repository/crates"/{low,mid,bitset}/{src,specs,proofs}
     cp "$top"/{bitset,look} "$repository"
-    cp "$top"/tools/{start,copy,ending,program}.sh "$top/tools/needed" "$repository/tools"
+    cp "$top"/tools/{run,start,copy,ending,program}.sh "$top/tools/needed" "$repository/tools"
     printf '%s\n' 'low:' 'mid: low' 'bitset: mid' > "$repository/crates.txt"
     echo '# none' > "$repository/tools/left_out.txt"
     for crate in low mid bitset; do

@@ -12,6 +12,10 @@ for script in add bitset gate look bindings/{c/build,c/clients,python/build} rel
     if command -v dash > /dev/null; then
         expect "dash $script --help fails" env -u HOME PATH=/usr/bin:/bin dash "$top/$script" --help
     fi
+    # Each finds what it sources where it is called by a link, and by its name alone.
+    ln -sfn "$top/$script" "$room/by_link"
+    expect "$script --help fails by a link" "$room/by_link" --help
+    expect "$script --help fails by its name alone" env -C "$(dirname "$top/$script")" bash "${script##*/}" --help
     # These hand their words on to the program.
     [[ "$script" != @(look|bitset) ]] || continue
     ended=0
