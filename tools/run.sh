@@ -34,13 +34,14 @@ $usage"
 # Whether the program is that of the last build, and all that it was made of too. The first two files are the toolchain's
 # commands: without any on the PATH they are those of the last build.
 is_stamped() {
-    local count parts was now
+    local count parts
     [ -x "$built/bitset" ] && [ -f "$built/stamp" ] || return
-    { read -r count && mapfile -t -n "$count" parts && ! IFS= read -r -d '' was; } < "$built/stamp" || return
+    { read -r count && mapfile -t -n "$count" parts; } < "$built/stamp" || return
     hash rt 2> /dev/null || true
     hash rattle 2> /dev/null || true
     [ "${BASH_CMDS[rt]:-${parts[0]}}" = "${parts[0]}" ] && [ "${BASH_CMDS[rattle]:-${parts[1]}}" = "${parts[1]}" ] || return
-    now="$(stamp "${parts[@]}" 2> /dev/null)" && [ "$now"$'\n' = "$was" ]
+    # The text is too long for Bash to read and compare in a few milliseconds.
+    { printf '%s\n' "$count" "${parts[@]}" && stamp "${parts[@]}"; } 2> /dev/null | cmp -s - "$built/stamp"
 }
 
 # Keeps the input, of which the program reads no more than one byte past the greatest length.
