@@ -1,9 +1,9 @@
-//! Links the library: that in the folder whose absolute path the variable BIT_SET_LIBRARY_DIR has, as `bindings/c/build`
-//! or a release has it, or else the one that this package has in it for the processor that is built for.
+//! Links the library: the one in the folder that BIT_SET_LIBRARY_DIR names by its absolute path, as `bindings/c/build`
+//! or a release writes it, or else the one in this package for the target processor.
 use std::env;
 use std::path::Path;
 
-/// The processors that a released package has a library for, the newest first, and the features that each needs.
+/// The processors for which a released package has a library, newest first, and the features that each needs.
 const PROCESSORS: [(&str, &str, &[&str]); 4] = [
     ("x86-64-v3", "x86_64", &["avx2", "bmi1", "bmi2", "fma", "lzcnt", "movbe"]),
     ("x86-64-v2", "x86_64", &["popcnt", "sse4.2"]),
@@ -25,7 +25,7 @@ fn named_library() -> Option<String> {
     let Some(folder) = named.to_str() else {
         panic!("BIT_SET_LIBRARY_DIR is {named:?}, and Cargo takes paths of UTF-8 alone");
     };
-    // Cargo does not say in which folder it was called, and runs this and the linker in others.
+    // Cargo does not pass on the folder it was called in, and runs this script and the linker in others.
     if !Path::new(folder).is_absolute() {
         panic!(
             "BIT_SET_LIBRARY_DIR is {folder}, and must be an absolute path, as Cargo makes it of one in [env] \
@@ -38,7 +38,7 @@ fn named_library() -> Option<String> {
     Some(folder.to_string())
 }
 
-/// What to do where there is no library.
+/// The message if there is no library.
 fn missing_library() -> String {
     let target = env::var("TARGET").unwrap_or_default();
     format!(
@@ -47,7 +47,7 @@ fn missing_library() -> String {
     )
 }
 
-/// The folder in this package with the library for what Cargo builds for, if there is one.
+/// The folder of this package with the library for Cargo's target, if there is one.
 fn own_library() -> Option<String> {
     let of_target = |name: &str| env::var(format!("CARGO_CFG_TARGET_{name}")).unwrap_or_default();
     let (machine, features) = (of_target("ARCH"), of_target("FEATURE"));

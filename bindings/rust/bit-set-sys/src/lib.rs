@@ -1,35 +1,35 @@
-//! The calls of `bindings/c/bit_set.h`, and those of `bit_set32.h`, which are the same over blocks of 32 bits. A pointer
-//! is never null but for `free`.
+//! The calls of `bindings/c/bit_set.h`, and those of `bit_set32.h`, which are the same over blocks of 32 bits. Only
+//! `free` accepts a null pointer.
 //!
-//! Packages over this library share this one, since one program links the library once.
+//! All packages over this library depend on this one, since a program can link the library only once.
 #![no_std]
 #![deny(unsafe_op_in_unsafe_fn)]
-// What a call asks of its caller is said once, at the trait, and `new` is the header's name.
+// Safety is documented once, at the trait, and `new` is the header's name.
 #![allow(clippy::missing_safety_doc, clippy::new_ret_no_self)]
 
 use core::ffi::c_void;
 use core::marker::PhantomData;
 
-/// A set of the library's, which is used by a pointer alone.
+/// An opaque set, used only through pointers.
 #[repr(C)]
 pub struct Set {
     private: [u8; 0],
 }
 
-/// A matrix of the library's, which is used by a pointer alone.
+/// An opaque matrix, used only through pointers.
 #[repr(C)]
 pub struct Matrix {
     private: [u8; 0],
 }
 
-/// Blocks that a set lends: where the first is, which is never null, and how many there are.
+/// The blocks that a set lends: a pointer to the first, which is never null, and their number.
 #[repr(C)]
 pub struct Lent {
     pub blocks: *const c_void,
     pub count: usize,
 }
 
-/// What has the calls on matrices of such blocks.
+/// Implements the calls on matrices of these blocks.
 pub struct Rows<B>(PhantomData<B>);
 
 macro_rules! calls {
@@ -41,11 +41,11 @@ macro_rules! calls {
         $($name:ident($($argument:ident: $type:ty),*) $(-> $result:ty)?;)*
         $([$copy:ident of $($set:ident),*])*
     }) => {
-        /// The calls on sets or on matrices of such blocks.
+        /// The calls on sets or matrices of these blocks.
         ///
         /// # Safety
         ///
-        /// Each asks what the header asks.
+        /// Each call has the preconditions that the header states.
         pub trait $calls: Sized {
             $(unsafe fn $name($($argument: $type),*) $(-> $result)?;)*
             $(unsafe fn $copy($($set: *const Set),*, from: usize, blocks: *mut Self, room: usize) -> usize;)*
@@ -63,7 +63,7 @@ macro_rules! calls {
                         #[link_name = concat!($prefix, stringify!($name))]
                         fn call($($argument: $type),*) $(-> $result)?;
                     }
-                    // SAFETY: it is as the caller says.
+                    // SAFETY: the caller upholds the header's contract.
                     unsafe { call($($argument),*) }
                 }
             )*
@@ -75,7 +75,7 @@ macro_rules! calls {
                         #[link_name = concat!($prefix, stringify!($copy))]
                         fn call($($set: *const Set),*, from: usize, blocks: *mut $block, room: usize) -> usize;
                     }
-                    // SAFETY: it is as the caller says.
+                    // SAFETY: the caller upholds the header's contract.
                     unsafe { call($($set),*, from, blocks, room) }
                 }
             )*

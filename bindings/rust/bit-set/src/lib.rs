@@ -1,9 +1,9 @@
-//! Sets of whole numbers as bits: the API of the crate `bit-set`, over a library for C whose every call is proved.
+//! Sets of whole numbers as bits: the API of the crate `bit-set`, over a C library whose every call is proved.
 //!
-//! What has a bit vector in its type (`from_bit_vec`, `into_bit_vec`, `get_ref`, `get_mut`) is left out, since the library
-//! shows none, and so are the features `serde`, `miniserde`, `nanoserde` and `borsh` of 0.8, whose form is a bit vector's.
-//! Blocks have 32 bits, or 64. A call that finds no memory ends the process, as those of `Vec` do. A thread keeps one small
-//! set of each width that it let go, for the next that it makes.
+//! Calls with a bit vector in their type (`from_bit_vec`, `into_bit_vec`, `get_ref`, `get_mut`) are left out, since the
+//! library does not expose one, and so are the features `serde`, `miniserde`, `nanoserde` and `borsh` of 0.8, whose
+//! form is a bit vector's. Blocks have 32 bits, or 64. If memory runs out, a call ends the process, like those of
+//! `Vec`. A thread keeps one small dropped set of each width, and reuses it for the next one.
 //!
 //! ```
 //! let mut set = bit_set::BitSet::new();
@@ -35,17 +35,17 @@ mod walks;
 pub use matrix::{BitMatrix, Row};
 pub use walks::{Difference, Intersection, Iter, SymmetricDifference, Union};
 
-/// A type of blocks that the library has.
+/// A block type of the library.
 pub trait BitBlock: raw::Calls + Copy + Into<u64> + 'static {
     /// The calls on matrices.
     #[doc(hidden)]
     type Rows: raw::MatrixCalls;
 
-    /// The set that the thread keeps for the next one.
+    /// The dropped set that the thread keeps.
     #[doc(hidden)]
     fn spare() -> &'static LocalKey<Spare<Self>>;
 
-    /// An empty set, which the calls that read are given for one that has none of its own.
+    /// An empty set, which calls that only read use for one that has not allocated.
     #[doc(hidden)]
     fn empty() -> &'static BitSet<Self>;
 }
@@ -77,18 +77,18 @@ blocks! { u32, u64 }
 
 /// A set of `usize` below `usize::MAX`.
 pub struct BitSet<B: BitBlock = u32> {
-    // Null stands for an empty set of length and capacity 0: it takes no memory.
+    // Null stands for an empty set of length and capacity 0, which has not allocated.
     set: *mut raw::Set,
     blocks: PhantomData<B>,
 }
 
-// SAFETY: a set is a block of malloc's and what that points to, and is of no thread.
+// SAFETY: a set is a block of malloc's and what that points to, and belongs to no thread.
 unsafe impl<B: BitBlock> Send for BitSet<B> {}
 
-// SAFETY: a call that takes a `*const` writes nothing: it is proved of a loan that is shared.
+// SAFETY: a call that takes a `*const` writes nothing: its proof assumes only a shared borrow.
 unsafe impl<B: BitBlock> Sync for BitSet<B> {}
 
-// Ends the process where a call found no memory.
+// Ends the process if a call ran out of memory.
 #[inline]
 fn require(done: bool) {
     if !done {
@@ -96,14 +96,14 @@ fn require(done: bool) {
     }
 }
 
-// No call says how much it asked for.
+// No call reports how much it requested.
 #[cold]
 #[inline(never)]
 fn out_of_memory() -> ! {
     std::alloc::handle_alloc_error(std::alloc::Layout::new::<u64>())
 }
 
-// What a call of this answer, which is below 0, ends in.
+// Panics or ends the process, for a call that returned this number below 0.
 #[cold]
 #[inline(never)]
 #[track_caller]
@@ -115,24 +115,24 @@ fn fail(answer: i32) -> ! {
 impl<B: BitBlock> Drop for BitSet<B> {
     fn drop(&mut self) {
         if !self.set.is_null() {
-            // SAFETY: the set is this one's own, and is used no more.
+            // SAFETY: this set owns it, and does not use it again.
             unsafe { spare::let_go::<B>(self.set) }
         }
     }
 }
 
 impl BitSet<u32> {
-    /// An empty set. It takes no memory before the first element.
+    /// Creates an empty set. It allocates nothing before the first element.
     pub const fn new() -> Self {
         Self::NEW
     }
 
-    /// An empty set, into which numbers below `nbits` go without memory.
+    /// Creates an empty set with capacity for numbers below `nbits`.
     pub fn with_capacity(nbits: usize) -> Self {
         Self::with_capacity_general(nbits)
     }
 
-    /// The set of the bits that are 1, those of each byte counted from the highest.
+    /// Creates the set of the bits that are 1, with the bits of each byte counted from the highest.
     pub fn from_bytes(bytes: &[u8]) -> Self {
         Self::from_bytes_general(bytes)
     }
@@ -141,44 +141,45 @@ impl BitSet<u32> {
 impl<B: BitBlock> BitSet<B> {
     const NEW: Self = BitSet { set: null_mut(), blocks: PhantomData };
 
-    /// An empty set, over any type of blocks.
+    /// Creates an empty set over any block type.
     pub const fn new_general() -> Self {
         Self::NEW
     }
 
-    /// An empty set over any type of blocks, into which numbers below `nbits` go without memory.
+    /// Creates an empty set over any block type, with capacity for numbers below `nbits`.
     pub fn with_capacity_general(nbits: usize) -> Self {
         // SAFETY: `out` is null.
         Self::made(|out| unsafe { B::with_capacity(out, nbits) })
     }
 
-    /// The set of the bits that are 1, those of each byte counted from the highest, over any type of blocks.
+    /// Creates the set of the bits that are 1, with the bits of each byte counted from the highest, over any block
+    /// type.
     pub fn from_bytes_general(bytes: &[u8]) -> Self {
-        // SAFETY: `out` is null, and the bytes are lent for the call.
+        // SAFETY: `out` is null, and the bytes are borrowed for the call.
         Self::made(|out| unsafe { B::from_bytes(out, bytes.as_ptr(), bytes.len()) })
     }
 
-    // An empty set of the library's.
+    // An empty set of the library.
     #[cold]
     fn allocated() -> Self {
         Self::owning(spare::empty::<B>())
     }
 
-    // The set that a call puts out.
+    // The set that a call stores.
     fn made(call: impl FnOnce(*mut *mut raw::Set) -> bool) -> Self {
         let mut set = null_mut();
         require(call(&mut set));
         BitSet { set, blocks: PhantomData }
     }
 
-    // The set that was made, which is null where there was no memory.
+    // The set that was made, which is null if memory ran out.
     #[inline]
     fn owning(set: *mut raw::Set) -> Self {
         require(!set.is_null());
         BitSet { set, blocks: PhantomData }
     }
 
-    // A set of the library's to read.
+    // The library's set, to read.
     #[inline]
     fn read(&self) -> *const raw::Set {
         if self.set.is_null() {
@@ -187,7 +188,7 @@ impl<B: BitBlock> BitSet<B> {
         self.set
     }
 
-    // A set of the library's to change, which is made here where there is none yet.
+    // The library's set, to change; it is made here if there is none yet.
     #[inline]
     fn write(&mut self) -> *mut raw::Set {
         if self.set.is_null() {
@@ -196,7 +197,7 @@ impl<B: BitBlock> BitSet<B> {
         self.set
     }
 
-    // What a call returns that tells whether it changed anything.
+    // The result of a call that returns whether it changed anything.
     #[inline]
     #[track_caller]
     fn changed(answer: i32) -> bool {
@@ -206,9 +207,9 @@ impl<B: BitBlock> BitSet<B> {
         answer == 1
     }
 
-    /// Below which number an element goes in without memory.
+    /// The capacity: inserting a number below it allocates nothing.
     pub fn capacity(&self) -> usize {
-        // SAFETY: the set is lent for the call, as in each of the calls below.
+        // SAFETY: the set is borrowed for the call, as in each of the calls below.
         unsafe { B::capacity(self.read()) }
     }
 
@@ -217,12 +218,12 @@ impl<B: BitBlock> BitSet<B> {
         require(unsafe { B::reserve(self.write(), len) });
     }
 
-    /// Reserves capacity for elements below `len`, and for no more.
+    /// Reserves capacity for elements below `len`, and no more.
     pub fn reserve_len_exact(&mut self, len: usize) {
         require(unsafe { B::reserve_exact(self.write(), len) });
     }
 
-    /// Gives back the capacity that the elements do not need, as far as there is memory to move to.
+    /// Gives back the capacity that the elements do not need, unless memory to move to runs out.
     pub fn shrink_to_fit(&mut self) {
         if !self.set.is_null() {
             unsafe { B::shrink_to_fit(self.set) };
@@ -244,28 +245,28 @@ impl<B: BitBlock> BitSet<B> {
         unsafe { B::is_empty(self.read()) }
     }
 
-    /// The length of the bit vector: each element is below it.
+    /// The length of the bit vector, which is above each element.
     pub fn bit_length(&self) -> usize {
         unsafe { B::length(self.read()) }
     }
 
-    /// The blocks, which have a bit for each number below the length: number `n` is an element where bit `n % W` of block
-    /// `n / W`, counted from the lowest, is 1. `W` is how many bits a block has.
+    /// The blocks, with a bit for each number below the length: number `n` is an element if bit `n % W` of block `n /
+    /// W`, counted from the lowest, is 1. `W` is the number of bits in a block.
     #[inline]
     pub fn as_slice(&self) -> &[B] {
         if self.set.is_null() {
             return &[];
         }
         let mut lent = raw::Lent { blocks: NonNull::<B>::dangling().as_ptr().cast(), count: 0 };
-        // SAFETY: the blocks are lent until the set is next changed, which the result borrows as long.
+        // SAFETY: the blocks are lent until the set is next changed, and the result borrows the set for as long.
         unsafe {
             B::lend_blocks(self.set, &mut lent);
             slice::from_raw_parts(lent.blocks.cast(), lent.count)
         }
     }
 
-    // Whether the first blocks of both sets are as they must be. Sets that differ mostly do so there, and a call of the library
-    // takes longer than a look.
+    // Whether the first blocks of both sets are as required. Sets that differ mostly differ there, and a call of the
+    // library takes longer than this test.
     #[inline]
     fn begins_as(&self, other: &Self, must_be: impl Fn(u64, u64) -> bool) -> bool {
         let blocks = self.as_slice().iter().zip(other.as_slice());
@@ -278,23 +279,23 @@ impl<B: BitBlock> BitSet<B> {
         !self.set.is_null() && unsafe { B::contains(self.set, value) }
     }
 
-    /// Puts `value` in, and returns whether it is new.
+    /// Inserts `value`, and returns whether it is new.
     ///
     /// # Panics
     ///
-    /// At `usize::MAX`, which is no element.
+    /// If `value` is `usize::MAX`, which is not an element.
     #[inline]
     pub fn insert(&mut self, value: usize) -> bool {
         Self::changed(unsafe { B::insert(self.write(), value) })
     }
 
-    /// Takes `value` out, and returns whether it was in.
+    /// Removes `value`, and returns whether it was present.
     #[inline]
     pub fn remove(&mut self, value: usize) -> bool {
         !self.set.is_null() && unsafe { B::remove(self.set, value) }
     }
 
-    /// Takes every element out.
+    /// Removes every element.
     pub fn clear(&mut self) {
         self.make_empty();
     }
@@ -306,7 +307,7 @@ impl<B: BitBlock> BitSet<B> {
         }
     }
 
-    /// Takes every element out, and makes the length 0.
+    /// Removes every element, and sets the length to 0.
     pub fn reset(&mut self) {
         if !self.set.is_null() {
             unsafe { B::reset(self.set) }
@@ -320,51 +321,51 @@ impl<B: BitBlock> BitSet<B> {
         }
     }
 
-    /// Moves what is in `other` into the set.
+    /// Moves the elements of `other` into the set.
     pub fn append(&mut self, other: &mut Self) {
         if !other.set.is_null() {
             require(unsafe { B::append(self.write(), other.set) });
         }
     }
 
-    /// Parts the set: the elements below `at` stay, and the others are returned.
+    /// Splits the set: the elements below `at` stay, and the others are returned.
     pub fn split_off(&mut self, at: usize) -> Self {
         let set = self.write();
         Self::made(|out| unsafe { B::split_off(out, set, at) })
     }
 
-    /// Puts in what is in `other`.
+    /// Inserts the elements of `other`.
     pub fn union_with(&mut self, other: &Self) {
         require(unsafe { B::union_with(self.write(), other.read()) });
     }
 
-    /// Keeps what is in `other` too.
+    /// Keeps only the elements that are in `other` too.
     pub fn intersect_with(&mut self, other: &Self) {
         require(unsafe { B::intersect_with(self.write(), other.read()) });
     }
 
-    /// Takes out what is in `other`.
+    /// Removes the elements of `other`.
     pub fn difference_with(&mut self, other: &Self) {
         require(unsafe { B::difference_with(self.write(), other.read()) });
     }
 
-    /// Keeps what is in just one of both.
+    /// Keeps what is in exactly one of the two sets.
     pub fn symmetric_difference_with(&mut self, other: &Self) {
         require(unsafe { B::symmetric_difference_with(self.write(), other.read()) });
     }
 
-    /// Whether every element is one of `other`.
+    /// Whether every element is in `other`.
     pub fn is_subset(&self, other: &Self) -> bool {
         let may_be = self.begins_as(other, |block, another| block & !another == 0);
         may_be && unsafe { B::is_subset(self.read(), other.read()) }
     }
 
-    /// Whether every element of `other` is one of this set.
+    /// Whether every element of `other` is in this set.
     pub fn is_superset(&self, other: &Self) -> bool {
         other.is_subset(self)
     }
 
-    /// Whether no element is one of `other`.
+    /// Whether no element is in `other`.
     pub fn is_disjoint(&self, other: &Self) -> bool {
         unsafe { B::is_disjoint(self.read(), other.read()) }
     }
@@ -381,7 +382,7 @@ impl<B: BitBlock> Clone for BitSet<B> {
         if self.set.is_null() {
             return Self::NEW;
         }
-        // SAFETY: the set is lent for the call.
+        // SAFETY: the set is borrowed for the call.
         Self::owning(unsafe { spare::clone::<B>(self.set) })
     }
 

@@ -1,4 +1,4 @@
-//! Matrices of bits, which the crate `bit-set` has not.
+//! Matrices of bits, which the crate `bit-set` lacks.
 use crate::{require, BitBlock, BitSet};
 use std::fmt;
 use std::marker::PhantomData;
@@ -7,9 +7,9 @@ use std::ptr::null_mut;
 
 use bit_set_sys::{self as raw, MatrixCalls};
 
-/// A matrix of bits: rows of columns, each row a set. The numbers of both stay as they are made.
+/// A matrix of bits: rows of columns, each row a set. The numbers of rows and columns are fixed.
 ///
-/// A call that is given a row or a column that is not there panics.
+/// A call panics if a row or a column is out of bounds.
 ///
 /// ```
 /// let mut reaches = bit_set::BitMatrix::<u64>::new(3, 3);
@@ -23,22 +23,23 @@ pub struct BitMatrix<B: BitBlock = u32> {
     blocks: PhantomData<B>,
 }
 
-// SAFETY: a matrix is a block of malloc's and what that points to, and is of no thread.
+// SAFETY: a matrix is a block of malloc's and what that points to, and belongs to no thread.
 unsafe impl<B: BitBlock> Send for BitMatrix<B> {}
 
-// SAFETY: a call that takes a `*const` writes nothing: it is proved of a loan that is shared.
+// SAFETY: a call that takes a `*const` writes nothing: its proof assumes only a shared borrow.
 unsafe impl<B: BitBlock> Sync for BitMatrix<B> {}
 
 impl<B: BitBlock> Drop for BitMatrix<B> {
     fn drop(&mut self) {
-        // SAFETY: the matrix is this one's own, and is used no more.
+        // SAFETY: this matrix owns it, and does not use it again.
         unsafe { B::Rows::free(self.matrix) }
     }
 }
 
-// SAFETY: in each of them the matrix and the set are lent for the call, and the rows and columns are looked at first.
+// SAFETY: in each call the matrix and the set are borrowed for its duration, and the rows and columns are checked
+// first.
 impl<B: BitBlock> BitMatrix<B> {
-    // The matrix that a call puts out.
+    // The matrix that a call stores.
     fn made(call: impl FnOnce(*mut *mut raw::Matrix) -> bool) -> Self {
         let mut matrix = null_mut();
         require(call(&mut matrix));
@@ -55,22 +56,23 @@ impl<B: BitBlock> BitMatrix<B> {
         assert!(column < self.columns(), "there is no column {column}");
     }
 
-    /// So many rows with nothing in them.
+    /// Creates a matrix of this many empty rows.
     pub fn new(rows: usize, columns: usize) -> Self {
         Self::made(|out| unsafe { B::Rows::new(out, rows, columns) })
     }
 
-    /// So many rows that each have the elements of the set; there are as many columns as its length.
+    /// Creates a matrix of this many rows, each with the elements of the set; there are as many columns as the set's
+    /// length.
     pub fn from_row(set: &BitSet<B>, rows: usize) -> Self {
         Self::made(|out| unsafe { B::Rows::from_set(out, set.read(), rows) })
     }
 
-    /// The matrix that has a row for each column, and in it the rows that have that column.
+    /// Creates the matrix that has a row for each column, with the rows that have that column.
     pub fn transpose(&self) -> Self {
         Self::made(|out| unsafe { B::Rows::transpose(out, self.matrix) })
     }
 
-    /// The set of the columns that are in the row.
+    /// The set of the columns of the row.
     pub fn row_to_set(&self, row: usize) -> BitSet<B> {
         self.assert_row(row);
         BitSet::made(|out| unsafe { B::Rows::row_to_set(out, self.matrix, row) })
@@ -93,14 +95,14 @@ impl<B: BitBlock> BitMatrix<B> {
         unsafe { B::Rows::contains(self.matrix, row, column) }
     }
 
-    /// Puts the column into the row, and returns whether it was not in.
+    /// Inserts the column into the row, and returns whether it is new.
     pub fn insert(&mut self, row: usize, column: usize) -> bool {
         self.assert_row(row);
         self.assert_column(column);
         unsafe { B::Rows::insert(self.matrix, row, column) }
     }
 
-    /// Takes the column out of the row, and returns whether it was in.
+    /// Removes the column from the row, and returns whether it was present.
     pub fn remove(&mut self, row: usize, column: usize) -> bool {
         self.assert_row(row);
         self.assert_column(column);
@@ -113,7 +115,7 @@ impl<B: BitBlock> BitMatrix<B> {
         unsafe { B::Rows::count(self.matrix, row) }
     }
 
-    /// A walk over the columns that are in the row, in ascending order.
+    /// An iterator over the columns of the row, in ascending order.
     pub fn iter(&self, row: usize) -> Row<'_, B> {
         self.assert_row(row);
         Row { matrix: self, row, from: 0 }
@@ -133,28 +135,29 @@ impl<B: BitBlock> BitMatrix<B> {
         unsafe { B::Rows::is_disjoint_row(self.matrix, row, other) }
     }
 
-    /// Puts what is in the row `read` into the row `write`, and returns whether that changed it.
+    /// Inserts the columns of the row `read` into the row `write`, and returns whether that changed it.
     pub fn union_rows(&mut self, read: usize, write: usize) -> bool {
         self.assert_row(read);
         self.assert_row(write);
         unsafe { B::Rows::union_rows(self.matrix, read, write) }
     }
 
-    /// Keeps in the row `write` what is in the row `read` too, and returns whether that changed it.
+    /// Keeps only the columns of the row `write` that are in the row `read` too, and returns whether that changed it.
     pub fn intersect_rows(&mut self, read: usize, write: usize) -> bool {
         self.assert_row(read);
         self.assert_row(write);
         unsafe { B::Rows::intersect_rows(self.matrix, read, write) }
     }
 
-    /// Takes out of the row `write` what is in the row `read`, and returns whether that changed it.
+    /// Removes the columns of the row `read` from the row `write`, and returns whether that changed it.
     pub fn difference_rows(&mut self, read: usize, write: usize) -> bool {
         self.assert_row(read);
         self.assert_row(write);
         unsafe { B::Rows::difference_rows(self.matrix, read, write) }
     }
 
-    /// Puts the elements of the set, each of which must be a column, into the row, and returns whether that changed it.
+    /// Inserts the elements of the set, each of which must be a column, into the row, and returns whether that changed
+    /// it.
     pub fn union_row_with(&mut self, set: &BitSet<B>, row: usize) -> bool {
         self.assert_row(row);
         if let Some(last) = set.last() {
@@ -163,7 +166,7 @@ impl<B: BitBlock> BitMatrix<B> {
         unsafe { B::Rows::union_row_with(self.matrix, set.read(), row) }
     }
 
-    /// Puts the columns of the range into the row. A range that ends at its start or below has none.
+    /// Inserts the columns of the range into the row. The range is empty if its end is not above its start.
     pub fn insert_range(&mut self, row: usize, range: Range<usize>) {
         self.assert_row(row);
         if !range.is_empty() {
@@ -172,30 +175,30 @@ impl<B: BitBlock> BitMatrix<B> {
         unsafe { B::Rows::insert_range(self.matrix, row, range.start, range.end) }
     }
 
-    /// Puts each column into the row.
+    /// Inserts each column into the row.
     pub fn fill_row(&mut self, row: usize) {
         self.assert_row(row);
         unsafe { B::Rows::fill_row(self.matrix, row) }
     }
 
-    /// Takes each column out of the row.
+    /// Removes each column from the row.
     pub fn clear_row(&mut self, row: usize) {
         self.assert_row(row);
         unsafe { B::Rows::clear_row(self.matrix, row) }
     }
 
-    /// Makes each row the set of all to which a path of at least one edge leads from it, where an edge leads from a row to
+    /// Sets each row to everything that a path of at least one edge leads to from it, where an edge leads from a row to
     /// each of its columns.
     pub fn transitive_closure(&mut self) {
         unsafe { B::Rows::transitive_closure(self.matrix) }
     }
 
-    /// The same of paths of any number of edges, also of none.
+    /// The same for paths of any number of edges, including none.
     pub fn reflexive_transitive_closure(&mut self) {
         unsafe { B::Rows::reflexive_transitive_closure(self.matrix) }
     }
 
-    /// The matrix whose row `v` has what lies on every path from `entry` to `v`.
+    /// Creates the matrix whose row `v` has what lies on every path from `entry` to `v`.
     pub fn dominators(&self, entry: usize) -> Self {
         self.assert_row(entry);
         Self::made(|out| unsafe { B::Rows::dominators(out, self.matrix, entry) })
@@ -234,7 +237,7 @@ impl<B: BitBlock> Iterator for Row<'_, B> {
     type Item = usize;
 
     fn next(&mut self) -> Option<usize> {
-        // SAFETY: the matrix is lent to the walk, which was begun at a row of it.
+        // SAFETY: the walk borrows the matrix, and began at a row in bounds.
         let column = unsafe { B::Rows::next(self.matrix.matrix, self.row, self.from) };
         if column == usize::MAX {
             return None;

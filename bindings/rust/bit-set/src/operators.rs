@@ -1,4 +1,4 @@
-//! Operators that make a set of two, as those of `HashSet` do, and sets of numbers at hand.
+//! Operators that make a set of two, as those of `HashSet` do, and sets of given numbers.
 use crate::{BitBlock, BitSet};
 use std::ops::{BitAnd, BitOr, BitXor, Sub};
 
@@ -16,7 +16,7 @@ impl<B: BitBlock> BitSet<B> {
 impl<B: BitBlock> BitOr for &BitSet<B> {
     type Output = BitSet<B>;
 
-    /// The set of what is in either.
+    /// The union, as a new set.
     fn bitor(self, other: Self) -> BitSet<B> {
         let (longer, shorter) = self.by_length(other);
         let mut made = longer.clone();
@@ -28,7 +28,7 @@ impl<B: BitBlock> BitOr for &BitSet<B> {
 impl<B: BitBlock> BitAnd for &BitSet<B> {
     type Output = BitSet<B>;
 
-    /// The set of what is in both. It has the blocks of the shorter one.
+    /// The intersection, as a new set with the blocks of the shorter one.
     fn bitand(self, other: Self) -> BitSet<B> {
         let (longer, shorter) = self.by_length(other);
         if longer.as_slice().len() == shorter.as_slice().len() {
@@ -45,7 +45,7 @@ impl<B: BitBlock> BitAnd for &BitSet<B> {
 impl<B: BitBlock> Sub for &BitSet<B> {
     type Output = BitSet<B>;
 
-    /// The set of what is in the first alone. It has the blocks of that one.
+    /// The difference, as a new set with the blocks of the first one.
     fn sub(self, other: Self) -> BitSet<B> {
         if self.as_slice().len() >= other.as_slice().len() {
             let mut made = self.clone();
@@ -61,7 +61,7 @@ impl<B: BitBlock> Sub for &BitSet<B> {
 impl<B: BitBlock> BitXor for &BitSet<B> {
     type Output = BitSet<B>;
 
-    /// The set of what is in just one of both.
+    /// The symmetric difference, as a new set.
     fn bitxor(self, other: Self) -> BitSet<B> {
         let (longer, shorter) = self.by_length(other);
         let mut made = longer.clone();
@@ -71,24 +71,24 @@ impl<B: BitBlock> BitXor for &BitSet<B> {
 }
 
 impl<B: BitBlock> From<&[usize]> for BitSet<B> {
-    /// The set of these numbers, which asks for memory once.
+    /// Creates the set of these numbers. It allocates once, for the greatest of them.
     ///
     /// # Panics
     ///
-    /// At `usize::MAX`, which is no element.
+    /// If one of them is `usize::MAX`, which is not an element.
     fn from(numbers: &[usize]) -> Self {
         assert!(!numbers.contains(&usize::MAX), "usize::MAX is no element");
-        // SAFETY: `out` is null, and the numbers are lent for the call.
+        // SAFETY: `out` is null, and the numbers are borrowed for the call.
         Self::made(|out| unsafe { B::from_members(out, numbers.as_ptr(), numbers.len()) })
     }
 }
 
 impl<B: BitBlock, const N: usize> From<[usize; N]> for BitSet<B> {
-    /// The set of these numbers, which asks for memory once.
+    /// Creates the set of these numbers. It allocates once, for the greatest of them.
     ///
     /// # Panics
     ///
-    /// At `usize::MAX`, which is no element.
+    /// If one of them is `usize::MAX`, which is not an element.
     fn from(numbers: [usize; N]) -> Self {
         Self::from(&numbers[..])
     }

@@ -1,15 +1,15 @@
-//! A small set that was let go, which its thread keeps for the next one that it makes: most of the time of a small one goes
-//! into memory, for which a set asks twice, for itself and for its blocks.
+//! A small dropped set, which its thread keeps for the next one that it makes. A small set spends most of its time on
+//! allocation, once for itself and once for its blocks.
 use crate::BitBlock;
 use bit_set_sys as raw;
 use std::cell::Cell;
 use std::marker::PhantomData;
 use std::ptr::null_mut;
 
-/// A set of a greater capacity is not kept, nor is the clone of a longer one made of what is.
+/// A set of a greater capacity is not kept, and a longer set is not cloned into the kept one.
 const LIMIT: usize = 1024;
 
-/// What a thread keeps, or null.
+/// The kept set, or null.
 pub struct Spare<B: BitBlock> {
     set: Cell<*mut raw::Set>,
     blocks: PhantomData<B>,
@@ -20,7 +20,7 @@ impl<B: BitBlock> Spare<B> {
         Spare { set: Cell::new(null_mut()), blocks: PhantomData }
     }
 
-    // Keeps a set in the place of none, and returns whether it does.
+    // Keeps a set if none is kept, and returns whether it did.
     fn keep(&self, set: *mut raw::Set) -> bool {
         let is_free = self.set.get().is_null();
         if is_free {
@@ -32,24 +32,24 @@ impl<B: BitBlock> Spare<B> {
 
 impl<B: BitBlock> Drop for Spare<B> {
     fn drop(&mut self) {
-        // SAFETY: the set is nobody else's; of null it does nothing.
+        // SAFETY: nothing else uses the set; freeing null does nothing.
         unsafe { B::free(self.set.get()) }
     }
 }
 
-// The set that is kept, or null; so too as the thread ends.
+// The kept set, or null, also while the thread ends.
 fn take<B: BitBlock>() -> *mut raw::Set {
     B::spare().try_with(|spare| spare.set.replace(null_mut())).unwrap_or(null_mut())
 }
 
-/// Lets a set go.
+/// Keeps a set or frees it.
 ///
 /// # Safety
 ///
-/// It is the caller's own, and is used no more.
+/// The caller owns the set, and does not use it again.
 #[inline]
 pub unsafe fn let_go<B: BitBlock>(set: *mut raw::Set) {
-    // SAFETY: it is as the caller says.
+    // SAFETY: the caller upholds this function's contract.
     unsafe {
         let is_kept = B::capacity(set) <= LIMIT && B::spare().try_with(|spare| spare.keep(set)).unwrap_or(false);
         if !is_kept {
@@ -58,11 +58,11 @@ pub unsafe fn let_go<B: BitBlock>(set: *mut raw::Set) {
     }
 }
 
-/// An empty set, or null where there is no memory.
+/// An empty set, or null if memory runs out.
 #[inline]
 pub fn empty<B: BitBlock>() -> *mut raw::Set {
     let mut made = take::<B>();
-    // SAFETY: the set that was kept is nobody else's, and `made` is null where one is put out.
+    // SAFETY: nothing else uses the kept set, and `made` is null if a set is stored there.
     unsafe {
         if made.is_null() {
             B::new(&mut made);
@@ -73,14 +73,14 @@ pub fn empty<B: BitBlock>() -> *mut raw::Set {
     made
 }
 
-/// A clone, or null where there is no memory.
+/// A clone, or null if memory runs out.
 ///
 /// # Safety
 ///
-/// The set is lent for the call.
+/// The set is valid, and nothing changes it during the call.
 #[inline]
 pub unsafe fn clone<B: BitBlock>(set: *const raw::Set) -> *mut raw::Set {
-    // SAFETY: it is as the caller says, and the set that was kept is nobody else's.
+    // SAFETY: the caller upholds this function's contract, and nothing else uses the kept set.
     unsafe {
         let mut made = if B::length(set) <= LIMIT { take::<B>() } else { null_mut() };
         if made.is_null() {

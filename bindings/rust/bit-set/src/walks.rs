@@ -1,32 +1,33 @@
-//! Walks over a set, and over what two sets make. The blocks are read where they are: a call for each element costs more
-//! than the whole walk.
+//! Iterators over a set, and over merges of two sets. They read the blocks in place: a call for each element costs more
+//! than the whole iteration.
 use crate::{BitBlock, BitSet};
 use std::mem::size_of;
 
-/// After so many words a walk passes over zeros by the summary: after few where that passes over many, else after more.
+/// How many words a walk reads before it searches past zeros by the summary: `FEW` if the last search passed over many,
+/// else more.
 const FEW: usize = 8;
 const MANY: usize = 128;
 const WIDTH: usize = u64::BITS as usize;
 
-// What a walk is over: words of 64 bits, in which there is a bit for each number.
+// The words of 64 bits that a walk reads, with a bit for each number.
 trait Source: Copy {
     /// The next word.
     fn next_word(&mut self) -> Option<u64>;
 
-    /// A number with no element between `from` and it; `None` where there is none from `from` on.
+    /// A number with no element between `from` and it, or `None` if no element is at or above `from`.
     fn search(&self, from: usize) -> Option<usize>;
 
-    /// The same with this word as the next one.
+    /// The same source with this word as the next one.
     fn at_word(self, word: usize) -> Self;
 }
 
 #[derive(Clone, Copy)]
 struct Walk<S> {
     source: S,
-    // What is left of the word in hand, and its first number.
+    // The rest of the current word, and its first number.
     word: u64,
     base: usize,
-    // From this base on zeros are passed over by a search, and after how many words the next time.
+    // The base from which a search passes over zeros, and after how many words the next search begins.
     search_from: usize,
     stride: usize,
 }
@@ -38,7 +39,7 @@ impl<S: Source> Walk<S> {
         Walk { source, word, base: 0, search_from: FEW * WIDTH, stride: FEW }
     }
 
-    // Below this number every element was returned.
+    // Every element below this number was returned.
     fn passed(&self) -> usize {
         match self.word {
             0 => self.base.saturating_add(WIDTH),
@@ -46,8 +47,8 @@ impl<S: Source> Walk<S> {
         }
     }
 
-    // Takes the next word that is not zero in hand, and returns whether there is one. No call gets a reference to the walk,
-    // so that its parts stay in registers of the caller's loop.
+    // Moves to the next nonzero word, and returns whether there is one. No call takes a reference to the walk, so that
+    // its fields stay in registers of the caller's loop.
     #[inline(always)]
     fn advance(&mut self) -> bool {
         if !self.scan() {
@@ -56,8 +57,8 @@ impl<S: Source> Walk<S> {
         self.word != 0
     }
 
-    // Takes words in hand up to the first that is not zero, and returns whether it came to that or to the end: it stops
-    // where a search is due.
+    // Reads words up to the first nonzero one, and returns whether it reached that or the end: it stops where a search
+    // is due.
     #[inline(always)]
     fn scan(&mut self) -> bool {
         while let Some(word) = self.source.next_word() {
@@ -97,7 +98,7 @@ impl<S: Source> Walk<S> {
         Some(self.take_lowest())
     }
 
-    // Takes the lowest one out of the word in hand, which is not zero.
+    // Takes the lowest 1 out of the current word, which is not zero.
     #[inline]
     fn take_lowest(&mut self) -> usize {
         let lowest = self.word.trailing_zeros() as usize;
@@ -154,7 +155,7 @@ const INTERSECTION: u8 = 1;
 const DIFFERENCE: u8 = 2;
 const SYMMETRIC: u8 = 3;
 
-// What two sets make.
+// The merge of two sets.
 struct Two<'a, B: BitBlock, const MERGE: u8>(One<'a, B>, One<'a, B>);
 
 impl<B: BitBlock, const MERGE: u8> Clone for Two<'_, B, MERGE> {
@@ -221,26 +222,28 @@ macro_rules! walks {
 }
 
 walks! {
-    /// What is in either set, in ascending order.
+    /// An iterator over the union, in ascending order.
     Union over Two<'a, B, { UNION }>, union of other;
-    /// What is in both sets, in ascending order.
+    /// An iterator over the intersection, in ascending order.
     Intersection over Two<'a, B, { INTERSECTION }>, intersection of other;
-    /// What is in the first set alone, in ascending order.
+    /// An iterator over the difference, in ascending order.
     Difference over Two<'a, B, { DIFFERENCE }>, difference of other;
-    /// What is in just one of two sets, in ascending order.
+    /// An iterator over the symmetric difference, in ascending order.
     SymmetricDifference over Two<'a, B, { SYMMETRIC }>, symmetric_difference of other;
 }
 
-/// The elements, in ascending order from the front and in descending order from the back.
+/// An iterator over the elements, which yields them in ascending order from the front and in descending order from the
+/// back.
 #[derive(Clone)]
 pub struct Iter<'a, B: BitBlock = u32> {
     walk: Walk<One<'a, B>>,
-    // What is at this number or above was returned from the back.
+    // The elements at or above this number were returned from the back.
     end: usize,
 }
 
 impl<B: BitBlock> BitSet<B> {
-    /// The elements, in ascending order from the front and in descending order from the back.
+    /// An iterator over the elements, which yields them in ascending order from the front and in descending order from
+    /// the back.
     #[inline]
     pub fn iter(&self) -> Iter<'_, B> {
         Iter { walk: Walk::over(One::of(self)), end: usize::MAX }
@@ -248,7 +251,7 @@ impl<B: BitBlock> BitSet<B> {
 }
 
 impl<B: BitBlock> Iter<'_, B> {
-    // Takes out of the word in hand what was returned from the back, and returns whether something is left.
+    // Clears the bits of the current word that were returned from the back, and returns whether any are left.
     #[inline]
     fn cut(&mut self) -> bool {
         let left = self.end.saturating_sub(self.walk.base);

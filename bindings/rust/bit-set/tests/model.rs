@@ -1,4 +1,4 @@
-//! Random calls, from a fixed seed, beside the sets of Rust.
+//! Random calls, from a fixed seed, compared with std's sets.
 mod common;
 
 use bit_set::{BitBlock, BitSet};
@@ -129,7 +129,7 @@ fn appending_no_elements_makes_no_set() {
     assert!(a.is_empty() && b.iter().eq([70]));
 }
 
-// A range whose end may be below its start, and then it has no number.
+// A range, which is empty if its end is below its start.
 fn range(draws: &mut Draws) -> std::ops::Range<usize> {
     let bound = [70, 700][draws.below(2)];
     draws.below(bound)..draws.below(bound)
@@ -318,7 +318,7 @@ fn calls_that_tell_of_changes() {
     }
 }
 
-// A set that has no memory yet is as any other empty one.
+// A set that has not allocated behaves like any other empty set.
 #[test]
 fn new_sets() {
     let mut set = BitSet::new();

@@ -1,7 +1,7 @@
-//! Bits up to a length: the API of the crate `fixedbitset` 0.4, over a library for C whose every call is proved.
+//! Bits up to a length: the API of the crate `fixedbitset` 0.4, over a C library whose every call is proved.
 //!
-//! `as_mut_slice` is left out, since the library lends blocks to be read alone, and so is the feature `serde`.
-//! `union` and `symmetric_difference` ascend, where those of the crate go through one set and then through the other.
+//! `as_mut_slice` is left out, since the library lends blocks only for reading, and so is the feature `serde`. `union`
+//! and `symmetric_difference` ascend, where those of the crate yield one set and then the rest of the other.
 //!
 //! ```
 //! let mut bits = fixedbitset::FixedBitSet::with_capacity(10);
@@ -28,7 +28,7 @@ fn blocks_for(bits: usize) -> usize {
     bits / BITS + usize::from(bits % BITS != 0)
 }
 
-// Makes the set at least so long. What is new in it is clear.
+// Makes the set at least this long. The new bits are clear.
 fn lengthen(set: &mut BitSet, bits: usize) {
     if bits > set.bit_length() {
         set.insert(bits - 1);
@@ -39,24 +39,24 @@ fn lengthen(set: &mut BitSet, bits: usize) {
 /// Bits up to a length, each of which is set or clear.
 #[derive(Default)]
 pub struct FixedBitSet {
-    // Those that are set, each below the length. The set is as long, or longer.
+    // The bits that are set, each below the length. The set is at least as long.
     set: BitSet,
     length: usize,
 }
 
 impl FixedBitSet {
-    /// No bits.
+    /// Creates an empty bit set of length 0.
     pub const fn new() -> Self {
         FixedBitSet { set: BitSet::new(), length: 0 }
     }
 
-    /// So many bits, all of them clear.
+    /// Creates a bit set of this length, with all bits clear.
     pub fn with_capacity(bits: usize) -> Self {
         let set = if bits == 0 { BitSet::new() } else { BitSet::with_capacity(bits) };
         FixedBitSet { set, length: bits }
     }
 
-    /// So many bits, those of the blocks from the lowest, and clear past these.
+    /// Creates a bit set of this length from blocks, lowest bit first. Bits past the blocks are clear.
     pub fn with_capacity_and_blocks<I: IntoIterator<Item = u32>>(bits: usize, blocks: I) -> Self {
         let bytes: Vec<u8> = blocks.into_iter().take(blocks_for(bits)).flat_map(u32::to_le_bytes).collect();
         let mut set = BitSet::from_bytes_lsb(&bytes);
@@ -79,7 +79,7 @@ impl FixedBitSet {
         self.length
     }
 
-    /// Whether there are no bits.
+    /// Whether the length is 0.
     #[inline]
     pub fn is_empty(&self) -> bool {
         self.length == 0
@@ -90,7 +90,7 @@ impl FixedBitSet {
         self.set.is_empty()
     }
 
-    /// Whether the bit is set: past the length it is not.
+    /// Whether the bit is set, which is false past the length.
     #[inline]
     pub fn contains(&self, bit: usize) -> bool {
         self.set.contains(bit)
@@ -101,7 +101,7 @@ impl FixedBitSet {
         self.set.make_empty();
     }
 
-    // Panics where the bit is not below the length.
+    // Panics if the bit is not below the length.
     #[track_caller]
     #[inline]
     fn check(&self, call: &str, bit: usize) {
@@ -112,42 +112,42 @@ impl FixedBitSet {
     ///
     /// # Panics
     ///
-    /// Where the bit is not below the length, as in the four below.
+    /// If the bit is not below the length, as in the four calls below.
     #[inline]
     pub fn insert(&mut self, bit: usize) {
         self.check("insert", bit);
         self.set.insert(bit);
     }
 
-    /// Sets a bit, and returns whether it was set.
+    /// Sets a bit, and returns whether it was set before.
     #[inline]
     pub fn put(&mut self, bit: usize) -> bool {
         self.check("put", bit);
         !self.set.insert(bit)
     }
 
-    /// Sets a bit that is clear, and clears one that is set.
+    /// Toggles a bit.
     #[inline]
     pub fn toggle(&mut self, bit: usize) {
         self.check("toggle", bit);
         self.set.toggle(bit);
     }
 
-    /// Sets a bit where `enabled` is true, and clears it where not.
+    /// Sets a bit if `enabled` is true, and clears it if not.
     #[inline]
     pub fn set(&mut self, bit: usize, enabled: bool) {
         self.check("set", bit);
         self.set.set(bit, enabled);
     }
 
-    /// Makes the bit `to` what the bit `from` is.
+    /// Copies the bit `from` to the bit `to`.
     #[inline]
     pub fn copy_bit(&mut self, from: usize, to: usize) {
         self.check("copy", to);
         self.set.set(to, self.set.contains(from));
     }
 
-    // The range that is meant. Panics where it ends past the length, or before it begins.
+    // The bounds of the range. Panics if it ends past the length, or before it begins.
     #[track_caller]
     fn within<T: IndexRange>(&self, range: T) -> Range<usize> {
         let (start, end) = (range.start().unwrap_or(0), range.end().unwrap_or(self.length));
@@ -163,12 +163,12 @@ impl FixedBitSet {
     ///
     /// # Panics
     ///
-    /// Where the range ends past the length, as in the three below.
+    /// If the range ends past the length, as in the three calls below.
     pub fn count_ones<T: IndexRange>(&self, range: T) -> usize {
         self.set.count_in_range(self.within(range))
     }
 
-    /// Sets the bits of the range where `enabled` is true, and clears them where not.
+    /// Sets the bits of the range if `enabled` is true, and clears them if not.
     pub fn set_range<T: IndexRange>(&mut self, range: T, enabled: bool) {
         let range = self.within(range);
         match enabled {
@@ -182,28 +182,28 @@ impl FixedBitSet {
         self.set_range(range, true);
     }
 
-    /// Sets those bits of the range that are clear, and clears the others.
+    /// Toggles the bits of the range.
     pub fn toggle_range<T: IndexRange>(&mut self, range: T) {
         self.set.toggle_range(self.within(range));
     }
 
-    /// Sets what is set in `other`. The length becomes the greater one.
+    /// Sets the bits that are set in `other`. The length becomes the greater of the two.
     pub fn union_with(&mut self, other: &FixedBitSet) {
         self.grow(other.length);
         self.set.union_with(&other.set);
     }
 
-    /// Clears what is clear in `other`, or past its length.
+    /// Clears the bits that are clear in `other`, or past its length.
     pub fn intersect_with(&mut self, other: &FixedBitSet) {
         self.set.intersect_with(&other.set);
     }
 
-    /// Clears what is set in `other`.
+    /// Clears the bits that are set in `other`.
     pub fn difference_with(&mut self, other: &FixedBitSet) {
         self.set.difference_with(&other.set);
     }
 
-    /// Toggles what is set in `other`. The length becomes the greater one.
+    /// Toggles the bits that are set in `other`. The length becomes the greater of the two.
     pub fn symmetric_difference_with(&mut self, other: &FixedBitSet) {
         self.grow(other.length);
         self.set.symmetric_difference_with(&other.set);
@@ -214,7 +214,7 @@ impl FixedBitSet {
         self.set.is_disjoint(&other.set)
     }
 
-    /// Whether every bit that is set is set in `other`.
+    /// Whether every bit that is set here is set in `other`.
     pub fn is_subset(&self, other: &FixedBitSet) -> bool {
         self.set.is_subset(&other.set)
     }
@@ -224,7 +224,7 @@ impl FixedBitSet {
         other.is_subset(self)
     }
 
-    /// The blocks, each with the first of its bits lowest. Past the length bits are clear.
+    /// The blocks, lowest bit first. Bits past the length are clear.
     pub fn as_slice(&self) -> &[u32] {
         &self.set.as_slice()[..blocks_for(self.length)]
     }
@@ -256,7 +256,7 @@ impl PartialOrd for FixedBitSet {
 }
 
 impl Ord for FixedBitSet {
-    // As the lists of blocks compare, and then the lengths.
+    // By the lists of blocks, and then by length.
     fn cmp(&self, other: &Self) -> Ordering {
         self.as_slice().cmp(other.as_slice()).then(self.length.cmp(&other.length))
     }
@@ -302,7 +302,7 @@ impl Index<usize> for FixedBitSet {
     }
 }
 
-/// Sets the bits, and makes the length greater where one needs it.
+/// Sets the bits, and increases the length if one needs it.
 impl Extend<usize> for FixedBitSet {
     fn extend<I: IntoIterator<Item = usize>>(&mut self, bits: I) {
         for bit in bits {
@@ -312,7 +312,7 @@ impl Extend<usize> for FixedBitSet {
     }
 }
 
-/// The bits are set, and the length is that of the greatest.
+/// Sets the bits. The length is one more than the greatest.
 impl FromIterator<usize> for FixedBitSet {
     fn from_iter<I: IntoIterator<Item = usize>>(bits: I) -> Self {
         let mut set = FixedBitSet::new();
@@ -321,7 +321,8 @@ impl FromIterator<usize> for FixedBitSet {
     }
 }
 
-// The operator makes the length the lesser or the greater one of both, and the one that assigns does what the call does.
+// An operator's result has the lesser or the greater of the two lengths; the assigning operator does what the call
+// does.
 macro_rules! operators {
     ($($Operator:ident $operator:ident, $Assign:ident $assign:ident: $call:ident, $length:ident;)*) => {
         $(

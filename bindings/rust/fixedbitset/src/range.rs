@@ -1,15 +1,15 @@
-//! The ranges that the calls take.
+//! The ranges that calls accept.
 use std::ops::{Range, RangeFrom, RangeFull, RangeTo};
 
 /// `..`, `a..`, `..b` or `a..b`.
 pub trait IndexRange<T = usize> {
-    /// Where the range begins, or `None` at the beginning.
+    /// The start of the range, or `None` if it is unbounded.
     #[inline]
     fn start(&self) -> Option<T> {
         None
     }
 
-    /// Before which number the range ends, or `None` at the end.
+    /// The end of the range, or `None` if it is unbounded.
     #[inline]
     fn end(&self) -> Option<T> {
         None

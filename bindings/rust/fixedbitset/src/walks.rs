@@ -1,4 +1,4 @@
-//! Walks over the bits that are set, and over what two sets make. Each ascends.
+//! Iterators over the bits that are set, and over merges of two bit sets. Each ascends.
 use crate::FixedBitSet;
 
 macro_rules! walks {
@@ -27,14 +27,14 @@ macro_rules! walks {
 }
 
 walks! {
-    /// The bits that are set.
+    /// An iterator over the bits that are set.
     Ones, ones: Iter iter;
-    /// The bits that are set in either.
+    /// An iterator over the bits that are set in either.
     Union, union of other: Union union;
-    /// The bits that are set in both.
+    /// An iterator over the bits that are set in both.
     Intersection, intersection of other: Intersection intersection;
-    /// The bits that are set in the first alone.
+    /// An iterator over the bits that are set only in the first.
     Difference, difference of other: Difference difference;
-    /// The bits that are set in just one of both.
+    /// An iterator over the bits that are set in exactly one of the two.
     SymmetricDifference, symmetric_difference of other: SymmetricDifference symmetric_difference;
 }

@@ -1,4 +1,4 @@
-//! The blocks after each call that changes the length, beside a list of bits.
+//! The blocks after each call that changes the length, compared with a list of bits.
 mod common;
 
 use common::Draws;

@@ -1,4 +1,4 @@
-//! Random calls, from a fixed seed, beside a list of what is set.
+//! Random calls, from a fixed seed, compared with a list of truth values.
 mod common;
 
 use common::Draws;
@@ -30,7 +30,7 @@ fn same(bits: &FixedBitSet, list: &[bool]) {
     assert_eq!(bits.is_clear(), ones(list).next().is_none());
 }
 
-/// The call of this number, and the same on the list.
+/// Makes the call of this number, here and on the list.
 fn change(bits: &mut FixedBitSet, list: &mut [bool], call: usize, (bit, from): (usize, usize), range: Range<usize>) {
     match call {
         0 => assert_eq!(bits.put(bit), std::mem::replace(&mut list[bit], true)),

@@ -1,8 +1,8 @@
-//! Numbers that look random, the same for each run.
+//! Pseudorandom numbers, the same in each run.
 pub struct Draws(pub u64);
 
 impl Draws {
-    /// One below `n`.
+    /// A number below `n`.
     pub fn below(&mut self, n: usize) -> usize {
         self.0 ^= self.0 << 13;
         self.0 ^= self.0 >> 7;

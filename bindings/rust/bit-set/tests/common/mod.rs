@@ -1,9 +1,9 @@
-//! What tests share: numbers that look random, and tests over both widths of blocks.
+//! What tests share: pseudorandom numbers, and tests over both block widths.
 mod draws;
 
 pub use draws::Draws;
 
-/// A test that makes these calls over blocks of 32 bits and of 64.
+/// Runs a test over blocks of 32 bits and of 64.
 macro_rules! over_both_widths {
     ($test:ident, $calls:ident) => {
         #[test]

@@ -1,6 +1,6 @@
-//! What the tests have in common.
+//! What the tests share.
 
-/// Numbers that look random, from a seed.
+/// Pseudorandom numbers from a seed.
 pub struct Draws(pub u64);
 
 impl Draws {
