@@ -1,9 +1,8 @@
-"""Calls each method where something fails or changes the set on the way, beside Python's own sets.
+"""Calls each method while something fails or changes the set, and compares the outcome with that of Python's own sets.
 
     PYTHONPATH=MODULE python3 bindings/python/faults.py
 
-It also looks for what is not given back then, and, where Python has its module _testcapi, lets each of Python's requests for
-memory fail in turn.
+It also looks for leaks, and, if Python has its module _testcapi, fails each of Python's requests for memory in turn.
 """
 
 import array
@@ -33,7 +32,7 @@ MEMBERS = (1, 2, 3, 70, 400)
 
 
 class MallInfo(ctypes.Structure):
-    """What the C library tells of its memory."""
+    """What the C library reports of its memory."""
 
     _fields_ = [(str(at), ctypes.c_size_t) for at in range(10)]
 
@@ -45,15 +44,15 @@ if has_mallinfo:
 
 
 class Fault(Exception):
-    """What the classes below raise."""
+    """The exception that the classes below raise."""
 
 
 class Number(int):
-    """A number of a class of its own."""
+    """An int of a derived class."""
 
 
 class Index:
-    """What has a number, or raises as it is asked for it."""
+    """An object with an index, or one that raises when asked for it."""
 
     def __init__(self, number=None, act=None):
         self.number, self.act = number, act
@@ -67,14 +66,14 @@ class Index:
 
 
 class NoHash:
-    """What raises as it is asked for its hash."""
+    """An object that raises when hashed."""
 
     def __hash__(self):
         raise Fault
 
 
 class Equal:
-    """What has the hash of a member, and does something as it is compared."""
+    """An object with the hash of a member, which acts or raises when compared."""
 
     def __init__(self, act=None):
         self.act = act
@@ -111,34 +110,34 @@ class FaultySet(Set):
 
 
 def stops_after(*items):
-    """A walk that raises after these items."""
+    """An iterator that raises after these items."""
     yield from items
     raise Fault
 
 
 def acts_after(act, *items):
-    """A walk that does something between two items."""
+    """An iterator that acts between two items."""
     yield from items
     act()
     yield 2
 
 
 def raised(call):
-    """What a call returns, or the class of what it raises."""
+    """The result of a call, or the class of the exception that it raises."""
     try:
         return call()
     except Exception as error:
         return type(error)
 
 
-# What equals a number and is no int, or equals none, or raises. All of these a set of Python's takes the same way.
+# Objects that equal a number and are no ints, or that equal none, or that raise. Python's sets treat each in the same way.
 def items():
     numbers = (3, 5, True, Number(3), Number(9), -1, 2**70, -(2**70), MAX_ELEMENT, MAX_ELEMENT + 1)
     others = (3.0, 5.0, -1.0, float("nan"), float("inf"), 3 + 0j, Fraction(3), Fraction(7, 2), Decimal(3), "x", b"x", None)
     return [*numbers, *others, (1,), frozenset(), [], {}, NoHash(), Equal()]
 
 
-# Iterables of which each makes a new one.
+# Iterables, new ones for each call.
 def iterables(set_):
     for item in items():
         yield [1, item, 70]
@@ -151,7 +150,7 @@ def iterables(set_):
     yield from (range(3), range(-2, 3), "x", "", b"\1\2", 5, None, set_, {3.0, 2}, {1: 2, "x": 3}, array.array("d", [3.0]))
 
 
-# What changes the set while it is read.
+# Operands that change the set while they are read.
 def restless(set_):
     acts = (set_.clear, lambda: set_.add(9000), lambda: set_.__init__([9]), lambda: set_.intersection_update([1]))
     for act in acts:
@@ -161,26 +160,26 @@ def restless(set_):
 IN_PLACE = ("intersection_update", "difference_update")
 NEW = ("intersection", "difference")
 TESTS = ("issubset", "issuperset", "isdisjoint")
-# Those that ask for no more items than they need, as sets of Python's do from this version on.
+# Those that fetch no more items than they need, as Python's sets do from this version on.
 EARLY = {"intersection": (3, 11), "intersection_update": (3, 11), "issuperset": (3, 11), "issubset": (3, 12)}
 OPERATORS = ("__and__", "__sub__", "__rand__", "__rsub__", "__iand__", "__isub__")
 COMPARISONS = ("__eq__", "__ne__", "__le__", "__lt__", "__ge__", "__gt__")
-# Those that put items in take numbers alone.
+# Calls that add items accept only numbers.
 GROWING = ("update", "union", "symmetric_difference_update", "symmetric_difference", "__or__", "__ior__", "__xor__", "__ixor__")
 COUNTS = ("union_count", "intersection_count", "difference_count", "symmetric_difference_count")
 
 
 def outcome(set_, name, *operands):
-    """What a call comes to, as a value that can be compared, and the members after it."""
+    """The outcome of a call, as a value that can be compared, and the members after it."""
     found = raised(lambda: getattr(set_, name)(*operands))
     return frozenset(found) if isinstance(found, (BitSet, set, frozenset)) else found, set(set_)
 
 
 class Beside(unittest.TestCase):
-    """Calls whose outcome must be that of a set of Python's."""
+    """Calls whose outcome must be that of a Python set."""
 
     def same(self, name, make, *places):
-        """The call with the operands at these places of those that `make` gives."""
+        """Makes the call with the operands at these places among those that `make` yields."""
         if sys.version_info < EARLY.get(name, (3, 0)):
             return
         outcomes = []
@@ -235,19 +234,19 @@ class Beside(unittest.TestCase):
 
 
 class NoIter:
-    """What raises as it is asked for a walk."""
+    """An object that raises when asked for an iterator."""
 
     def __iter__(self):
         raise Fault
 
 
 def bound(set_, name, *operands):
-    """A call that is ready to be made."""
+    """A call without arguments."""
     return functools.partial(getattr(set_, name), *operands)
 
 
 def calls_with_items():
-    """Names, and functions that each make a call ready, of a method of a set or a matrix of its own."""
+    """Names of methods, and for each a function that prepares a call on a new set or matrix."""
     number = [*items(), 4, Index(), Index(4), Index(-(2**70)), object()]
     hidden = ("__class__", "__init_subclass__", "__subclasshook__", "__new__", "__getattribute__", "__delattr__")
     for make in (lambda: BitSet(MEMBERS), lambda: BitMatrix(5, 80)):
@@ -298,20 +297,20 @@ def calls_that_make():
 
 
 class Everything(unittest.TestCase):
-    """Every method with every operand: it must return or raise, and give back what it took."""
+    """Every method with every operand: it must return or raise, and release what it took."""
 
     def setUp(self):
-        # What a walk raises as it is let go.
+        # Exceptions that an iterator raises when released.
         hook = sys.unraisablehook
         self.addCleanup(setattr, sys, "unraisablehook", hook)
         sys.unraisablehook = lambda _: None
 
     def test_what_is_not_given_back(self):
-        # A collection would give back what Python keeps for later calls.
+        # A collection would free what Python keeps for later calls.
         gc.disable()
         self.addCleanup(gc.enable)
         for name, make_ready in itertools.chain(calls_with_items(), calls_with_iterables(), calls_that_make()):
-            # What Python keeps for later calls is there after the first ones.
+            # After the first calls Python has what it keeps for later ones.
             held(make_ready, 5)
             if max(held(make_ready, 10)) >= 10:
                 with self.subTest(name=name):
@@ -334,12 +333,12 @@ class Everything(unittest.TestCase):
 
 
 def in_use():
-    """How many blocks Python has handed out, and how many bytes the C library, where that tells."""
+    """How many blocks Python has allocated, and how many bytes the C library, if it reports that."""
     return sys.getallocatedblocks(), getattr(c_library.mallinfo2(), "7") if has_mallinfo else 0
 
 
 def held(make_ready, times):
-    """How many blocks and bytes more there are after so many calls."""
+    """How many more blocks and bytes are in use after this many calls."""
     before = in_use()
     for _ in range(times):
         raised(make_ready())
@@ -350,7 +349,7 @@ class Memory(unittest.TestCase):
     @unittest.skipIf("asan" in os.environ.get("LD_PRELOAD", ""), "the sanitizer ends the process")
     @unittest.skipUnless(os.path.exists("/proc/self/statm"), "the system does not tell how much memory there is")
     def test_the_library_finds_no_memory(self):
-        """Calls with sets of some 60 megabytes, where a sixteenth of that is left: the operands stay as they were."""
+        """Calls with sets of some 60 megabytes when a sixteenth of that is left: the operands are unchanged."""
         far = 5 * 10**8
         models = {1, 5}, {1, far}, {2, far + 10**6}
         few, one, other = sets = [BitSet(model) for model in models]
@@ -374,7 +373,7 @@ class Memory(unittest.TestCase):
 
 class Threads(unittest.TestCase):
     def test_threads_that_change_shared_sets(self):
-        """Whatever threads do to shared sets, each call sees whole ones."""
+        """Whatever threads do to shared sets, each call sees complete ones."""
         sets = [BitSet(range(0, 3000, step)) for step in (1, 2, 7)]
         faults = []
 

@@ -1,4 +1,4 @@
-"""Runs those cases of Python's own test.test_set that are of sets of numbers, with BitSet in place of set.
+"""Runs the cases of Python's own test.test_set on sets of numbers, with BitSet in place of set.
 
 python3 set_cases.py          needs the package test of Python's library
 """
@@ -10,7 +10,7 @@ from test import test_set
 
 from bit_set import BitSet
 
-# The classes whose sets have numbers alone.
+# The classes whose sets have only numbers.
 CLASSES = (
     "TestBasicOpsEmpty",
     "TestBasicOpsSingleton",
@@ -26,8 +26,7 @@ CLASSES = (
     "TestCopyingEmpty",
 )
 
-# Of these the cases that ask for what is no part of a MutableSet: how `set` is printed, and how many items a walk over
-# it says are left.
+# Their cases for what is not part of a MutableSet: how `set` is printed, and the length hint of its iterator.
 OTHERS = ("test_repr", "test_iteration")
 
 
@@ -42,7 +41,7 @@ def main():
     return 0 if unittest.TextTestRunner(verbosity=0).run(suite).wasSuccessful() else 1
 
 
-# The class with BitSet for each set that it was made with.
+# The class with a BitSet in place of each of its sets.
 def numbers_of(cases):
     for name in ("left", "right"):
         if hasattr(cases, name):

@@ -1,5 +1,5 @@
-"""Times calls of the module beside Python's own sets: the least of many rounds, in turns. Where `intbitset` and `bitarray`
-can be imported, beside these too.
+"""Times calls of the module beside Python's own sets: the least of many rounds, taken in turns; also beside `intbitset` and
+`bitarray`, if these can be imported.
 
     PYTHONPATH=MODULE python3 bindings/python/speed.py
     PYTHONPATH=MODULE python3 bindings/python/speed.py shapes    the calls that take over five times as long as with
@@ -53,7 +53,7 @@ def walk(members):
 
 
 def beside_sets(numbers, halves):
-    """The rows beside Python's own sets, of random numbers where nothing else is said."""
+    """The rows beside Python's own sets, of random numbers unless stated otherwise."""
     ascending = list(range(LIMIT))
     packed = array.array("Q", numbers)
     ours, theirs = ([kind(half) for half in halves] for kind in (BitSet, set))
@@ -128,13 +128,13 @@ def shapes(draws):
 
 OPERATORS = ("or", "and", "sub", "xor", "eq", "ne", "le", "lt", "ge", "gt")
 METHODS = ("union", "intersection", "difference", "symmetric_difference", "issubset", "issuperset", "isdisjoint")
-# These change a set, so each round has a copy of its own, whose time is in neither column.
+# These change a set, so each round has its own copy, whose time is in neither column.
 IN_PLACE = ("update", "intersection_update", "difference_update", "symmetric_difference_update", "clear")
 ALONE = (len, bool, list, sorted, repr, copy.copy, pickle.dumps)
 
 
 def calls_of(kind, one, other):
-    """Names of calls, and for each a function that makes it ready."""
+    """Names of calls, and for each a function that prepares it."""
     own, others = kind(one), kind(other)
     for operand, name in ((others, "its kind"), (set(other), "a set"), (other, "a list")):
         for method in METHODS if operand is other else [*(f"__{operator}__" for operator in OPERATORS), *METHODS]:
@@ -148,7 +148,7 @@ def calls_of(kind, one, other):
 
 
 def least_of(make_ready):
-    """The least time of a call in seconds, each time on a copy of its own."""
+    """The least time of a call in seconds, each time on its own copy."""
     best, spent = float("inf"), 0
     while spent < 0.01:
         call = make_ready()
@@ -160,7 +160,7 @@ def least_of(make_ready):
 
 
 def slow_calls(draws):
-    """Writes a line for each call above five times that of `set`, and fifty nanoseconds more."""
+    """Writes a line for each call that takes more than five times as long as that of `set`, and 50 ns more."""
     print("| call | shape | ours, us | theirs, us | ratio |\n|---|---|---|---|---|")
     for shape, lists in shapes(draws).items():
         for (name, ours), (_, theirs) in zip(calls_of(BitSet, *lists), calls_of(set, *lists)):

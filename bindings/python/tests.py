@@ -398,7 +398,7 @@ class Tests(unittest.TestCase):
         self.assertEqual(list(a), [2, 3])
 
     def test_equal_is_what_has_each_member(self):
-        # Such an item is none of the members by `==`, so there are two items and one member among them.
+        # By `==` such an item is not a member, so there are two items and only one member among them.
         self.assertNotEqual(BitSet([4, 5]), {Index(4), 4})
         self.assertEqual(BitSet([4, 5]), {4.0, 5})
 
@@ -427,7 +427,7 @@ class Tests(unittest.TestCase):
             self.assertIsNone(seen())
 
     def test_threads_that_write_to_one_set(self):
-        # Far apart, so that the set grows to some megabytes, and one thread moves its blocks while the others write.
+        # The numbers lie far apart, so the set grows to some megabytes, and one thread moves its blocks while others write.
         numbers = range(0, 10**8, 1000)
         for writers in (2, 4):
             with self.subTest(writers=writers):
@@ -450,7 +450,7 @@ class Tests(unittest.TestCase):
         self.assertEqual(list(a), [2, 3])
         a.__init__()
         self.assertEqual(list(a), [])
-        # A set of one megabyte, made anew five hundred times.
+        # A set of one megabyte, made five hundred times.
         a.__init__([8 * 10**6])
         before = resource.getrusage(resource.RUSAGE_SELF).ru_maxrss
         for _ in range(500):

@@ -1,9 +1,9 @@
-"""Sets of whole numbers as bits, and matrices of them, over a library of which every call is proved.
+"""Sets of whole numbers as bits, and matrices of bits, over a library whose every call is proved.
 
 A BitSet is a MutableSet of numbers from 0 to MAX_ELEMENT. It takes an eighth of a byte for each number up to its greatest
-member. Its methods are those of set, with ranges, ends and searches beside them. What goes in is an int or has one as its
-index; a look-up finds whatever equals a member, such as 4.0. A BitMatrix has rows that are sets of columns, as the edges of
-a graph are.
+member. Its methods are those of set, and others for ranges, ends and searches. A new member is an int or another object with
+an index; a look-up finds any object that equals a member, such as 4.0. Each row of a BitMatrix is a set of columns, such as
+the edges of a graph.
 """
 
 from collections.abc import MutableSet

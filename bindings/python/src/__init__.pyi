@@ -7,7 +7,7 @@ _SelfMatrix = TypeVar("_SelfMatrix", bound="BitMatrix")
 
 MAX_ELEMENT: int
 
-# Unions take sets of ints alone, where those of a MutableSet take any set.
+# Unions accept only sets of ints, where those of a MutableSet accept any set.
 class BitSet(MutableSet[int]):
     __hash__: ClassVar[None]  # type: ignore[assignment]
     def __init__(self, members: Iterable[SupportsIndex] = ...) -> None: ...

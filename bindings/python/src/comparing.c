@@ -1,7 +1,7 @@
-/* Which of two sets has the other, and how many members they have between them. */
+/* Comparisons of two sets, and the sizes of their merges. */
 #include "set.h"
 
-/* So many numbers have one block of the summary; and so many items are looked at before members are counted. */
+/* How many numbers a summary block covers, and how many items are tested before members are counted. */
 enum { SUMMARY_BLOCK = 64 * 64, GLANCE = 64 };
 
 static int has(void *self, PyObject *item)
@@ -20,13 +20,13 @@ static int is_in(void *container, PyObject *member)
     return PySequence_Contains(container, member);
 }
 
-/* A set, and how many more items are looked at. */
+/* A set, and how many more items to test. */
 struct glance {
     PyObject *set;
     int left;
 };
 
-/* 2 where no more are looked at. */
+/* 2 once no more are to be tested. */
 static int lacks_at_glance(void *with, PyObject *item)
 {
     struct glance *glance = with;
@@ -51,7 +51,8 @@ static int is_within(PyObject *self, PyObject *container)
     return each_item(set_iter(self), is_in, container);
 }
 
-/* Below 0 where a set has fewer members than so many, 0 where as many, and above 0 where more. Reads no more than tells. */
+/* Below 0 if the set has fewer than `count` members, 0 if exactly as many, and above 0 if more. Reads no more than it
+ * needs. */
 static int compare_count(const bit_set *set, size_t count)
 {
     if (count == 0)
@@ -60,16 +61,16 @@ static int compare_count(const bit_set *set, size_t count)
     return last == NO_MEMBER ? -1 : bit_set_next(set, last + 1) != NO_MEMBER;
 }
 
-/* Whether an iterable is a set of Python's with more items than the set has members, so that a look-up of each member is less
- * work than one of each item. To count costs about as much as one of these for each summary block. */
+/* Whether an iterable is a Python set with more items than the set has members, so that looking up each member is less
+ * work than looking up each item. Counting costs about as much as one look-up for each summary block. */
 bool has_less_members(PyObject *self, PyObject *iterable)
 {
     size_t items = PyAnySet_CheckExact(iterable) ? (size_t)PySet_Size(iterable) : 0;
     return items > bit_set_length(set_of(self)) / SUMMARY_BLOCK && compare_count(set_of(self), items) < 0;
 }
 
-/* Whether a look at the first item of one set finds that another lacks it, so that their counts, for which a bit set is read,
- * need no look. What is raised then, the look at each item raises, unless the counts tell that none is to be asked. */
+/* Whether one set's first item is not in another, so that neither need be counted, for which a bit set is read. An
+ * exception is dropped: the test of each item raises it again, unless the counts decide before. */
 static bool lacks_first(look *look_at, void *with, PyObject *first)
 {
     int found = first ? look_at(with, first) : -1;
@@ -84,7 +85,7 @@ static bool begins_outside(PyObject *self, PyObject *other)
     return first != NO_MEMBER && PyAnySet_CheckExact(other) && lacks_first(is_in, other, int_of(first));
 }
 
-/* Of many items the first may be far into their table, and a set with about as many is counted faster. */
+/* If there are many items, the first may be far into their table, and counting a set of about as many is faster. */
 static bool has_outside(PyObject *self, PyObject *other)
 {
     bool has_few = PyAnySet_CheckExact(other) && (size_t)PySet_Size(other) < bit_set_length(set_of(self)) / 8;
@@ -108,21 +109,21 @@ static int compare_with_bit_set(PyObject *self, PyObject *other, int operation)
     }
 }
 
-/* An int is in both or shows that the sets differ: 1 or 0. Of another item that is not said: 2. */
+/* 1 or 0 for an int, which is in both or shows that the sets differ; 2 for any other item, which decides nothing. */
 static int is_int_of_both(void *self, PyObject *item)
 {
     return PyLong_CheckExact(item) ? set_contains(self, item) : 2;
 }
 
-/* Whether the members are the items of a set of another kind, which has as many. A walk over a bit set makes each int, so one
- * over a set of Python's is faster. */
+/* Whether the members are the items of a set of another kind with equally many. Iterating over a bit set makes each
+ * int, so iterating over a Python set is faster. */
 static int is_same(PyObject *self, PyObject *other)
 {
     int found = PyAnySet_CheckExact(other) ? each_item(PyObject_GetIter(other), is_int_of_both, self) : 2;
     return found == 2 ? is_within(self, other) : found;
 }
 
-/* With a set of another kind, by the counts first. */
+/* Compares with a set of another kind, by the counts first. */
 static int compare_with_set(PyObject *self, PyObject *other, int operation)
 {
     if (operation == Py_NE) {
@@ -180,7 +181,7 @@ PyObject *set_issubset(PyObject *self, PyObject *items)
     return truth_if(is_among(self, items));
 }
 
-/* Sets that have some in common mostly show it soon. */
+/* Sets that have members in common mostly show it soon. */
 static int is_disjoint_from_set(PyObject *self, PyObject *set)
 {
     struct glance glance = {self, GLANCE};

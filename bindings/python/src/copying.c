@@ -1,8 +1,8 @@
-/* Copies for the modules copy and pickle. They also have what an object of a class of the user's has beside its members. */
+/* Copies for the modules copy and pickle, with what an object of a derived class has beside its members. */
 #include "set.h"
 
-/* What an object has beside its members: what `__getstate__` returns, or before Python 3.11 its attributes without those
- * of `__slots__`, as with Python's own sets. None where there is nothing. */
+/* The state of an object beside its members: the result of `__getstate__`, or before Python 3.11 its attributes without
+ * those of `__slots__`, as with Python's own sets. None if there is none. */
 PyObject *state_of(PyObject *self)
 {
     PyObject *call = PyObject_GetAttrString(self, "__getstate__");
@@ -19,7 +19,7 @@ PyObject *state_of(PyObject *self)
     return reference_to(Py_None);
 }
 
-/* Puts attributes of `__slots__` in. */
+/* Sets the attributes of `__slots__`. */
 static bool put_slots(PyObject *made, PyObject *slots)
 {
     PyObject *items = PyMapping_Items(slots);
@@ -35,8 +35,8 @@ static bool put_slots(PyObject *made, PyObject *slots)
     return is_good;
 }
 
-/* Puts attributes in: a state is a dictionary of them, or a pair of one and of one for `__slots__`, where either may be
- * None. */
+/* Sets attributes from a state: a dictionary of them, or a pair of one and of one for `__slots__`, either of which may
+ * be None. */
 bool put_attributes(PyObject *made, PyObject *state)
 {
     bool is_pair = PyTuple_Check(state) && PyTuple_Size(state) == 2;
@@ -52,7 +52,7 @@ bool put_attributes(PyObject *made, PyObject *state)
     return slots == Py_None || put_slots(made, slots);
 }
 
-/* Gives a copy of a set its state, as the module copy does. */
+/* Sets the state of a copy, as the module copy does. */
 static bool put_state(PyObject *made, PyObject *state)
 {
     PyObject *call = is_bit_set(made) ? PyObject_GetAttrString(made, "__setstate__") : NULL;
@@ -66,7 +66,7 @@ static bool put_state(PyObject *made, PyObject *state)
     return done;
 }
 
-/* A deep copy of a state. The memo has the copy of what it belongs to by then, which it may lead back to. */
+/* A deep copy of a state. By then the memo has the copy of the object that it belongs to, to which it may refer. */
 static PyObject *deep_state(PyObject *self, PyObject *made, PyObject *state, PyObject *memo)
 {
     PyObject *deep = NULL, *place = PyLong_FromVoidPtr(self), *module = PyImport_ImportModule("copy");
@@ -77,7 +77,7 @@ static PyObject *deep_state(PyObject *self, PyObject *made, PyObject *state, PyO
     return deep;
 }
 
-/* Takes a copy of the members, and gives it a copy of the state: a deep one where there is a memo. */
+/* Takes over `made`, a copy of the members, and sets its state to a copy of this object's: a deep one if there is a memo. */
 static PyObject *with_state(PyObject *self, PyObject *made, PyObject *memo)
 {
     if (!made || Py_TYPE(self) == bit_set_type || Py_TYPE(self) == matrix_type)

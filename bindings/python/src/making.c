@@ -1,13 +1,13 @@
-/* Sets as they are made, and what goes into them and out again. */
+/* Creating sets, and inserting and removing members. */
 #include "set.h"
 
-/* An object that has nothing of the library's yet. */
+/* An object that has no set of the library yet. */
 PyObject *blank(PyTypeObject *type)
 {
     return ((allocfunc)PyType_GetSlot(type, Py_tp_alloc))(type, 0);
 }
 
-/* What was made, or NULL with a MemoryError where the library found none for it. */
+/* The new object, or NULL with a MemoryError if the library ran out of memory. */
 PyObject *made_if(bool found_memory, PyObject *made)
 {
     if (found_memory)
@@ -64,11 +64,11 @@ bool put(PyObject *self, PyObject *member)
     return false;
 }
 
-/* Puts numbers in up to the first that cannot go in, and returns how many. Memory for the greatest is asked for first, so that
- * the set grows once; without it those go in that come before the first that finds none. */
+/* Inserts numbers up to the first that cannot be inserted, and returns how many were. Reserves for the greatest first,
+ * so that the set grows once. If that fails, it inserts those before the first for which memory runs out. */
 static size_t insert_group(PyObject *self, const size_t *group, size_t count)
 {
-    /* One more than the greatest, where NO_MEMBER counts for none. */
+    /* One more than the greatest; 0 for NO_MEMBER. */
     size_t bound = 0;
     for (size_t at = 0; at < count; at++)
         bound = group[at] + 1 > bound ? group[at] + 1 : bound;
@@ -85,14 +85,14 @@ static bool put_group(PyObject *self, const size_t *group, size_t count)
     return false;
 }
 
-/* Numbers that are gathered for a set, which takes many at a time. */
+/* Numbers gathered for a set, which inserts many at a time. */
 struct gathered {
     PyObject *set;
     size_t count;
     size_t group[GROUP];
 };
 
-/* Puts a group in once it is full. */
+/* Inserts a group once it is full. */
 static inline bool gather(struct gathered *numbers, PyObject *item)
 {
     if (!read_member(item, &numbers->group[numbers->count]))
@@ -108,7 +108,7 @@ static int gather_item(void *numbers, PyObject *item)
     return gather(numbers, item) ? 1 : -1;
 }
 
-/* Puts in what is left, also where an exception is raised. Returns whether all is in. */
+/* Inserts the rest, even if an exception is set. Returns whether all were inserted. */
 static bool put_rest(struct gathered *numbers)
 {
     PyObject *type, *value, *trace;
@@ -123,7 +123,7 @@ static bool put_rest(struct gathered *numbers)
     return false;
 }
 
-/* The items of a list or a tuple. Those before one that cannot go in are in too. */
+/* Inserts the items of a list or a tuple. Those before one that cannot be inserted are inserted. */
 static bool put_items(PyObject *self, PyObject *items)
 {
     struct gathered numbers = {.set = self, .count = 0};
@@ -131,13 +131,13 @@ static bool put_items(PyObject *self, PyObject *items)
     Py_ssize_t size = PySequence_Size(items);
     for (Py_ssize_t at = 0; is_good && at < size; at++) {
         PyObject *item = is_list ? PyList_GetItem(items, at) : PyTuple_GetItem(items, at);
-        /* A list may become shorter meanwhile, by the `__index__` of an item. */
+        /* An item's `__index__` may shorten the list meanwhile. */
         is_good = item && gather(&numbers, item);
     }
     return put_rest(&numbers);
 }
 
-/* The same of a set of Python's, over which no code of the user's walks. */
+/* The same for a Python set, over which no user's code iterates. */
 static bool put_set(PyObject *self, PyObject *items)
 {
     struct gathered numbers = {.set = self, .count = 0};
@@ -150,7 +150,7 @@ static int put_item(void *self, PyObject *item)
     return put(self, item) ? 1 : -1;
 }
 
-/* Which numbers a buffer of this format has, where it is one of whole numbers of this machine. */
+/* Whether a format is of integers as this machine stores them, and whether they are signed. */
 static bool read_format(PyObject *view, bool *is_signed)
 {
     PyObject *format = PyObject_GetAttrString(view, "format");
@@ -166,7 +166,7 @@ static bool read_format(PyObject *view, bool *is_signed)
     return is_known;
 }
 
-/* A count that an object has, or 0, also where there is no memory to look for it. */
+/* An attribute that is a count, or 0, also if there is no memory to look it up. */
 static Py_ssize_t size_attribute(PyObject *object, const char *name)
 {
     PyObject *value = PyObject_GetAttrString(object, name);
@@ -176,7 +176,7 @@ static Py_ssize_t size_attribute(PyObject *object, const char *name)
     return size;
 }
 
-/* Number `at` of those in a buffer, where one below 0 is SIZE_MAX, so that it is no member. */
+/* Number `at` of those in a buffer. One below 0 is SIZE_MAX, so that it is not a member. */
 static size_t number_at(const char *bytes, size_t width, bool is_signed, size_t at)
 {
     uint64_t number = 0;
@@ -191,7 +191,7 @@ static size_t number_at(const char *bytes, size_t width, bool is_signed, size_t 
     return is_below_zero || number > SIZE_MAX ? NO_MEMBER : (size_t)number;
 }
 
-/* The numbers of a buffer, in groups. Those before one that cannot go in are in too. */
+/* Inserts the numbers of a buffer in groups. Those before one that cannot be inserted are inserted. */
 static bool put_numbers(PyObject *self, const char *bytes, size_t size, size_t width, bool is_signed)
 {
     size_t group[GROUP];
@@ -211,14 +211,14 @@ static bool put_numbers(PyObject *self, const char *bytes, size_t size, size_t w
     return true;
 }
 
-/* Whether its class walks over the items in a way of its own, so that they need not be the numbers of the buffer. */
+/* Whether the object's class defines its own iteration, so that its items need not be the numbers of the buffer. */
 static bool has_own_walk(PyObject *object)
 {
     static const char *const names[] = {"__iter__", "__getitem__"};
     bool is_own = false;
     for (int at = 0; at < 2; at++) {
         PyObject *method = PyObject_GetAttrString((PyObject *)Py_TYPE(object), names[at]);
-        /* Where there is no memory to look for one, there may be one. */
+        /* If there is no memory to look for one, there may be one. */
         bool may_be_own = method ? Py_TYPE(method) != &PyWrapperDescr_Type : !PyErr_ExceptionMatches(PyExc_AttributeError);
         is_own = is_own || may_be_own;
         Py_XDECREF(method);
@@ -227,7 +227,7 @@ static bool has_own_walk(PyObject *object)
     return is_own;
 }
 
-/* The numbers of a buffer in a row, as of an array or of NumPy. NO_NUMBER where it is none. */
+/* Inserts the numbers of a contiguous buffer, such as an array's or NumPy's. NO_NUMBER if it is not one. */
 static enum reading put_buffer(PyObject *self, PyObject *object)
 {
     bool is_signed;
@@ -251,7 +251,7 @@ static enum reading put_buffer(PyObject *self, PyObject *object)
     return done;
 }
 
-/* The members of an iterable. Those before one that cannot go in are in too. */
+/* Inserts the items of an iterable. Those before one that cannot be inserted are inserted. */
 bool put_all(PyObject *self, PyObject *members)
 {
     if (is_bit_set(members)) {
@@ -285,7 +285,7 @@ int set_init(PyObject *self, PyObject *arguments, PyObject *named)
     return -1;
 }
 
-/* A bit set of the members of an iterable: itself where it is one. A new reference. */
+/* A bit set of the items of an iterable, which is itself if it is one. A new reference. */
 PyObject *as_bit_set(PyObject *members)
 {
     if (is_bit_set(members)) {
@@ -312,7 +312,7 @@ int set_contains(PyObject *self, PyObject *member)
     return reading == NUMBER ? bit_set_contains(set_of(self), number) : (int)reading;
 }
 
-/* Takes a member out: NUMBER where it was in. */
+/* Removes a member. NUMBER if it was present. */
 enum reading take_out(PyObject *self, PyObject *member)
 {
     size_t number;
@@ -332,7 +332,7 @@ PyObject *set_discard(PyObject *self, PyObject *member)
 PyObject *set_remove(PyObject *self, PyObject *member)
 {
     enum reading done = take_out(self, member);
-    /* A tuple by itself would be all arguments of the exception. */
+    /* A bare tuple would be taken for all arguments of the exception. */
     PyObject *arguments = done == NO_NUMBER ? PyTuple_Pack(1, member) : NULL;
     if (arguments)
         PyErr_SetObject(PyExc_KeyError, arguments);

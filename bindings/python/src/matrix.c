@@ -1,4 +1,4 @@
-/* Matrices of bits. A row and a column are looked at first, since the library owes no call one that is not there. */
+/* Matrices of bits. Rows and columns are checked first, since the library's calls require them to be in bounds. */
 #include "set.h"
 
 static bit_matrix *matrix_of(PyObject *object)
@@ -11,7 +11,7 @@ static bool is_matrix(PyObject *object)
     return PyObject_TypeCheck(object, matrix_type);
 }
 
-/* Reads a number below `count`, of rows or of columns, with an IndexError where it is none. */
+/* Reads a number below `count`, of rows or of columns; an IndexError if it is out of bounds. */
 static bool read_place(PyObject *object, size_t count, const char *what, size_t *place)
 {
     int outside;
@@ -72,8 +72,8 @@ PyObject *matrix_new(PyTypeObject *type, PyObject *arguments, PyObject *named)
     return made ? made_if(bit_matrix_new(&((BitMatrix *)made)->matrix, rows, columns), made) : NULL;
 }
 
-/* Whether a class of the user's made a matrix of these rows and columns, which it may not have, and has not put more into the
- * set meanwhile. */
+/* Whether a derived class made a matrix of these rows and columns, which it may fail to do, and did not insert greater
+ * members into the set meanwhile. */
 static bool is_as_asked(PyObject *made, bit_set *row, size_t rows, size_t columns)
 {
     if (!is_matrix(made))
@@ -86,7 +86,7 @@ static bool is_as_asked(PyObject *made, bit_set *row, size_t rows, size_t column
     return false;
 }
 
-/* The same by a class of the user's, which makes a matrix as it does elsewhere. */
+/* The same for a derived class, which makes a matrix by its own call. */
 static PyObject *from_row_by(PyObject *type, bit_set *row, size_t rows)
 {
     size_t columns = bit_set_length(row);
@@ -172,7 +172,7 @@ PyObject *matrix_columns(PyObject *self, void *Py_UNUSED(closure))
     return PyLong_FromSize_t(bit_matrix_columns(matrix_of(self)));
 }
 
-/* Whether a pair of a row and a column is in. Another object is not. */
+/* Whether the column of a pair is in its row. Any other object is not. */
 int matrix_contains(PyObject *self, PyObject *pair)
 {
     size_t row, column;
@@ -187,7 +187,7 @@ int matrix_contains(PyObject *self, PyObject *pair)
         && bit_matrix_contains(matrix_of(self), row, column);
 }
 
-/* A call on the row and the column, or on the two rows, that `read` makes of the arguments. It says yes or no. */
+/* Makes a call on a row and a column, or on two rows, that `read` reads from the arguments. Returns its truth value. */
 #define PAIR_METHOD(name, read, call)                                          \
     PyObject *matrix_##name(PyObject *self, PyObject *arguments)               \
     {                                                                          \
@@ -224,7 +224,7 @@ PyObject *matrix_row(PyObject *self, PyObject *row_object)
     return made ? made_if(bit_matrix_row_to_set(&((BitSet *)made)->set, matrix_of(self), row), made) : NULL;
 }
 
-/* Whether each member of a set is a column, with an IndexError where one is not. */
+/* Whether each member of a set is a column; an IndexError if one is not. */
 static bool are_columns(PyObject *self, PyObject *set)
 {
     size_t last = bit_set_last(set_of(set));
@@ -326,14 +326,14 @@ PyObject *matrix_reduce(PyObject *self, PyObject *Py_UNUSED(none))
         Py_XDECREF(rows);
         return NULL;
     }
-    /* Where there are no attributes, the rows alone are the state. */
+    /* If there are no attributes, the state is only the rows. */
     const char *form = state == Py_None ? "O(NN)N" : "O(NN)(NN)";
     if (state == Py_None)
         Py_DECREF(state);
     return Py_BuildValue(form, (PyObject *)Py_TYPE(self), matrix_rows(self, NULL), matrix_columns(self, NULL), rows, state);
 }
 
-/* Puts in the rows that `__reduce__` gave, and the attributes where there are some. */
+/* Restores the rows from `__reduce__`, and the attributes if there are any. */
 PyObject *matrix_setstate(PyObject *self, PyObject *state)
 {
     bool has_attributes = PyTuple_Check(state) && PyTuple_Size(state) == 2;

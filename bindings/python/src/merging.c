@@ -1,11 +1,11 @@
-/* Merges of two sets, in place and as new sets. A call of the library must have two sets: of a set and itself the result is
- * that set, or none. */
+/* Merges of two sets, in place and as new sets. The library's calls require two different sets: for a set and itself
+ * the result is that set, or the empty one. */
 #include "set.h"
 
-/* How many bits a block has. */
+/* The number of bits in a block. */
 enum { WIDTH = 8 * sizeof(bit_set_block) };
 
-/* A new set that a call fills from two others. */
+/* A new set that a call makes from two others. */
 static PyObject *filled(PyTypeObject *type, PyObject *one, PyObject *other,
                         int32_t (*call)(bit_set *, const bit_set *, const bit_set *))
 {
@@ -18,8 +18,8 @@ static size_t blocks_of(PyObject *self)
     return (bit_set_length(set_of(self)) + (WIDTH - 1)) / WIDTH;
 }
 
-/* A new set of what two bit sets make. What both have takes the blocks of the shorter one, and a difference those of the
- * first: a copy that is merged in place would have those of the longer one. */
+/* The merge of two bit sets, as a new set. An intersection has the blocks of the shorter set, and a difference those of
+ * the first: a copy merged in place would have those of the longer one. */
 static PyObject *merged_sets(PyTypeObject *type, PyObject *left, PyObject *right, merge *call)
 {
     size_t count = blocks_of(left), others = blocks_of(right);
@@ -44,7 +44,7 @@ static bool becomes(PyObject *self, PyObject *made)
     return true;
 }
 
-/* Whether a merge in place would make the set grow for numbers that are not in the result. */
+/* Whether a merge in place would grow the set for numbers that are not in the result. */
 static bool grows_in_vain(PyObject *self, PyObject *other, merge *call)
 {
     return (call == bit_set_intersect_with || call == bit_set_difference_with)
@@ -73,13 +73,14 @@ static int take_out_item(void *self, PyObject *item)
     return take_out(self, item) == FAILED ? -1 : 1;
 }
 
-/* A set, another that is made of items, and the least member of the set that is not in that yet, or NO_MEMBER. */
+/* A set, another made of items, and the set's least member that is not in that one yet, or NO_MEMBER. */
 struct made_of_items {
     PyObject *set, *made;
     size_t missing;
 };
 
-/* Puts an item in that is a member, until all are in: as with Python's own sets, no more items are asked for then. */
+/* Inserts an item that is a member, until all members are in: as with Python's own sets, no more items are fetched
+ * then. */
 static int put_member(void *with, PyObject *item)
 {
     size_t number;
@@ -96,7 +97,8 @@ static int put_member(void *with, PyObject *item)
     return sets->missing != NO_MEMBER;
 }
 
-/* The members that are items of an iterable, as a new set, and whether all are. What equals no member is passed over. */
+/* The members that are items of an iterable, as a new set, and whether all are. Items that equal no member are
+ * skipped. */
 static PyObject *members_among(PyTypeObject *type, PyObject *self, PyObject *iterable, bool *are_all)
 {
     struct made_of_items sets = {self, set_new(type, NULL, NULL), bit_set_first(set_of(self))};
@@ -122,7 +124,8 @@ static int put_common(void *with, PyObject *member)
     return is_in > 0 ? (put(sets->made, member) ? 1 : -1) : is_in < 0 ? -1 : 1;
 }
 
-/* What a set and an iterable have in common, as a new set. As with Python's own sets, the smaller of two is walked. */
+/* The intersection of a set and an iterable, as a new set. As with Python's own sets, it iterates over the smaller of
+ * two. */
 static PyObject *common(PyTypeObject *type, PyObject *self, PyObject *iterable)
 {
     bool are_all;
@@ -134,7 +137,7 @@ static PyObject *common(PyTypeObject *type, PyObject *self, PyObject *iterable)
     return sets.made;
 }
 
-/* A set, and another of Python's. */
+/* A set, and a Python set. */
 struct two_sets {
     PyObject *set, *other;
 };
@@ -146,7 +149,7 @@ static int take_out_common(void *with, PyObject *member)
     return is_in > 0 ? take_out_item(sets->set, member) : is_in < 0 ? -1 : 1;
 }
 
-/* Takes out what is an item of an iterable. */
+/* Removes the items of an iterable. */
 static bool take_out_each(PyObject *self, PyObject *iterable)
 {
     struct two_sets sets = {self, iterable};
@@ -171,7 +174,7 @@ static PyObject *others_than(PyObject *self, PyObject *other)
     return sets.made;
 }
 
-/* With the items of an iterable. */
+/* Merges the items of an iterable into the set. */
 static bool merge_iterable(PyObject *self, PyObject *iterable, merge *call)
 {
     if (call == bit_set_union_with)
@@ -180,7 +183,7 @@ static bool merge_iterable(PyObject *self, PyObject *iterable, merge *call)
         return merge_with(self, iterable, call);
     if (call == bit_set_difference_with)
         return take_out_each(self, iterable);
-    /* All stay where the iterable raises. */
+    /* If the iterable raises, the set is unchanged. */
     if (call == bit_set_intersect_with)
         return becomes(self, common(bit_set_type, self, iterable));
     PyObject *other = as_bit_set(iterable);
@@ -197,7 +200,7 @@ static PyObject *merge_each(PyObject *self, PyObject *iterables, merge *call)
     return reference_to(Py_None);
 }
 
-/* A new set of what a set and an iterable make. */
+/* The merge of a set and an iterable, as a new set. */
 static PyObject *merged(PyTypeObject *type, PyObject *self, PyObject *iterable, merge *call)
 {
     if (is_bit_set(iterable))
@@ -236,8 +239,8 @@ PyObject *set_difference_update(PyObject *self, PyObject *others)
     return merge_each(self, others, bit_set_difference_with);
 }
 
-/* All members stay where one of the others raises. The calls above keep what they did by then. Both are as with Python's
- * own sets. */
+/* If one of the others raises, this set is unchanged; the calls above keep what they did before. Both are as with
+ * Python's own sets. */
 PyObject *set_intersection_update(PyObject *self, PyObject *others)
 {
     if (PyTuple_Size(others) == 1)
@@ -260,7 +263,7 @@ PyObject *set_difference(PyObject *self, PyObject *others)
     return merged_with_each(Py_TYPE(self), self, others, bit_set_difference_with);
 }
 
-/* Of one iterable alone, as with Python's own sets. */
+/* It takes exactly one iterable, as with Python's own sets. */
 PyObject *set_symmetric_difference_update(PyObject *self, PyObject *members)
 {
     return merge_iterable(self, members, bit_set_symmetric_difference_with) ? none_if(true) : NULL;
@@ -271,13 +274,13 @@ PyObject *set_symmetric_difference(PyObject *self, PyObject *members)
     return merged(Py_TYPE(self), self, members, bit_set_symmetric_difference_with);
 }
 
-/* Whether an operator takes this: a bit set, or what is a Set of collections.abc. */
+/* Whether an operator accepts this: a bit set, or an instance of Set of collections.abc. */
 int is_set(PyObject *object)
 {
     return is_bit_set(object) || PyAnySet_Check(object) ? 1 : PyObject_IsInstance(object, abstract_set);
 }
 
-/* `left op right`, either of which may be the bit set. */
+/* `left op right`. Either may be the bit set. */
 static PyObject *operate(PyObject *left, PyObject *right, merge *call)
 {
     bool are_sets = is_set(left) > 0 && is_set(right) > 0;
@@ -285,7 +288,7 @@ static PyObject *operate(PyObject *left, PyObject *right, merge *call)
         return NULL;
     if (!are_sets)
         return reference_to(Py_NotImplemented);
-    /* What both have is the same either way, and the other set may have what no bit set can. */
+    /* An intersection is the same either way, and the other set may have items that no bit set can. */
     if (call == bit_set_intersect_with && !is_bit_set(left)) {
         PyObject *other = left;
         left = right;

@@ -9,61 +9,61 @@ PyObject *abstract_set, *array_type;
 #define METHOD(of, name, how, text) {#name, (PyCFunction)of##_##name, how, text}
 
 static PyMethodDef methods[] = {
-    METHOD(set, add, METH_O, "add($self, number, /)\n--\n\nPut a number in."),
-    METHOD(set, discard, METH_O, "discard($self, number, /)\n--\n\nTake a number out, if it is in."),
-    METHOD(set, remove, METH_O, "remove($self, number, /)\n--\n\nTake a member out. KeyError if the number is not in."),
-    METHOD(set, toggle, METH_O, "toggle($self, number, /)\n--\n\nTake a number out if it is in, else put it in. Return whether it is in now."),
-    METHOD(set, clear, METH_NOARGS, "clear($self, /)\n--\n\nTake every member out."),
+    METHOD(set, add, METH_O, "add($self, number, /)\n--\n\nAdd a number."),
+    METHOD(set, discard, METH_O, "discard($self, number, /)\n--\n\nRemove a number if it is a member."),
+    METHOD(set, remove, METH_O, "remove($self, number, /)\n--\n\nRemove a member. KeyError if the number is not a member."),
+    METHOD(set, toggle, METH_O, "toggle($self, number, /)\n--\n\nRemove a number if it is a member, else add it. Return whether it is a member now."),
+    METHOD(set, clear, METH_NOARGS, "clear($self, /)\n--\n\nRemove every member."),
     METHOD(set, first, METH_NOARGS, "first($self, /)\n--\n\nReturn the least member, or None."),
     METHOD(set, last, METH_NOARGS, "last($self, /)\n--\n\nReturn the greatest member, or None."),
-    METHOD(set, pop, METH_NOARGS, "pop($self, /)\n--\n\nTake the least member out and return it. KeyError if there is none."),
-    METHOD(set, pop_last, METH_NOARGS, "pop_last($self, /)\n--\n\nTake the greatest member out and return it. KeyError if there is none."),
-    METHOD(set, next, METH_O, "next($self, start, /)\n--\n\nReturn the least member that is start or above, or None."),
+    METHOD(set, pop, METH_NOARGS, "pop($self, /)\n--\n\nRemove the least member and return it. KeyError if there is none."),
+    METHOD(set, pop_last, METH_NOARGS, "pop_last($self, /)\n--\n\nRemove the greatest member and return it. KeyError if there is none."),
+    METHOD(set, next, METH_O, "next($self, start, /)\n--\n\nReturn the least member at or above start, or None."),
     METHOD(set, previous, METH_O, "previous($self, stop, /)\n--\n\nReturn the greatest member below stop, or None."),
-    METHOD(set, next_missing, METH_O, "next_missing($self, start, /)\n--\n\nReturn the least number that is start or above and not in."),
-    METHOD(set, nth, METH_O, "nth($self, index, /)\n--\n\nReturn the member that so many others come before, or None."),
-    METHOD(set, next_run, METH_O, "next_run($self, start, /)\n--\n\nReturn the first range of members from start on, as its start and stop, or None."),
-    METHOD(set, first_gap, METH_VARARGS, "first_gap($self, start, count, /)\n--\n\nReturn the least number from start on at which count numbers in a row begin that are not in, or None."),
+    METHOD(set, next_missing, METH_O, "next_missing($self, start, /)\n--\n\nReturn the least absent number at or above start."),
+    METHOD(set, nth, METH_O, "nth($self, index, /)\n--\n\nReturn the member that exactly index others precede, or None."),
+    METHOD(set, next_run, METH_O, "next_run($self, start, /)\n--\n\nReturn the start and stop of the first range of members at or above start, or None."),
+    METHOD(set, first_gap, METH_VARARGS, "first_gap($self, start, count, /)\n--\n\nReturn the least number at or above start at which count absent numbers in a row begin, or None."),
     METHOD(set, shift_up, METH_O, "shift_up($self, distance, /)\n--\n\nMove each member up by the distance."),
-    METHOD(set, shift_down, METH_O, "shift_down($self, distance, /)\n--\n\nMove each member down by the distance. Those below it are gone."),
+    METHOD(set, shift_down, METH_O, "shift_down($self, distance, /)\n--\n\nMove each member down by the distance, and remove those below it."),
     METHOD(set, copy_range, METH_VARARGS, "copy_range($self, start, stop, /)\n--\n\nReturn the set of the members in range(start, stop)."),
-    METHOD(set, add_range, METH_VARARGS, "add_range($self, start, stop, /)\n--\n\nPut each number of range(start, stop) in."),
-    METHOD(set, discard_range, METH_VARARGS, "discard_range($self, start, stop, /)\n--\n\nTake each number of range(start, stop) out."),
+    METHOD(set, add_range, METH_VARARGS, "add_range($self, start, stop, /)\n--\n\nAdd each number of range(start, stop)."),
+    METHOD(set, discard_range, METH_VARARGS, "discard_range($self, start, stop, /)\n--\n\nRemove each number of range(start, stop)."),
     METHOD(set, toggle_range, METH_VARARGS, "toggle_range($self, start, stop, /)\n--\n\nToggle each number of range(start, stop)."),
     METHOD(set, count_in_range, METH_VARARGS, "count_in_range($self, start, stop, /)\n--\n\nReturn how many members are in range(start, stop)."),
-    METHOD(set, any_in_range, METH_VARARGS, "any_in_range($self, start, stop, /)\n--\n\nReturn whether some number of range(start, stop) is in."),
-    METHOD(set, all_in_range, METH_VARARGS, "all_in_range($self, start, stop, /)\n--\n\nReturn whether every number of range(start, stop) is in."),
+    METHOD(set, any_in_range, METH_VARARGS, "any_in_range($self, start, stop, /)\n--\n\nReturn whether any number of range(start, stop) is a member."),
+    METHOD(set, all_in_range, METH_VARARGS, "all_in_range($self, start, stop, /)\n--\n\nReturn whether every number of range(start, stop) is a member."),
     METHOD(set, from_range, METH_VARARGS | METH_CLASS, "from_range($type, start, stop, /)\n--\n\nMake the set of range(start, stop)."),
-    METHOD(set, from_bytes, METH_O | METH_CLASS, "from_bytes($type, bytes, /)\n--\n\nMake the set of the bits that are 1, those of each byte counted from the highest."),
-    METHOD(set, to_bytes, METH_NOARGS, "to_bytes($self, /)\n--\n\nReturn a bit for each number up to the greatest member, those of each byte from the highest."),
-    METHOD(set, from_bytes_lsb, METH_O | METH_CLASS, "from_bytes_lsb($type, bytes, /)\n--\n\nMake the set of the bits that are 1, those of each byte counted from the lowest."),
-    METHOD(set, to_bytes_lsb, METH_NOARGS, "to_bytes_lsb($self, /)\n--\n\nReturn a bit for each number up to the greatest member, those of each byte from the lowest."),
-    METHOD(set, to_array, METH_NOARGS, "to_array($self, /)\n--\n\nReturn the members in ascending order as an array.array, which NumPy reads with no copy."),
+    METHOD(set, from_bytes, METH_O | METH_CLASS, "from_bytes($type, bytes, /)\n--\n\nMake the set of the bits that are 1, with the bits of each byte counted from the highest."),
+    METHOD(set, to_bytes, METH_NOARGS, "to_bytes($self, /)\n--\n\nReturn bytes with a bit for each number up to the greatest member, highest bit first."),
+    METHOD(set, from_bytes_lsb, METH_O | METH_CLASS, "from_bytes_lsb($type, bytes, /)\n--\n\nMake the set of the bits that are 1, with the bits of each byte counted from the lowest."),
+    METHOD(set, to_bytes_lsb, METH_NOARGS, "to_bytes_lsb($self, /)\n--\n\nReturn bytes with a bit for each number up to the greatest member, lowest bit first."),
+    METHOD(set, to_array, METH_NOARGS, "to_array($self, /)\n--\n\nReturn the members in ascending order as an array.array, which NumPy reads without a copy."),
     METHOD(set, copy, METH_NOARGS, "copy($self, /)\n--\n\nReturn a set of the same members."),
-    METHOD(set, update, METH_VARARGS, "update($self, *others)\n--\n\nPut the items of iterables in."),
-    METHOD(set, union, METH_VARARGS, "union($self, *others)\n--\n\nReturn the set of what is in this set or in one of the others."),
-    METHOD(set, intersection_update, METH_VARARGS, "intersection_update($self, *others)\n--\n\nKeep what is in each of the others."),
-    METHOD(set, intersection, METH_VARARGS, "intersection($self, *others)\n--\n\nReturn the set of what is in this set and in each of the others."),
-    METHOD(set, difference_update, METH_VARARGS, "difference_update($self, *others)\n--\n\nTake out what is in one of the others."),
-    METHOD(set, difference, METH_VARARGS, "difference($self, *others)\n--\n\nReturn the set of what is in this set and in none of the others."),
-    METHOD(set, symmetric_difference_update, METH_O, "symmetric_difference_update($self, other, /)\n--\n\nKeep what is in just one of this set and the other."),
-    METHOD(set, symmetric_difference, METH_O, "symmetric_difference($self, other, /)\n--\n\nReturn the set of what is in just one of this set and the other."),
+    METHOD(set, update, METH_VARARGS, "update($self, *others)\n--\n\nAdd the items of the others."),
+    METHOD(set, union, METH_VARARGS, "union($self, *others)\n--\n\nReturn the union of this set and the others."),
+    METHOD(set, intersection_update, METH_VARARGS, "intersection_update($self, *others)\n--\n\nKeep only members that are in each of the others."),
+    METHOD(set, intersection, METH_VARARGS, "intersection($self, *others)\n--\n\nReturn the intersection of this set and the others."),
+    METHOD(set, difference_update, METH_VARARGS, "difference_update($self, *others)\n--\n\nRemove the items of the others."),
+    METHOD(set, difference, METH_VARARGS, "difference($self, *others)\n--\n\nReturn the set of the members that are in none of the others."),
+    METHOD(set, symmetric_difference_update, METH_O, "symmetric_difference_update($self, other, /)\n--\n\nKeep what is in exactly one of this set and the other."),
+    METHOD(set, symmetric_difference, METH_O, "symmetric_difference($self, other, /)\n--\n\nReturn the set of what is in exactly one of this set and the other."),
     METHOD(set, issubset, METH_O, "issubset($self, other, /)\n--\n\nReturn whether each member is in the other."),
-    METHOD(set, issuperset, METH_O, "issuperset($self, other, /)\n--\n\nReturn whether each item of the other is in."),
-    METHOD(set, isdisjoint, METH_O, "isdisjoint($self, other, /)\n--\n\nReturn whether no item of the other is in."),
+    METHOD(set, issuperset, METH_O, "issuperset($self, other, /)\n--\n\nReturn whether each item of the other is a member."),
+    METHOD(set, isdisjoint, METH_O, "isdisjoint($self, other, /)\n--\n\nReturn whether no item of the other is a member."),
     METHOD(set, union_count, METH_O, "union_count($self, other, /)\n--\n\nReturn how many numbers are in this set or in the other."),
     METHOD(set, intersection_count, METH_O, "intersection_count($self, other, /)\n--\n\nReturn how many numbers are in both."),
     METHOD(set, difference_count, METH_O, "difference_count($self, other, /)\n--\n\nReturn how many members are not in the other."),
-    METHOD(set, symmetric_difference_count, METH_O, "symmetric_difference_count($self, other, /)\n--\n\nReturn how many numbers are in just one of both."),
+    METHOD(set, symmetric_difference_count, METH_O, "symmetric_difference_count($self, other, /)\n--\n\nReturn how many numbers are in exactly one of the two."),
     {"__copy__", set_shallow_copy, METH_NOARGS, NULL},
     {"__deepcopy__", set_deep_copy, METH_O, NULL},
-    {"__reversed__", set_reversed, METH_NOARGS, "Walk over the members in descending order."},
+    {"__reversed__", set_reversed, METH_NOARGS, "Return an iterator over the members in descending order."},
     {"__reduce__", set_reduce, METH_NOARGS, NULL},
     {"__sizeof__", set_sizeof, METH_NOARGS, NULL},
     {NULL, NULL, 0, NULL},
 };
 
-/* Weak references are there from Python 3.9 on, which reads this. */
+/* Python 3.9 and later read this to support weak references. */
 #define MEMBERS(type)                                                                                                  \
     {                                                                                                                  \
         {"__weaklistoffset__", T_PYSSIZET, offsetof(type, weak_references), READONLY, NULL}, {NULL, 0, 0, 0, NULL},    \
@@ -71,17 +71,17 @@ static PyMethodDef methods[] = {
 
 static PyMemberDef members[] = MEMBERS(BitSet), matrix_members[] = MEMBERS(BitMatrix);
 
-/* Python 3.8 and 3.9 remember what they look up in a type only where it has the flag that later headers no longer put into the
- * default, and without it free a method of `type` too often as classes with another metaclass are made over one. */
+/* Python 3.8 and 3.9 cache look-ups in a type only if it has this flag, which later headers no longer put into the
+ * default. Without it they free a method of `type` too often as classes with another metaclass are derived from one. */
 enum { FLAGS = Py_TPFLAGS_DEFAULT | Py_TPFLAGS_HAVE_VERSION_TAG };
 
 static PyType_Slot set_slots[] = {
     {Py_tp_doc, "BitSet(members=())\n--\n\nA set of numbers from 0 to MAX_ELEMENT, as a MutableSet.\n\n"
-        "It takes a bit for each number up to its greatest member, and what makes a set writes all bits of that one: a set of\n"
-        "few numbers that are far apart takes more memory and time than one of Python's. The result of & and - has at most the\n"
+        "It takes a bit for each number up to its greatest member, and creating a set writes all its bits: a set of\n"
+        "few numbers that are far apart takes more memory and time than a Python set. The result of & and - has at most the\n"
         "bits of the shorter operand, or of the first.\n\n"
-        "len counts the members, which reads the set: about 10 microseconds below a million. So do ==, <= and < beside a set\n"
-        "of Python's that has about as many. bool, first and last read no more than they need."},
+        "len counts the members, which reads the set: about 10 microseconds below a million. So do ==, <= and < with a Python\n"
+        "set that has about as many. bool, first and last read no more than they need."},
     {Py_tp_new, set_new},
     {Py_tp_init, set_init},
     {Py_tp_dealloc, set_dealloc},
@@ -110,25 +110,25 @@ static PyType_Spec set_spec = {
 };
 
 static PyMethodDef matrix_methods[] = {
-    METHOD(matrix, from_row, METH_VARARGS | METH_CLASS, "from_row($type, members, rows, /)\n--\n\nMake a matrix of so many rows that each have the members, with as many columns as the set is long."),
+    METHOD(matrix, from_row, METH_VARARGS | METH_CLASS, "from_row($type, members, rows, /)\n--\n\nMake a matrix of this many rows, each with the members, and as many columns as the set's length."),
     METHOD(matrix, copy, METH_NOARGS, "copy($self, /)\n--\n\nReturn a matrix of the same rows."),
-    METHOD(matrix, row, METH_O, "row($self, row, /)\n--\n\nReturn the set of the columns that are in the row."),
-    METHOD(matrix, add, METH_VARARGS, "add($self, row, column, /)\n--\n\nPut the column into the row. Return whether it was not in."),
-    METHOD(matrix, discard, METH_VARARGS, "discard($self, row, column, /)\n--\n\nTake the column out of the row. Return whether it was in."),
+    METHOD(matrix, row, METH_O, "row($self, row, /)\n--\n\nReturn the set of the columns of the row."),
+    METHOD(matrix, add, METH_VARARGS, "add($self, row, column, /)\n--\n\nAdd the column to the row. Return whether it is new."),
+    METHOD(matrix, discard, METH_VARARGS, "discard($self, row, column, /)\n--\n\nRemove the column from the row. Return whether it was present."),
     METHOD(matrix, count, METH_O, "count($self, row, /)\n--\n\nReturn how many columns are in the row."),
     METHOD(matrix, count_all, METH_NOARGS, "count_all($self, /)\n--\n\nReturn how many columns are in all rows together."),
-    METHOD(matrix, add_range, METH_VARARGS, "add_range($self, row, start, stop, /)\n--\n\nPut each column of range(start, stop) into the row."),
-    METHOD(matrix, fill_row, METH_O, "fill_row($self, row, /)\n--\n\nPut each column into the row."),
-    METHOD(matrix, clear_row, METH_O, "clear_row($self, row, /)\n--\n\nTake each column out of the row."),
-    METHOD(matrix, union_rows, METH_VARARGS, "union_rows($self, read, write, /)\n--\n\nPut what is in the row read into the row write. Return whether that changed it."),
-    METHOD(matrix, intersect_rows, METH_VARARGS, "intersect_rows($self, read, write, /)\n--\n\nKeep in the row write what is in the row read. Return whether that changed it."),
-    METHOD(matrix, difference_rows, METH_VARARGS, "difference_rows($self, read, write, /)\n--\n\nTake out of the row write what is in the row read. Return whether that changed it."),
-    METHOD(matrix, union_row_with, METH_VARARGS, "union_row_with($self, members, row, /)\n--\n\nPut the members into the row. Return whether that changed it."),
+    METHOD(matrix, add_range, METH_VARARGS, "add_range($self, row, start, stop, /)\n--\n\nAdd each column of range(start, stop) to the row."),
+    METHOD(matrix, fill_row, METH_O, "fill_row($self, row, /)\n--\n\nAdd each column to the row."),
+    METHOD(matrix, clear_row, METH_O, "clear_row($self, row, /)\n--\n\nRemove each column from the row."),
+    METHOD(matrix, union_rows, METH_VARARGS, "union_rows($self, read, write, /)\n--\n\nAdd the columns of the row read to the row write. Return whether that changed it."),
+    METHOD(matrix, intersect_rows, METH_VARARGS, "intersect_rows($self, read, write, /)\n--\n\nKeep only columns of the row write that are in the row read. Return whether that changed it."),
+    METHOD(matrix, difference_rows, METH_VARARGS, "difference_rows($self, read, write, /)\n--\n\nRemove the columns of the row read from the row write. Return whether that changed it."),
+    METHOD(matrix, union_row_with, METH_VARARGS, "union_row_with($self, members, row, /)\n--\n\nAdd the members to the row. Return whether that changed it."),
     METHOD(matrix, is_subset_row, METH_VARARGS, "is_subset_row($self, row, other, /)\n--\n\nReturn whether each column of the row is in the other row."),
     METHOD(matrix, is_disjoint_row, METH_VARARGS, "is_disjoint_row($self, row, other, /)\n--\n\nReturn whether no column is in both rows."),
     METHOD(matrix, transpose, METH_NOARGS, "transpose($self, /)\n--\n\nReturn the matrix that has a row for each column, with the rows that have that column."),
-    METHOD(matrix, transitive_closure, METH_NOARGS, "transitive_closure($self, /)\n--\n\nMake each row what a path of one edge or more leads to, where an edge leads from a row to each of its columns."),
-    METHOD(matrix, reflexive_transitive_closure, METH_NOARGS, "reflexive_transitive_closure($self, /)\n--\n\nMake each row what a path of any number of edges leads to, also of none."),
+    METHOD(matrix, transitive_closure, METH_NOARGS, "transitive_closure($self, /)\n--\n\nSet each row to everything that a path of at least one edge leads to, where an edge leads from a row to each of its columns."),
+    METHOD(matrix, reflexive_transitive_closure, METH_NOARGS, "reflexive_transitive_closure($self, /)\n--\n\nSet each row to everything that a path of any number of edges leads to, including none."),
     METHOD(matrix, dominators, METH_O, "dominators($self, entry, /)\n--\n\nReturn the matrix whose row v has what lies on every path from the row entry to v."),
     {"__copy__", matrix_shallow_copy, METH_NOARGS, NULL},
     {"__deepcopy__", matrix_deep_copy, METH_O, NULL},
@@ -145,7 +145,7 @@ static PyGetSetDef matrix_attributes[] = {
 };
 
 static PyType_Slot matrix_slots[] = {
-    {Py_tp_doc, "BitMatrix(rows, columns)\n--\n\nRows of columns, each row a set. (row, column) in matrix says whether a row has a column. The numbers of both stay as they are made."},
+    {Py_tp_doc, "BitMatrix(rows, columns)\n--\n\nRows of columns, each row a set. (row, column) in matrix tests whether a row has a column. The numbers of both are fixed."},
     {Py_tp_new, matrix_new},
     {Py_tp_dealloc, matrix_dealloc},
     {Py_tp_repr, matrix_repr},
@@ -197,7 +197,7 @@ static bool add_object(PyObject *module, const char *name, PyObject *object)
     return false;
 }
 
-/* The headers of Python 3.8 do not say that this is seen from outside. */
+/* The headers of Python 3.8 do not make this visible from outside. */
 __attribute__((visibility("default"))) PyMODINIT_FUNC PyInit__bit_set(void)
 {
     PyObject *module = PyModule_Create(&module_definition);

@@ -1,10 +1,10 @@
-/* Numbers, as they come from Python. */
+/* Reading numbers from Python's objects. */
 #include "set.h"
 
-/* Reads a number below SIZE_MAX from an int or another index. FAILED alone leaves an exception. */
+/* Reads a number below SIZE_MAX from an int or another index. Only FAILED leaves an exception set. */
 enum reading read_number(PyObject *object, size_t *number)
 {
-    /* In the stable ABI the second of these is a call. */
+    /* In the stable ABI the second test is a call. */
     if (PyLong_CheckExact(object) || PyLong_Check(object))
         return read_int(object, number);
     if (!PyIndex_Check(object))
@@ -17,13 +17,13 @@ enum reading read_number(PyObject *object, size_t *number)
     return reading;
 }
 
-/* Reads which number an object equals, as a look-up in one of Python's own sets does: 4.0 is 4 too. What is no index must
- * have a hash, and equals a number only where that is a member. */
+/* Reads the number that an object equals, as a look-up in one of Python's own sets does: 4.0 is 4. An object that is no
+ * index must be hashable, and is compared only with the member that its hash names. */
 enum reading read_equal_of_any(PyObject *self, PyObject *object, size_t *number)
 {
     if (PyIndex_Check(object))
         return read_number(object, number);
-    /* What equals an int has its hash, and that of a number which a set has room for is the number. */
+    /* An object that equals an int has its hash, and an int that a set can have is its own hash. */
     Py_hash_t hash = PyObject_Hash(object);
     *number = (size_t)hash;
     if (hash < 0)
@@ -36,7 +36,7 @@ enum reading read_equal_of_any(PyObject *self, PyObject *object, size_t *number)
     return (enum reading)is_equal;
 }
 
-/* Reads a number as `read_number` does, with an exception where there is none. The object may be borrowed from a list. */
+/* Reads a number like `read_number`, with an exception if there is none. The object may be borrowed from a list. */
 bool read_member_of_any(PyObject *object, size_t *number)
 {
     Py_INCREF(object);
@@ -49,7 +49,8 @@ bool read_member_of_any(PyObject *object, size_t *number)
     return reading == NUMBER;
 }
 
-/* Reads a bound of a range. One below 0 counts as 0, and `*outside` is -1 then; one above SIZE_MAX as that, and it is 1. */
+/* Reads a bound of a range. One below 0 counts as 0 and sets `*outside` to -1; one above SIZE_MAX counts as that and
+ * sets it to 1. */
 bool read_bound(PyObject *object, size_t *bound, int *outside)
 {
     int overflow;
@@ -68,8 +69,8 @@ bool read_bound(PyObject *object, size_t *bound, int *outside)
     return true;
 }
 
-/* Reads the bounds of a range: 1 where it has numbers, 0 where it has none, or -1 with an exception. Where some number of it
- * is below 0 or SIZE_MAX or more, `*is_within` is false, and the bounds are those of the others. */
+/* Reads the bounds of a range: 1 if it has numbers, 0 if it is empty, or -1 with an exception. If it has numbers below
+ * 0 or from SIZE_MAX on, `*is_within` is false, and the bounds are those of the others. */
 int read_bounds(PyObject *first, PyObject *last, size_t *start, size_t *stop, bool *is_within)
 {
     int start_is = 0, stop_is = 0, has_numbers = -1;

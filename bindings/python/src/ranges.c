@@ -1,7 +1,7 @@
 /* Ranges of numbers, the ends of a set, and searches. */
 #include "set.h"
 
-/* Reads the arguments of a call as the bounds of a range, as `read_bounds` does. */
+/* Reads the arguments of a call as the bounds of a range, like `read_bounds`. */
 bool read_range(PyObject *arguments, size_t *start, size_t *stop, bool *is_within)
 {
     PyObject *first, *last;
@@ -68,11 +68,11 @@ PyObject *set_all_in_range(PyObject *self, PyObject *arguments)
     return PyBool_FromLong(is_within && bit_set_contains_all_in_range(set_of(self), start, stop));
 }
 
-/* What a class method makes, which is filled by a method of the set. */
+/* The result of a class method: a new object that a method of the set fills. */
 PyObject *made_by(PyObject *type, PyObject *argument, PyObject *(*fill)(PyObject *, PyObject *))
 {
     PyObject *made = PyObject_CallFunctionObjArgs(type, NULL);
-    /* A class of the user's may make what is no set. */
+    /* A derived class may make an object that is not a set. */
     if (made && !is_bit_set(made)) {
         PyErr_SetString(PyExc_TypeError, "the class makes no bit set");
         Py_CLEAR(made);

@@ -1,5 +1,5 @@
-/* Sets of whole numbers as bits, over the proved library for C. This is built for the stable ABI of Python 3.8, so one build
- * serves each later version. Each call holds the interpreter's lock, so threads may share a set. */
+/* Sets of whole numbers as bits, over the proved library for C. The module is built for the stable ABI of Python 3.8,
+ * so one build serves every later version. Each call holds the interpreter's lock, so threads may share a set. */
 #ifndef BIT_SET_MODULE_H
 #define BIT_SET_MODULE_H
 
@@ -8,7 +8,7 @@
 
 #include "bit_set.h"
 
-/* How many numbers go between Python and the library at a time, and how many a walk asks for. */
+/* How many numbers pass between Python and the library at a time, and how many an iterator fetches at once. */
 enum { GROUP = 512, WALK_GROUP = 44 };
 
 #define NO_MEMBER SIZE_MAX
@@ -25,20 +25,20 @@ typedef struct {
     PyObject *weak_references;
 } BitMatrix;
 
-/* A walk over the members in groups. The set may be changed meanwhile. */
+/* An iterator that fetches the members in groups. The set may be changed during the iteration. */
 typedef struct {
     PyObject_HEAD
     PyObject *of;
     bool is_backward;
     bool has_ended;
-    /* Where the next group begins, or ends where it is walked from the back. */
+    /* Where the next group begins or, if `is_backward`, ends. */
     size_t bound;
     size_t place;
     size_t count;
     size_t group[WALK_GROUP];
 } Walk;
 
-/* What reading a number came to. FAILED alone leaves an exception. */
+/* The result of reading a number. Only FAILED leaves an exception set. */
 enum reading { FAILED = -1, NO_NUMBER = 0, NUMBER = 1 };
 
 typedef bool merge(bit_set *, const bit_set *);
@@ -48,7 +48,7 @@ typedef int look(void *, PyObject *);
 extern PyTypeObject *bit_set_type, *matrix_type, *walk_type;
 extern PyObject *abstract_set, *array_type;
 
-/* What a later Python's headers of the stable ABI no longer name, though each has it. */
+/* Later headers of the stable ABI no longer declare these, though each version has them. */
 extern int PyObject_AsReadBuffer(PyObject *, const void **, Py_ssize_t *);
 extern int PyObject_AsWriteBuffer(PyObject *, void **, Py_ssize_t *);
 
@@ -62,8 +62,8 @@ static inline bit_set *set_of(PyObject *object)
     return ((BitSet *)object)->set;
 }
 
-/* A new reference. The headers of Python 3.12 and later may count none where they return None or NotImplemented, which a
- * Python before 3.12 would free then. */
+/* A new reference. The headers of Python 3.12 and later may count none when they return None or NotImplemented, which a
+ * Python before 3.12 would then free. */
 static inline PyObject *reference_to(PyObject *object)
 {
     Py_INCREF(object);
@@ -100,7 +100,7 @@ static inline enum reading read_int(PyObject *object, size_t *number)
     return NO_NUMBER;
 }
 
-/* Most objects are ints, so these two test for one in the caller: it makes a tenth of the time of a look-up. */
+/* Most objects are ints, so these two test for one in the caller, which saves a tenth of the time of a look-up. */
 static inline bool read_member(PyObject *object, size_t *number)
 {
     return (PyLong_CheckExact(object) && read_int(object, number) == NUMBER) || read_member_of_any(object, number);

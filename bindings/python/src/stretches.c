@@ -1,4 +1,4 @@
-/* Numbers in a row, members or not, and sets whose members all move. */
+/* Runs of members and gaps, and shifts. */
 #include "set.h"
 
 PyObject *set_next_run(PyObject *self, PyObject *from)
@@ -16,7 +16,7 @@ PyObject *set_next_run(PyObject *self, PyObject *from)
     return run;
 }
 
-/* Reads a count, which is not below 0. One above SIZE_MAX counts as that. */
+/* Reads a count that is not below 0. One above SIZE_MAX counts as that. */
 static bool read_count(PyObject *object, size_t *count)
 {
     int outside = 0;

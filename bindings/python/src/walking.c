@@ -1,4 +1,4 @@
-/* Walks over the members, and all of them at once. */
+/* Iterators over the members, and conversions of a whole set. */
 #include "set.h"
 
 Py_ssize_t set_length(PyObject *self)
@@ -11,7 +11,7 @@ int set_bool(PyObject *self)
     return !bit_set_is_empty(set_of(self));
 }
 
-/* The members as a list. It is made before they are read, since making it may run code that changes the set. */
+/* The members as a list. The list is made before they are read, since making it may run code that changes the set. */
 static PyObject *list_of(PyObject *self)
 {
     size_t group[GROUP], from = 0, count = GROUP;
@@ -44,7 +44,7 @@ PyObject *set_repr(PyObject *self)
     return text;
 }
 
-/* So many zeros as an array of the machine's words. */
+/* This many zeros as an array of the machine's words. */
 static PyObject *zeros(Py_ssize_t count)
 {
     PyObject *zero = PyObject_CallFunction(array_type, "s(i)", sizeof(size_t) == 8 ? "Q" : "I", 0);
@@ -53,7 +53,7 @@ static PyObject *zeros(Py_ssize_t count)
     return array;
 }
 
-/* The members as an array of the machine's words, which NumPy reads with no copy. */
+/* The members as an array of the machine's words, which NumPy reads without a copy. */
 PyObject *set_to_array(PyObject *self, PyObject *Py_UNUSED(none))
 {
     void *place;
@@ -90,7 +90,7 @@ PyObject *set_sizeof(PyObject *self, PyObject *Py_UNUSED(none))
     return PyLong_FromSize_t(sizeof(BitSet) + bit_set_capacity(set_of(self)) / 8);
 }
 
-/* A walk is made by a set alone. */
+/* Only a set makes an iterator. */
 PyObject *walk_new(PyTypeObject *Py_UNUSED(type), PyObject *Py_UNUSED(positional), PyObject *Py_UNUSED(named))
 {
     PyErr_SetString(PyExc_TypeError, "a walk over a bit set is made by iter or reversed");
@@ -122,8 +122,8 @@ PyObject *set_reversed(PyObject *self, PyObject *Py_UNUSED(none))
     return walk_over(self, true);
 }
 
-/* Hands each item of a walk, which it lets go, to `look` with what goes with it, as long as that returns 1. Returns what it
- * returned last, or 1 where there was no item; -1 goes with an exception. */
+/* Passes each item of an iterator, which it releases, to `look_at`, as long as that returns 1. Returns its last result,
+ * or 1 if there was no item; -1 goes with an exception. */
 int each_item(PyObject *walk, look *look_at, void *with)
 {
     int found = 1;
@@ -136,7 +136,7 @@ int each_item(PyObject *walk, look *look_at, void *with)
     return PyErr_Occurred() ? -1 : found;
 }
 
-/* Asks for the next group. */
+/* Fetches the next group. */
 static void fill(Walk *walk)
 {
     bit_set *set = set_of(walk->of);
@@ -206,7 +206,7 @@ static PyObject *put_bytes_by(PyObject *self, PyObject *bytes, bool (*call)(bit_
         Py_XDECREF(view);
         return NULL;
     }
-    /* What has no bytes may have no place for them, which the library is owed. */
+    /* A buffer of no bytes may have no address, but the library requires one. */
     bool found = call(&made, start ? start : "", (size_t)length);
     Py_DECREF(view);
     if (!found)
