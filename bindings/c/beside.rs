@@ -1,5 +1,5 @@
-//! A million random calls, from a fixed seed, on sets of this library and of the crate `bit-set`, over blocks of 32 bits
-//! and of 64.
+//! A million random calls, from a fixed seed, on sets of this library and of the crate `bit-set`, over blocks of 32 and of
+//! 64 bits.
 use clients::Draws;
 use peer::BitSet as Peer;
 
@@ -27,7 +27,7 @@ macro_rules! beside {
                         960..=964 => assert!(x.iter().eq(y.iter())),
                         965..=969 => {
                             x.shrink_to_fit();
-                            // Of an empty set `bit-set` keeps the length of a block that it does not have.
+                            // For an empty set `bit-set` keeps the length of a block that it does not have.
                             if !y.is_empty() {
                                 y.shrink_to_fit();
                             }

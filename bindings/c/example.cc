@@ -1,5 +1,5 @@
-// The primes below 100 by the sieve of Eratosthenes, and how many are not of the form 4n + 1, and what a node of a graph
-// reaches: example.c in C++.
+// example.c in C++: the primes below 100 by the sieve of Eratosthenes, and how many are not of the form 4n + 1; and the
+// nodes that a node of a graph reaches.
 #include "bit_set.hpp"
 #include <cstdio>
 

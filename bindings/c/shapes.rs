@@ -1,5 +1,5 @@
-//! Times calls of the Rust package on sets of several shapes, beside the crate `bit-set` and `HashSet<usize>`, and writes
-//! those that take more than five times as long as one of them, and 50 ns more.
+//! Times calls of the Rust package on sets of several shapes, beside the crate `bit-set` and `HashSet<usize>`, and lists
+//! those that take more than five times as long as one of these, and 50 ns more.
 use clients::Draws;
 use std::collections::HashSet;
 use std::hint::black_box;
@@ -10,7 +10,7 @@ const FIVE: [usize; 5] = [3, 18, 40, 60, 99];
 
 type Times = Vec<(&'static str, f64)>;
 
-// The least nanoseconds of a call, each time on what `set_up` makes.
+// The least time of a call in nanoseconds, each time on a new result of `set_up`.
 fn least<S, T>(set_up: impl Fn() -> S, mut call: impl FnMut(&mut S) -> T) -> f64 {
     let (mut count, mut best, mut spent, mut rounds) = (1, f64::MAX, 0.0, 0);
     while rounds < 5 || (rounds < 60 && spent < 1e6) {
@@ -31,7 +31,7 @@ fn least<S, T>(set_up: impl Fn() -> S, mut call: impl FnMut(&mut S) -> T) -> f64
     best
 }
 
-// A `HashSet` counts its elements without a walk.
+// A `HashSet` counts its elements without iteration.
 fn walked<T>(element: T) {
     black_box(element);
 }
@@ -84,7 +84,7 @@ sides! {
     hashed is HashSet<usize>, |set, n| set.contains(&n), |set, n| set.remove(&n);
 }
 
-// What `HashSet` has not.
+// Calls that `HashSet` lacks.
 macro_rules! in_place {
     ($($name:ident is $set:ty;)*) => {
         $(

@@ -1,6 +1,6 @@
-//! Times calls of this library through its Rust package beside the crate `bit-set`, both over blocks of one width and in
-//! one program: the least of many rounds, in turns. With the word `instructions` it counts these instead, by callgrind.
-//! `put` is of blocks by `bit_set_put_blocks`, which no package calls, beside the copy of these to a slice.
+//! Times calls of this library through its Rust package beside the crate `bit-set`, both over blocks of the same width and
+//! in one program: the least of many rounds, taken in turns. With the argument `instructions` it counts instructions
+//! instead, by callgrind. `put` is of blocks by `bit_set_put_blocks`, which no package calls, beside a copy to a slice.
 use clients::Draws;
 use std::env;
 use std::ffi::c_void;
@@ -29,14 +29,14 @@ extern "C" {
     fn bit_set32_put_blocks(set: *mut c_void, from: usize, blocks: *const u32, count: usize) -> bool;
 }
 
-// A set of C's, which stays until the program ends.
+// A set by C's calls, which is not freed before the program ends.
 fn made(new: unsafe extern "C" fn(*mut *mut c_void) -> bool) -> *mut c_void {
     let mut set = null_mut();
     assert!(unsafe { new(&mut set) });
     set
 }
 
-// What puts blocks into such a set, or copies them to a slice, from the block of this index on.
+// Functions that put blocks into such a set, or copy them to a slice, from the block of this index on.
 macro_rules! puts {
     ($($block:ty: $ours:ident by $new:ident, $put:ident, $theirs:ident;)*) => {
         $(
@@ -68,7 +68,7 @@ macro_rules! sides {
                 use super::*;
                 type Set = $set;
 
-                // About one number in `every` below LIMIT is in, and LIMIT - 1 is.
+                // A set of about one number in `every` below LIMIT, and of LIMIT - 1.
                 fn filled(every: usize, seed: u64) -> Set {
                     let mut draws = Draws(seed);
                     let mut set: Set = (0..LIMIT).filter(|_| draws.below(every) == 0).collect();
@@ -76,7 +76,7 @@ macro_rules! sides {
                     set
                 }
 
-                // Ten thousand calls on a set of five, which each call must take for another one.
+                // Ten thousand calls on a set of five, which the compiler must take for another one at each call.
                 fn small_row(name: &str) -> Box<dyn FnMut() -> usize> {
                     let five: Set = FIVE.iter().copied().collect();
                     if name == "five: kept clones" {
@@ -93,7 +93,7 @@ macro_rules! sides {
                     }
                 }
 
-                // All blocks of a set, put in so many at a time.
+                // Puts all blocks of a set, this many at a time.
                 fn put_row(at_a_time: usize) -> Box<dyn FnMut() -> usize> {
                     let (mut draws, mut put) = (Draws(7), $puts());
                     let blocks: Vec<$block> = (0..LIMIT / $block::BITS as usize).map(|_| draws.below(usize::MAX) as $block).collect();
@@ -146,7 +146,7 @@ type Side = fn(&str, &[usize]) -> Box<dyn FnMut() -> usize>;
 const SIDES: [(&str, Side); 4] =
     [("ours32", ours32::row), ("theirs32", theirs32::row), ("ours64", ours64::row), ("theirs64", theirs64::row)];
 
-// The least time of many rounds of a row, of each side in turns.
+// The least time of each side in many rounds of a row, taken in turns.
 fn times(name: &str, numbers: &[usize]) -> Vec<f64> {
     let mut runs: Vec<_> = SIDES.iter().map(|(_, row)| row(name, numbers)).collect();
     let mut least = vec![f64::MAX; runs.len()];
@@ -160,7 +160,7 @@ fn times(name: &str, numbers: &[usize]) -> Vec<f64> {
     least
 }
 
-// The instructions of a row by each side, in thousands.
+// The instructions of each side of a row, in thousands.
 fn instructions(name: &str) -> io::Result<Vec<f64>> {
     let of_side = |side: &str| callgrind::of_a_turn(&[name.to_string(), side.to_string()], TURNS);
     SIDES.iter().map(|(side, _)| Ok(of_side(side)?.0 / 1e3)).collect()

@@ -1,5 +1,5 @@
 /* Four threads that read two sets and a matrix at once, each by every call that takes a `const bit_set *` or a
- * `const bit_matrix *`, and change a set of their own. Exits with 0 where all read the same. */
+ * `const bit_matrix *`, and change their own sets. Exits with 0 if all read the same. */
 #include "bit_set.h"
 #include <pthread.h>
 #include <stdio.h>
@@ -73,7 +73,7 @@ static uint64_t rows(const bit_matrix *matrix) {
     return sum;
 }
 
-/* What is made of the sets and the matrix. */
+/* Calls that make new sets and matrices from these. */
 static uint64_t made(const bit_set *set, const bit_set *other, const bit_matrix *matrix) {
     bit_set *own = NULL, *part = NULL, *row = NULL;
     bit_matrix *whole = NULL, *turned = NULL, *dominators = NULL, *wide = NULL;

@@ -1,5 +1,5 @@
-/* The memory that the library takes and gives back, over malloc, realloc and free: what its compiled calls expect. An
- * alignment is at most 16, which these keep, and a request for no bytes becomes one for as many as its alignment. */
+/* The allocator that the library's compiled calls expect, over malloc, realloc and free. An alignment is at most 16, which
+ * these guarantee; a request for no bytes becomes one for as many bytes as its alignment. */
 #include <stddef.h>
 #include <stdlib.h>
 
@@ -9,7 +9,7 @@
 #define HIDDEN
 #endif
 
-/* Comes back in two registers: whether a block was given, and where it is. */
+/* Returned in two registers: whether a block was allocated, and where it is. */
 struct block {
     size_t is_given;
     void *at;
@@ -19,7 +19,7 @@ HIDDEN struct block bit_set_c_alloc(size_t size, size_t align);
 HIDDEN struct block bit_set_c_realloc(void *old, size_t old_size, size_t size, size_t align);
 HIDDEN void bit_set_c_dealloc(void *old);
 
-/* A pointer in the library is never null. This one stands where no block was given, and nothing is read from it. */
+/* A pointer in the library is never null. This one stands for a failed allocation, and is never read through. */
 static char nothing[16];
 
 static struct block of(void *made) {
