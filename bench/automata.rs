@@ -14,7 +14,7 @@ unsafe extern "C" {
     fn bench_determinize_u64(states: usize, each: usize, ends: *const usize, n: usize, turns: usize) -> usize;
 }
 
-/// Sets in the order in which they were met, and the number of each.
+/// Sets in the order in which they were found, and the number of each.
 struct Numbering<S> {
     sets: Vec<S>,
     numbers: BTreeMap<S, usize>,
@@ -25,7 +25,7 @@ impl<S: Set> Numbering<S> {
         Numbering { sets: Vec::new(), numbers: BTreeMap::new() }
     }
 
-    /// The number of the set, which is copied where it is new.
+    /// The number of the set, which is copied if it is new.
     fn number_of(&mut self, set: &S) -> usize {
         if let Some(number) = self.numbers.get(set) {
             return *number;
@@ -47,14 +47,14 @@ struct Nfa<S> {
 
 impl<S: Set> Nfa<S> {
     /// The automaton of two symbols that starts in state 0 and accepts in the last one, where each symbol leads from
-    /// each state to `each` states. The first half of the ends are those of the first symbol.
+    /// each state to `each` states. The first half of the ends belongs to the first symbol.
     fn of(states: usize, each: usize, ends: &[usize]) -> Self {
         let rows = |ends: &[usize]| ends.chunks(each).map(|row| S::of(states, row)).collect();
         let moves = ends.chunks(states * each).map(rows).collect();
         Nfa { states, moves, starts: S::of(states, &[0]), accepting: S::of(states, &[states - 1]) }
     }
 
-    /// Makes `into` the set of the states to which the symbol leads from those in `from`.
+    /// Sets `into` to the states to which the symbol leads from those in `from`.
     fn step(&self, symbol: usize, from: &S, into: &mut S) {
         into.clear();
         for state in from.walk() {
@@ -64,7 +64,7 @@ impl<S: Set> Nfa<S> {
         }
     }
 
-    /// How many states the deterministic automaton has. Its table and its accepting states are made too.
+    /// How many states the deterministic automaton has. This also makes its table and its accepting states.
     fn determinize(&self) -> usize {
         let mut numbering = Numbering::new();
         numbering.number_of(&self.starts);

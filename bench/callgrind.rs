@@ -1,4 +1,4 @@
-//! Counts the instructions of turns of some work, by valgrind's tool callgrind. Other work on the machine does not move
+//! Counts the instructions of repeated work, by valgrind's tool callgrind. Other work on the machine does not affect
 //! these counts.
 use std::env;
 use std::io;
@@ -10,7 +10,7 @@ struct Run {
     result: String,
 }
 
-/// Runs this program with some words under callgrind.
+/// Runs this program with these arguments under callgrind.
 fn run(words: &[String]) -> io::Result<Run> {
     let output = Command::new("valgrind")
         .args(["--tool=callgrind", "--callgrind-out-file=/dev/null"])
@@ -27,15 +27,15 @@ fn run(words: &[String]) -> io::Result<Run> {
     }
 }
 
-/// The instructions of a turn, and the result of the more turns: this program, with some words and then a number of
-/// turns, is run with few turns and with more.
+/// The instructions of a turn, and the result of the longer run: this program is run with these arguments and then a
+/// number of turns, first few and then more.
 pub fn of_a_turn(words: &[String], [few, many]: [usize; 2]) -> io::Result<(f64, String)> {
     let with = |turns: usize| run(&[words, &[turns.to_string()]].concat());
     let (less, more) = (with(few)?, with(many)?);
     Ok(((more.instructions - less.instructions) as f64 / (many - few) as f64, more.result))
 }
 
-/// Whether valgrind is there. Says so where it is not.
+/// Whether valgrind is there. Prints a message if not.
 pub fn is_there() -> bool {
     let is_there = Command::new("valgrind").arg("--version").output().is_ok_and(|output| output.status.success());
     if !is_there {

@@ -1,4 +1,4 @@
-//! Rows of the calls that grow, fill or shrink a set or a bit vector, or make a set of bytes.
+//! Rows of the calls that grow, fill or shrink a set or a bit vector, or make a set from bytes.
 use crate::peers::{Set, total};
 use crate::table::{Table, Work};
 use bit_set::BitSet;
@@ -52,7 +52,7 @@ fn fill_fixed(turns: usize) -> usize {
     })
 }
 
-/// The length after each turn has appended so many values.
+/// The length after each turn has appended this many values.
 fn grow(values: u8, turns: usize) -> usize {
     let mut bits = BitVec::new();
     for turn in 0..turns {
@@ -61,7 +61,7 @@ fn grow(values: u8, turns: usize) -> usize {
     bits.len()
 }
 
-/// The length after each turn has asked for capacity for one number more.
+/// The length after each turn has reserved capacity for one more number.
 fn reserve_len(turns: usize) -> usize {
     let mut set = BitSet::new();
     for turn in 0..turns {

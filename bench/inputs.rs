@@ -1,6 +1,6 @@
 //! Random numbers for the sets of the rows, the same in each run.
 
-/// Numbers that look random, the same from each start.
+/// Pseudorandom numbers, the same from each seed.
 pub struct Random {
     state: u64,
 }
@@ -24,7 +24,7 @@ impl Random {
     }
 }
 
-/// Random numbers below `len`: those that are in the sets of the rows, and those that the calls are about.
+/// Random numbers below `len`: the elements of the rows' sets, and the arguments of calls.
 pub struct Density {
     pub label: &'static str,
     pub len: usize,
@@ -41,7 +41,8 @@ impl Density {
     }
 }
 
-/// Two sets of runs of so many numbers below `len`, in ascending order: half of the runs of the second are in the first.
+/// Two sets of this many runs of numbers below `len`, in ascending order: half of the runs of the second are in the
+/// first.
 pub fn overlapping(len: usize, count: usize, run: usize) -> [Vec<usize>; 2] {
     let mut random = Random::start();
     let [first, mut second] = [0, 1].map(|_| random.numbers_below(len - run, count));

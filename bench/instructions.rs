@@ -9,7 +9,7 @@ const SIDES: [&str; 3] = ["here", "bit-set", "fixedbitset"];
 const TURNS: [usize; 2] = [100, 1_100];
 const TURNS_OF_LARGE: [usize; 2] = [2, 12];
 
-/// The calls that are counted at the large length too: those that go over all blocks and write no set anew.
+/// The calls that are also counted at the large length: those that pass over all blocks and make no new set.
 const OF_LARGE: [&str; 8] = [
     "`union_with`",
     "`intersect_with`",
@@ -21,8 +21,8 @@ const OF_LARGE: [&str; 8] = [
     "`count`",
 ];
 
-/// Does the turns of one call by one side, and prints the result: what callgrind is run on. The words are a place in
-/// the list of calls, a side, a length and how many turns. `None` where they are not.
+/// Makes the turns of one call by one side, and prints the result; callgrind is run on this. The arguments are a place
+/// in the list of calls, a side, a length and the number of turns. `None` if they are not.
 pub fn run_turns(words: &[String]) -> Option<()> {
     let [call, side, len, turns] = words else { return None };
     let call = CALLS.get(call.parse::<usize>().ok()?)?;
@@ -31,8 +31,8 @@ pub fn run_turns(words: &[String]) -> Option<()> {
     Some(())
 }
 
-/// The instructions a call of each side, in the order of `SIDES`. Says so, and makes `agrees` false, where two sides
-/// give different results.
+/// The instructions a call of each side, in the order of `SIDES`. If two sides give different results, prints that and
+/// sets `agrees` to false.
 fn instructions(call: usize, len: usize, agrees: &mut bool) -> io::Result<Vec<f64>> {
     let mut counts = Vec::new();
     let mut results = Vec::new();
@@ -50,7 +50,7 @@ fn instructions(call: usize, len: usize, agrees: &mut bool) -> io::Result<Vec<f6
     Ok(counts)
 }
 
-/// Prints the rows. Whether the sides of each gave the same results.
+/// Prints the rows. Returns whether the sides of each gave the same results.
 fn rows() -> io::Result<bool> {
     let mut agrees = true;
     for len in LENGTHS.into_iter().chain([LARGE]) {
@@ -67,7 +67,7 @@ fn rows() -> io::Result<bool> {
     Ok(agrees)
 }
 
-/// Prints the table, or that valgrind is missing. Whether the sides of each row gave the same results.
+/// Prints the table, or that valgrind is missing. Returns whether the sides of each row gave the same results.
 pub fn race() -> bool {
     if !callgrind::is_there() {
         return true;

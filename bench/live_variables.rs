@@ -14,17 +14,17 @@ unsafe extern "C" {
     fn bench_live_variables_u64(variables: usize, numbers: *const usize, n: usize, turns: usize) -> usize;
 }
 
-/// How many successors a block has, and how many variables each of its sets.
+/// How many successors a block has, and how many variables are in each of its sets.
 const SUCCESSORS: usize = 2;
 const EACH: usize = 8;
 
-/// The numbers of each block: its successors, and the variables that it generates and that it kills. A block is
-/// followed by the next one, and with a chance of a quarter by any, else by the one after the next.
+/// The numbers of each block: its successors, and the variables that it generates and kills. A block's successors are
+/// the next block and, with a chance of a quarter, any block, else the one after the next.
 pub fn random_numbers(blocks: usize, variables: usize) -> Vec<usize> {
     numbers_of_live(blocks, variables, 1)
 }
 
-/// The same, where one in `apart` variables is ever read or written.
+/// The same, if only one in `apart` variables is ever read or written.
 fn numbers_of_live(blocks: usize, variables: usize, apart: usize) -> Vec<usize> {
     let mut random = Random::start();
     let mut numbers = Vec::new();
@@ -37,7 +37,7 @@ fn numbers_of_live(blocks: usize, variables: usize, apart: usize) -> Vec<usize> 
     numbers
 }
 
-/// A block: the blocks that follow it, the variables that it reads before it writes them, and those that it writes.
+/// A block: its successors, the variables that it reads before it writes them, and those that it writes.
 struct Block<'a, S> {
     successors: &'a [usize],
     generated: S,
@@ -51,7 +51,7 @@ impl<'a, S: Flow> Block<'a, S> {
         Block { successors, generated: S::of(variables, generated), killed: S::of(variables, killed) }
     }
 
-    /// Makes `into` the set of the variables that are live at the block's start, by those at its successors' starts.
+    /// Sets `into` to the variables that are live at the block's start, from those at its successors' starts.
     fn gather(&self, live: &[S], into: &mut S) {
         into.clear();
         for successor in self.successors {
@@ -61,7 +61,7 @@ impl<'a, S: Flow> Block<'a, S> {
         into.union_with(&self.generated);
     }
 
-    /// Makes `into` what a set of the block has, and what its successors have and it does not kill.
+    /// Sets `into` to a set of the block, and what its successors have and it does not kill.
     fn gather_new(&self, live: &[S], own: &S, into: &mut S) {
         match self.successors.split_first() {
             Some((first, rest)) => {
@@ -77,8 +77,8 @@ impl<'a, S: Flow> Block<'a, S> {
     }
 }
 
-/// The variables that are live at the start of each block. Goes over the blocks from the last to the first, again and
-/// again until no set changes.
+/// The variables that are live at the start of each block. Passes over the blocks from the last to the first until no
+/// set changes.
 fn solve<S: Flow>(variables: usize, blocks: &[Block<S>]) -> Vec<S> {
     let mut live = vec![S::of(variables, &[]); blocks.len()];
     let mut spare = S::of(variables, &[]);
@@ -96,13 +96,13 @@ fn solve<S: Flow>(variables: usize, blocks: &[Block<S>]) -> Vec<S> {
     live
 }
 
-/// The same sets, by the fewest passes that these calls allow: a block is passed over where the sets of its successors
-/// did not grow since it was visited, what flows in is put together in a spare set, beside what the block has, and that
-/// is compared and then takes its place.
+/// The same sets, by the fewest passes that these calls allow. A block is skipped if the sets of its successors did not
+/// grow since it was visited. Its inflow is built in a spare set, together with what the block has; that is compared
+/// with the old set, and replaces it.
 fn solve_by_changes<S: Flow>(variables: usize, blocks: &[Block<S>]) -> Vec<S> {
     let mut live: Vec<S> = blocks.iter().map(|block| block.generated.clone()).collect();
     let mut spare = S::of(variables, &[]);
-    // When the set of a block grew last, and when the block was visited last.
+    // When the set of each block last grew, and when the block was last visited.
     let (mut grew, mut visited) = (vec![1; blocks.len()], vec![0; blocks.len()]);
     let mut now = 1;
     let mut has_changed = true;

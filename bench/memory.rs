@@ -1,6 +1,6 @@
-//! How many bytes sets hold and ask for. This library takes memory by the calls below, in the place of the toolchain's; what
-//! else takes memory is seen by the C library.
-// A program counts one of these alone.
+//! How many bytes sets hold and request. This library allocates by the calls below, which replace the toolchain's;
+//! other allocations are seen by the C library.
+// Each program counts with only one of these.
 #![allow(dead_code)]
 use std::cell::Cell;
 use std::ffi::c_void;
@@ -15,7 +15,7 @@ unsafe extern "C" {
     fn mallinfo2() -> MallInfo;
 }
 
-/// What the C library tells of its memory: the fifth number is of what is mapped, the eighth of the rest that is in use.
+/// The C library's report of its memory: the fifth number is what is mapped, the eighth the rest that is in use.
 #[repr(C)]
 struct MallInfo([usize; 10]);
 
@@ -26,14 +26,14 @@ thread_local! {
     static ASKED: Cell<usize> = const { Cell::new(0) };
 }
 
-/// Whether there is memory, and where.
+/// Whether a block was allocated, and where.
 #[repr(C)]
 pub struct Found {
     is_there: usize,
     place: *mut c_void,
 }
 
-/// Counts what is at the place, where there is memory.
+/// Counts the block at this place, if it was allocated.
 fn found(place: *mut c_void) -> Found {
     if place.is_null() {
         return Found { is_there: 0, place: NonNull::<u128>::dangling().as_ptr().cast() };
@@ -76,7 +76,7 @@ extern "C" fn rattle_dealloc(place: *mut c_void) {
     unsafe { free(place) };
 }
 
-/// How many bytes this library held at most while the work was done.
+/// The most bytes that this library held during the work.
 pub fn most_held(work: impl FnOnce() -> usize) -> usize {
     let before = HELD.get();
     MOST.set(before);
@@ -84,14 +84,14 @@ pub fn most_held(work: impl FnOnce() -> usize) -> usize {
     MOST.get() - before
 }
 
-/// How many bytes this library held at its last request while the work was done.
+/// How many bytes this library held at its last request during the work.
 pub fn last_held(work: impl FnOnce() -> usize) -> usize {
     let before = HELD.get();
     black_box(work());
     LAST.get() - before
 }
 
-/// How many bytes this library asked for since the last time that this was called.
+/// How many bytes this library requested since the last call of this.
 pub fn taken() -> usize {
     ASKED.replace(0)
 }
@@ -101,7 +101,7 @@ fn in_use() -> usize {
     info[4] + info[7]
 }
 
-/// How many bytes the made value holds of what is taken by the C library's calls.
+/// How many bytes the new value holds of those allocated by the C library's calls.
 pub fn held_by<T>(make: impl FnOnce() -> T) -> usize {
     let before = in_use();
     let made = black_box(make());

@@ -1,11 +1,12 @@
-//! Rows of the calls on two sets. One number leaves after each turn, so that no turn can be the result of another.
+//! Rows of the calls on two sets. One number is removed after each turn, so that no turn can reuse the result of
+//! another.
 use crate::inputs::Density;
 use crate::peers::{Set, sum, total};
 use crate::table::{Table, Work};
 use bit_set::BitSet;
 use fixedbitset::FixedBitSet;
 
-/// The address of numbers, which their count follows.
+/// A pointer to numbers; their count is the next argument.
 type Numbers = *const usize;
 
 type OnPair = unsafe extern "C" fn(Numbers, usize, Numbers, usize, turns: usize) -> usize;
@@ -34,7 +35,7 @@ unsafe extern "C" {
     fn bench_is_subset(a: Numbers, m: usize, b: Numbers, n: usize, turns: usize) -> usize;
 }
 
-/// One of the calls for two sets, of this library.
+/// One of this library's calls on two sets.
 struct Here {
     name: &'static str,
     walk: OnPair,
@@ -175,7 +176,7 @@ fn grown(numbers: &[usize]) -> BitSet {
     numbers.iter().copied().collect()
 }
 
-/// Moves a copy of the second set into the first, by a walk that is drained into it.
+/// Moves a copy of the second set into the first, by draining it.
 fn append(first: &[usize], second: &[usize], turns: usize) -> usize {
     let (mut one, second) = (grown(first), grown(second));
     let mut other = BitSet::default();
@@ -187,7 +188,7 @@ fn append(first: &[usize], second: &[usize], turns: usize) -> usize {
     })
 }
 
-/// Parts the set in the middle, and puts it together again.
+/// Splits the set in the middle, and joins the parts again.
 fn part_and_join(members: &[usize], turns: usize) -> usize {
     let mut set = grown(members);
     let middle = set.get_ref().len() / 2;
@@ -202,7 +203,7 @@ fn part_and_join(members: &[usize], turns: usize) -> usize {
     })
 }
 
-/// Elements that move from one set to another, which no peer has as a call.
+/// Elements that move from one set to another. No peer has such a call.
 pub fn rows_of_moves(table: &mut Table, density: &Density) {
     let Density { label, len, members, numbers } = density;
     let (m, ms) = (members.len(), members.as_ptr());
@@ -229,7 +230,7 @@ fn unite_difference<S: Set>((mut one, other): (S, S), turns: usize) -> usize {
     })
 }
 
-/// The union with a difference, which the peers make of a copy.
+/// The union with a difference, which the peers make from a copy.
 fn row_of_union_with_difference(table: &mut Table, density: &Density) {
     let Density { label, len, members, numbers } = density;
     let work = Work { unit: "block", units: len.div_ceil(32), turns: 4, numbers: &[] };
@@ -260,7 +261,7 @@ fn is_subset<S: Set>((mut other, mut one): (S, S), turns: usize) -> usize {
     })
 }
 
-/// Tests that are true, and so read every block.
+/// Tests whose result is true, and which therefore read every block.
 pub fn rows_of_tests(table: &mut Table, density: &Density) {
     let Density { label, len, members, numbers } = density;
     let work = || Work { unit: "block", units: len.div_ceil(32), turns: 40, numbers: &[] };

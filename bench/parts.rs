@@ -1,5 +1,6 @@
-//! Rows of calls on a part of a set, on all that it lacks, and on its bytes, and of sets that are made of numbers. One number
-//! leaves after each turn, so that no turn can be the result of another. What a peer lacks is what its user would write.
+//! Rows of calls on a part of a set, on its absent numbers and on its bytes, and of sets made from numbers. One number
+//! is removed after each turn, so that no turn can reuse the result of another. For a call that a peer lacks, its side
+//! is what its user would write.
 use crate::inputs::Density;
 use crate::peers::{Set, sum, total};
 use crate::table::{Table, Work};
@@ -34,7 +35,7 @@ fn walk_missing<S: Set>(mut set: S, part: &Range<usize>, turns: usize) -> usize 
     })
 }
 
-/// The numbers that are not to stay are found first, and then removed.
+/// First finds the numbers to remove, and then removes them.
 fn retain<S: Set>(mut set: S, turns: usize) -> usize {
     for turn in 0..turns {
         let gone: Vec<usize> = set.walk().filter(|number| *number == turn).collect();
@@ -99,7 +100,7 @@ fn made_of<S: Set + FromIterator<usize>>(numbers: &[usize], turns: usize) -> usi
     total(turns, |turn| usize::from(has(&numbers.iter().copied().collect::<S>(), turn)))
 }
 
-/// Whether the number is in, of a set that the compiler may not leave out.
+/// Whether the number is present, in a set that the compiler may not optimize away.
 fn has<S: Set>(set: &S, number: usize) -> bool {
     black_box(set).contains(number)
 }

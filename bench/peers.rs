@@ -1,17 +1,17 @@
-//! The sets of both peers under one trait, so that a row's loop is written once for the two.
+//! The sets of both peers under one trait, so that each row's loop is written once.
 use bit_set::BitSet;
 use bit_vec::BitBlock;
 use fixedbitset::FixedBitSet;
 
-/// A set of numbers. Each method is the peer's own call of that name, where no comment says more.
+/// A set of numbers. Each method is the peer's own call of that name, unless its comment says otherwise.
 pub trait Set: Clone + Ord {
-    /// An empty set as long as `len`, with capacity for the numbers below that.
+    /// An empty set of length `len`, with capacity for the numbers below that.
     fn for_numbers_below(len: usize) -> Self;
     /// Whether the number is new.
     fn insert(&mut self, number: usize) -> bool;
-    /// Whether the number was in. `FixedBitSet` reads and writes it by two calls.
+    /// Whether the number was present. `FixedBitSet` reads and writes it by two calls.
     fn remove(&mut self, number: usize) -> bool;
-    /// Takes the number out, without looking whether it was in.
+    /// Removes the number, without testing whether it was present.
     fn drop_number(&mut self, number: usize);
     fn contains(&self, number: usize) -> bool;
     fn clear(&mut self);
@@ -24,8 +24,8 @@ pub trait Set: Clone + Ord {
     fn is_disjoint(&self, other: &Self) -> bool;
     fn is_subset(&self, other: &Self) -> bool;
 
-    /// The union in place, and whether it changed the set. Neither peer has such a call: it looks first. The three below
-    /// are like it.
+    /// The union in place, and whether it changed the set. Neither peer has such a call: it tests first. The three
+    /// below are like it.
     #[inline]
     fn union_changes(&mut self, other: &Self) -> bool {
         let changes = !other.is_subset(self);
@@ -62,7 +62,7 @@ pub trait Set: Clone + Ord {
         changes
     }
 
-    /// The set of the numbers, as long as `len`, which is above each of them.
+    /// The set of the numbers, of length `len`, which is above each of them.
     fn of(len: usize, numbers: &[usize]) -> Self {
         let mut set = Self::for_numbers_below(len);
         for number in numbers {
@@ -72,7 +72,7 @@ pub trait Set: Clone + Ord {
     }
 }
 
-/// What the solution of a data flow needs of a set.
+/// What the solution of data-flow equations needs of a set.
 pub trait Flow: Clone + PartialEq {
     fn of(len: usize, numbers: &[usize]) -> Self;
     fn clear(&mut self);
@@ -151,7 +151,7 @@ macro_rules! methods_of_both {
 impl<B: BitBlock> Set for BitSet<B> {
     methods_of_both!(BitSet<B>);
 
-    // Its `with_capacity` makes sets over blocks of 32 bits alone.
+    // Its `with_capacity` makes only sets over blocks of 32 bits.
     #[inline]
     fn for_numbers_below(len: usize) -> Self {
         let mut set = BitSet::default();

@@ -1,7 +1,7 @@
-# What `bench/run` and `diff/run` share: it gets and builds the Rust crates that this library is put beside, and builds
-# this library for Rust. To be sourced, with the name of the script in `script`, the processor that both sides are built
-# for in `cpu`, and in `folder` where the crates are kept, outside the repository. What is built is in `built`, a folder
-# there. It ends the script with status 1 where something fails, and with 2 where something is missing.
+# What `bench/run` and `diff/run` share: it gets and builds the Rust crates that this library is compared with, and builds
+# this library for Rust. To be sourced, with the script's name in `script`, the processor of both sides in `cpu`, and in
+# `folder` a folder for the crates, outside the repository. What is built is in `built`, a folder there. It ends the script
+# with status 1 if something fails, and with 2 if something is missing.
 # shellcheck shell=bash disable=SC2154
 # shellcheck source=../tools/ending.sh
 . "$(dirname "${BASH_SOURCE[0]}")/../tools/ending.sh"
@@ -16,7 +16,7 @@ missing() {
     exit 2
 }
 
-# Runs a command, and shows what it says only where it fails.
+# Runs a command, and shows its output only if it fails.
 log="$(mktemp)"
 passing+=("$log")
 quietly() {
@@ -35,7 +35,7 @@ command -v rustc > /dev/null || missing rustc "the Rust compiler, of edition 202
 mkdir -p "$folder/$cpu"
 folder="$(cd "$folder" && pwd -P)"
 built="$folder/$cpu"
-# One run at a time gets and builds there, until `unlock`. What it starts has this lock too.
+# Only one run at a time gets and builds there, until `unlock`. Its children hold the lock too.
 exec {locked}< "$folder"
 if ! flock -n "$locked"; then
     say "another run builds in $folder: waiting for its end"
@@ -44,7 +44,7 @@ fi
 unlock() { exec {locked}<&-; }
 sources="$folder/root/usr/share/cargo/registry"
 
-# The peers' sources are Debian's packages of the crates, which hold them as published.
+# The peers' sources are from Debian's packages of the crates, which have them as published.
 get_packages() {
     (cd "$folder" && apt-get download librust-bit-set-dev librust-bit-vec-dev librust-fixedbitset-dev)
 }
@@ -67,7 +67,7 @@ get_peers() {
     mv "$folder/unpacked" "$folder/root"
 }
 
-# Debian's package PACKAGE, unpacked in the folder of that name in `folder`.
+# Gets Debian's package PACKAGE, and unpacks it into the folder of that name in `folder`.
 #   get_package PACKAGE
 get_package() {
     [ ! -d "$folder/$1" ] || return 0
@@ -88,7 +88,7 @@ get_package() {
     mv "$folder/package/root" "$folder/$1"
 }
 
-# CRoaring as Debian builds it: the shared library, in `croaring`.
+# Gets CRoaring as Debian builds it: the path of the shared library goes into `croaring`.
 get_croaring() {
     get_package libroaring0
     croaring="$(echo "$folder"/libroaring0/usr/lib/*/libroaring.so.0)"
@@ -117,7 +117,7 @@ build_peers() {
     peer fixedbitset
 }
 
-# Whether the file is whole, of no source in the folders that was changed since it was begun, and made by this toolchain.
+# Whether the file is complete, newer than every source in the folders, and made by this toolchain.
 is_newer() {
     local file="$1"
     shift
@@ -125,13 +125,13 @@ is_newer() {
         -o \( -name '*.rs' -o -name '*.rt' -o -name '*.antt' \) -newer "$file.by" -print -quit)" ]
 }
 
-# Takes note that a file is begun, by which toolchain and when, and that it is made.
+# Record that a file is begun, by which toolchain and when, and that it is complete.
 note_begun() { rm -f "$1.by" && rt version > "$1.begun"; }
 note_made() { mv "$1.begun" "$1.by"; }
 
-# Makes the static library NAME, out/PROCESSOR/libNAME.a of its crate. To rt the crate is a library as any other, which
-# the gate proves in less time; so the compiler is called here, over the libraries below as rt proves them. What it
-# proves is kept for the next processor.
+# Builds the static library NAME, out/PROCESSOR/libNAME.a of its crate. For rt the crate is an ordinary library, which the
+# gate proves in less time; so this calls the compiler itself, over the libraries below as rt proves them. The proofs are
+# kept for the next processor.
 build_static() {
     local name="$1" archive="out/$cpu/lib$1.a" kit library words
     ! is_newer "$crates/$name/$archive" "$crates" || return 0
@@ -172,7 +172,7 @@ build_over() {
     note_made "$3"
 }
 
-# The same, over the peers too.
+# The same, also over the peers.
 #   build_program NAMES SOURCE PROGRAM [FLAG OF RUSTC..]
 build_program() {
     local memory
@@ -182,7 +182,7 @@ build_program() {
         --extern "bit_vec=$built/libbit_vec.rlib" --extern "fixedbitset=$built/libfixedbitset.rlib"
 }
 
-# Debian's sources of CRoaring, by lists of packages of their own.
+# Gets Debian's sources of CRoaring, by separate package lists.
 get_croaring_sources() {
     local lists="$folder/sources"
     mkdir -p "$lists/state/partial" "$lists/cache/archives/partial"
@@ -190,13 +190,12 @@ get_croaring_sources() {
     local apt=(apt-get -o "Dir::Etc::sourcelist=$lists/sources.list" -o Dir::Etc::sourceparts=-
         -o "Dir::State::lists=$lists/state" -o "Dir::Cache=$lists/cache")
     in_folder "$lists" "${apt[@]}" update > "$log" 2>&1 || return 1
-    # Only the authors' archive is of use, and what Debian adds to it may be missing.
+    # Only the authors' archive is needed; Debian's additions may be missing.
     in_folder "$lists" "${apt[@]}" source --download-only croaring >> "$log" 2>&1 || true
     tar -C "$lists" -xf "$(echo "$lists"/croaring_*.orig.tar.*)" 2> /dev/null
 }
 
-# CRoaring built for the processor of the other sides, in `croaring_built`, which stays empty where its sources cannot
-# be had.
+# Builds CRoaring for the processor of the other sides, in `croaring_built`, which is empty if its sources are unavailable.
 build_croaring() {
     croaring_built="$built/libroaring.so"
     [ ! -f "$croaring_built" ] || return 0
@@ -212,7 +211,7 @@ build_croaring() {
     mv "$croaring_built.new" "$croaring_built"
 }
 
-# LLVM's sparse bit vectors, by C names: headers alone, of Debian's package.
+# Builds LLVM's sparse bit vectors, by C names: only headers, from Debian's package.
 build_sparse_bits() {
     local headers=/usr/lib/llvm-14/include compiler
     [ -d "$headers/llvm/ADT" ] || {
@@ -224,12 +223,12 @@ build_sparse_bits() {
         -o "$built/sparse_bits.o"
 }
 
-# Which toolchains and peers these are.
+# Prints the versions of the toolchains and of the peers.
 tell_versions() {
     echo "$(rt version), $(rustc --version), peers for $cpu: $(cd "$sources" && echo bit-set-* bit-vec-* fixedbitset-*)"
 }
 
-# Which commit this is.
+# Prints the commit.
 tell_commit() {
     local commit
     if commit="$(git -C "$crates" describe --always --dirty 2> /dev/null)"; then

@@ -7,11 +7,11 @@
 //! - `widths`: this library over three types of blocks;
 //! - `instructions`: calls on small sets, by their instructions;
 //! - `ranges`: calls on ranges of long sets, by their instructions;
-//! - `sparse`: sets of few numbers in a wide range and of runs, beside sets that take memory by what is in them;
+//! - `sparse`: sets of few numbers in a wide range and of runs, beside sets that take memory by their members;
 //! - `scaling`: this library's calls and users at some size and at four times that, by their instructions.
 //!
-//! Ends with status 1 where two sides give different results or a row of `scaling` takes too long, and with 2 where
-//! there is no such table.
+//! Ends with status 1 if two sides give different results or a row of `scaling` takes too long, and with 2 if there is
+//! no such table.
 mod automata;
 mod callgrind;
 #[path = "../diff/roaring/croaring.rs"]
@@ -40,7 +40,7 @@ use std::env;
 use std::process::ExitCode;
 use table::Table;
 
-/// Prints the table of the calls. Whether the sides of each row gave the same results.
+/// Prints the table of the calls. Returns whether the sides of each row gave the same results.
 fn race_work() -> bool {
     let mut table = Table::start(&["Work", "Per", "here", "`bit-set`", "ratio", "`fixedbitset`", "ratio"]);
     let sparse = Density::of("64k in 1M", 1 << 20, 1 << 16);
@@ -64,7 +64,7 @@ fn race_work() -> bool {
     table.end()
 }
 
-/// Prints the times of the calls on one number, which the place of this program's code moves.
+/// Prints the times of the calls on one number, which depend on the place of this program's code.
 fn race_calls() -> bool {
     let mut table = Table::start(&["Work", "Per", "here", "`bit-set`", "ratio", "`fixedbitset`", "ratio"]);
     for density in [Density::of("64k in 1M", 1 << 20, 1 << 16), Density::of("1M in 1M", 1 << 20, 1 << 20)] {
@@ -73,7 +73,7 @@ fn race_calls() -> bool {
     table.end()
 }
 
-/// Prints the table that the words name. Whether its sides agree, or `None` where there is no such table.
+/// Prints the table that the arguments name. Returns whether its sides agree, or `None` if there is no such table.
 fn race(words: &[String]) -> Option<bool> {
     let (table, rest) = words.split_first()?;
     match table.as_str() {

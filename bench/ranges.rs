@@ -1,6 +1,6 @@
-//! Counts the instructions of calls on a range of numbers of a long set, and prints a table; and of calls on a set of
-//! random numbers, each beside another way to the same result: the least element taken out until none is left, the walk
-//! from the back, the walk over a row of a matrix, and `nth`.
+//! Counts the instructions of calls on a range of a long set, and prints a table; and of calls on a set of random
+//! numbers, each beside another way to the same result: removing the least element until none is left, iteration from
+//! the back, iteration over a row of a matrix, and `nth`.
 use crate::callgrind;
 use crate::inputs::Random;
 use crate::peers::total;
@@ -24,7 +24,7 @@ unsafe extern "C" {
     fn bench_walk_to_middle(members: *const usize, m: usize, turns: usize) -> usize;
 }
 
-/// How long the sets are, and where the ranges begin: within a block.
+/// The length of the sets, and where the ranges begin: within a block.
 const LEN: usize = 1 << 24;
 const START: usize = 5_000_003;
 const COUNTS: [(&str, usize); 2] = [("1,000", 1_000), ("1M", 1 << 20)];
@@ -32,7 +32,7 @@ const COUNTS: [(&str, usize); 2] = [("1,000", 1_000), ("1M", 1 << 20)];
 /// Few turns, which are subtracted from more.
 const TURNS: [usize; 2] = [2, 12];
 
-/// A call on a range, by this library and by the peer: each does the turns and returns a number.
+/// A call on a range, by this library and by the peer: each makes the turns and returns a number.
 struct Call {
     name: &'static str,
     here: OnRange,
@@ -67,8 +67,8 @@ const CALLS: [Call; 4] = [
     Call { name: "`count_in_range`", here: bench_count_in_range, there: |set, from, end| set.count_ones(from..end) },
 ];
 
-/// A call on a set that has one in sixteen numbers, and another way to the same result. The instructions are those of the
-/// whole call, or of each number.
+/// A call on a set of one in sixteen numbers, and another way to the same result. The instructions are of the whole
+/// call, or of each number.
 struct Pair {
     word: &'static str,
     name: &'static str,
@@ -113,15 +113,16 @@ const PAIRS: [Pair; 4] = [
     },
 ];
 
-/// The set of the last number below `LEN`.
+/// The set of only the last number below `LEN`.
 fn long_set() -> FixedBitSet {
     let mut set = FixedBitSet::with_capacity(LEN);
     set.insert(LEN - 1);
     set
 }
 
-/// Does the turns of one call by one side, and prints the result: what callgrind is run on. The words are a place in
-/// the list of calls, or the word of a pair, a side, how many numbers and how many turns. `None` where they are not.
+/// Makes the turns of one call by one side, and prints the result; callgrind is run on this. The arguments are a place
+/// in the list of calls, or the name of a pair, a side, how many numbers and the number of turns. `None` if they are
+/// not.
 pub fn run_turns(words: &[String]) -> Option<()> {
     let [call, side, count, turns] = words else { return None };
     let (count, turns): (usize, usize) = (count.parse().ok()?, turns.parse().ok()?);
@@ -155,7 +156,7 @@ fn sides(call: &str, count: usize) -> io::Result<([f64; 2], bool)> {
     Ok(([here, there], result == other))
 }
 
-/// Prints the rows. Whether the sides of each gave the same results.
+/// Prints the rows. Returns whether the sides of each gave the same results.
 fn rows() -> io::Result<bool> {
     let mut agrees = true;
     for (label, count) in COUNTS {
@@ -177,7 +178,7 @@ fn rows() -> io::Result<bool> {
     Ok(agrees)
 }
 
-/// Prints the table, or that valgrind is missing. Whether the sides of each row gave the same results.
+/// Prints the table, or that valgrind is missing. Returns whether the sides of each row gave the same results.
 pub fn race() -> bool {
     if !callgrind::is_there() {
         return true;

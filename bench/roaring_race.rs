@@ -1,6 +1,6 @@
 //! Times Roaring bitmaps of this repository beside CRoaring, as Debian builds it and as it is built here, beside this
-//! repository's sets of bits and beside `BTreeSet`, over five inputs; and says how many bytes each holds. Ends with status 1
-//! where two sides give different results.
+//! repository's sets of bits and beside `BTreeSet`, over five inputs; and prints how many bytes each holds. Ends with
+//! status 1 if two sides give different results.
 #[path = "../diff/roaring/croaring.rs"]
 mod croaring;
 mod inputs;
@@ -15,7 +15,7 @@ use std::env;
 use std::process::ExitCode;
 use table::{Table, Work};
 
-/// Numbers of two sets, in ascending order, and others to look for.
+/// Numbers of two sets, in ascending order, and others to look up.
 pub struct Input {
     label: &'static str,
     sets: [Vec<u32>; 2],
@@ -23,7 +23,7 @@ pub struct Input {
 }
 
 impl Input {
-    /// The numbers that are looked for are below `len`, and half of them are in.
+    /// The numbers to look up are below `len`, and half of them are members.
     fn of(label: &'static str, len: usize, sets: [Vec<usize>; 2]) -> Input {
         let narrow = |numbers: Vec<usize>| numbers.into_iter().map(|number| number as u32).collect();
         let sets: [Vec<u32>; 2] = sets.map(narrow);
@@ -45,7 +45,7 @@ fn inputs() -> [Input; 5] {
     ]
 }
 
-/// Prints a row of how many bytes a set holds.
+/// Prints a row of how many bytes each set holds.
 fn row_of_bytes(input: &Input) {
     let held = bytes_held(input);
     let bytes = |side: usize| held[side].map_or(String::new(), |bytes| bytes.to_string());

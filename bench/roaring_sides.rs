@@ -7,7 +7,7 @@ use std::collections::BTreeSet;
 use std::hint::black_box;
 use std::sync::OnceLock;
 
-/// What is done in each turn, and what its time is divided by, in the order of `crates/roaring_calls/src/timing.rt`.
+/// The work of each turn, and the unit of its time, in the order of `crates/roaring_calls/src/timing.rt`.
 pub const CALLS: [(&str, &str); 9] = [
     ("`contains`", "number"),
     ("`insert` into an empty set", "item"),
@@ -38,10 +38,10 @@ unsafe extern "C" {
 
 pub type BoxedSide<'a> = Box<dyn Fn(&[usize], usize) -> usize + 'a>;
 
-/// CRoaring as Debian builds it, and as it is built here, where its sources can be had.
+/// CRoaring as Debian builds it, and as it is built here if its sources are available.
 static BUILDS: [OnceLock<Calls>; 2] = [OnceLock::new(), OnceLock::new()];
 
-/// Opens both. Whether the first one is there.
+/// Opens both. Returns whether the first one is there.
 pub fn open_both() -> bool {
     for (build, name) in BUILDS.iter().zip(["CROARING", "CROARING_BUILT"]) {
         if let Some(calls) = std::env::var(name).ok().and_then(|path| Calls::open(&path)) {
@@ -115,7 +115,7 @@ fn run_tree(work: usize, input: &Input, turns: usize) -> usize {
     }
 }
 
-/// The sides of a row. Where one lacks the call there is none.
+/// The sides of a row. A side that lacks the call is left out.
 pub fn sides_of<'a>(work: usize, input: &'a Input) -> [Option<BoxedSide<'a>>; 5] {
     let build = |place: usize| -> Option<BoxedSide<'a>> {
         let calls = BUILDS[place].get()?;
@@ -129,7 +129,7 @@ pub fn sides_of<'a>(work: usize, input: &'a Input) -> [Option<BoxedSide<'a>>; 5]
 /// How many bytes each side's set holds.
 pub fn bytes_held(input: &Input) -> [Option<usize>; 5] {
     let numbers = &input.sets[0];
-    // The work's last request is by a set of one number beside the set of these.
+    // The last request of the work is by a set of one number, beside the set of these.
     let with = |numbers: &[u32]| {
         let (k, ks) = (numbers.len(), numbers.as_ptr());
         memory::last_held(|| unsafe { bench_roaring(HOLD, ks, 0, ks, 0, ks, k, 1) })
@@ -156,7 +156,7 @@ mod bits {
         numbers.iter().map(|number| *number as usize).collect()
     }
 
-    /// The number of the work in `crates/bench_calls/src/sparse.rt`, for those that are there.
+    /// The number of the work in `crates/bench_calls/src/sparse.rt`, if it is there.
     fn sparse_work(work: usize) -> Option<usize> {
         [None, None, Some(9), Some(9), Some(0), Some(1), Some(4)].get(work).copied().flatten()
     }

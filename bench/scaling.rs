@@ -1,11 +1,11 @@
 //! Counts the instructions of work of some size and of four times that size, and prints a table. Work that takes linear
-//! time takes four times as many, and what every call does beside it makes that less.
+//! time takes four times as many, or fewer because of each call's constant part.
 use crate::callgrind;
 use crate::inputs::Random;
 use crate::live_variables::random_numbers;
 use std::io;
 
-/// The address of numbers, which their count follows.
+/// A pointer to numbers; their count is the next argument.
 type Numbers = *const usize;
 
 unsafe extern "C" {
@@ -39,13 +39,13 @@ unsafe extern "C" {
 /// Few turns, which are subtracted from more.
 const TURNS: [usize; 2] = [2, 4];
 
-/// What work that takes linear time may take at four times the size: a quarter more than four times as much.
+/// The bound for work that takes linear time, at four times the size: a quarter more than four times as much.
 const LINEAR: f64 = 5.0;
 
-/// The same, where the result is 16 times as large.
+/// The same, if the result is 16 times as large.
 const SQUARE: f64 = 20.0;
 
-/// Work of a size n, and how many times as long it may take at 4 n.
+/// Work of a size n, and its bound at 4 n.
 struct Row {
     name: &'static str,
     n: usize,
@@ -53,7 +53,7 @@ struct Row {
     run: fn(n: usize, turns: usize) -> usize,
 }
 
-/// So many random numbers below 16 times as many.
+/// This many random numbers below 16 times as many.
 fn numbers(n: usize) -> Vec<usize> {
     Random::start().numbers_below(16 * n, n)
 }
@@ -68,8 +68,8 @@ macro_rules! on_set {
     };
 }
 
-/// Work on two sets, of the first and the second half of 2 `n` numbers; or on a set of the first, by numbers of which
-/// half are in.
+/// Work on two sets, of the first and the second half of 2 `n` numbers; or on a set of the first half, by numbers of
+/// which half are members.
 macro_rules! on_two {
     ($call:ident) => {
         |n, turns| {
@@ -80,7 +80,7 @@ macro_rules! on_two {
     };
 }
 
-/// Successors for a list of `n` nodes, from each to the next one. The last one leads to itself.
+/// Successors for a list of `n` nodes, each the next one. The last node leads to itself.
 fn chain(n: usize) -> Vec<usize> {
     (0..n).map(|node| (node + 1).min(n - 1)).collect()
 }
@@ -88,12 +88,12 @@ fn chain(n: usize) -> Vec<usize> {
 /// How many variables the blocks of a list have.
 const VARIABLES: usize = 512;
 
-/// `n` blocks one after another, with what `bench_live_variables` reads for each: two sources, which are the block at
-/// `step` and that again, eight times a variable that it generates, and eight times the last one, which it kills.
+/// `n` blocks in a list, with what `bench_live_variables` reads for each: two sources, which are the block at `step`,
+/// twice; a variable that it generates, eight times; and the last variable, which it kills, eight times.
 fn solve_chain(n: usize, turns: usize, step: isize) -> usize {
     let mut numbers = Vec::new();
     for block in 0..n {
-        // At the end this is no block.
+        // At the end this is not a block.
         numbers.extend([block.wrapping_add_signed(step); 2]);
         numbers.extend([block % VARIABLES; 8]);
         numbers.extend([VARIABLES - 1; 8]);
@@ -101,14 +101,14 @@ fn solve_chain(n: usize, turns: usize, step: isize) -> usize {
     unsafe { bench_live_variables_u32(VARIABLES, numbers.as_ptr(), numbers.len(), turns) }
 }
 
-/// The moves of an automaton of `k + 1` states and two symbols, which accepts the words whose symbol before the last
-/// `k - 1` is the second one. It is deterministic with 2 ^ k states.
+/// The moves of an automaton of `k + 1` states and two symbols, which accepts the words whose symbol before the last `k
+/// - 1` is the second one. Its deterministic automaton has 2 ^ k states.
 fn moves(k: usize) -> Vec<usize> {
     let further = (1..=k).flat_map(|state| [if state < k { state + 1 } else { 0 }; 2]);
     [0, 0].into_iter().chain(further.clone()).chain([0, 1]).chain(further).collect()
 }
 
-/// How often 2 goes into n, where n is a power of it.
+/// The exponent of n, which is a power of 2.
 fn exponent(n: usize) -> usize {
     n.trailing_zeros() as usize
 }
@@ -188,8 +188,8 @@ const ROWS: &[Row] = &[
     } },
 ];
 
-/// Does the turns of one row at a size, and prints the result: what callgrind is run on. The words are a place in the
-/// list of rows, a size and how many turns. `None` where they are not.
+/// Makes the turns of one row at a size, and prints the result; callgrind is run on this. The arguments are a place in
+/// the list of rows, a size and the number of turns. `None` if they are not.
 pub fn run_turns(words: &[String]) -> Option<()> {
     let [row, n, turns] = words else { return None };
     let row = ROWS.get(row.parse::<usize>().ok()?)?;
@@ -197,7 +197,7 @@ pub fn run_turns(words: &[String]) -> Option<()> {
     Some(())
 }
 
-/// Prints a row. Whether it takes no more times as long at four times the size than it may, and finds memory.
+/// Prints a row. Returns whether it stays within its bound at four times the size, and does not run out of memory.
 fn show(place: usize, row: &Row) -> io::Result<bool> {
     let at = |n: usize| {
         let words = ["turns-at".to_string(), place.to_string(), n.to_string()];
@@ -213,7 +213,7 @@ fn show(place: usize, row: &Row) -> io::Result<bool> {
     Ok(finds_memory && ratio <= row.most)
 }
 
-/// Prints the table, or that valgrind is missing. Whether each row is within what it may take.
+/// Prints the table, or that valgrind is missing. Returns whether each row is within its bound.
 pub fn race() -> bool {
     if !callgrind::is_there() {
         return true;

@@ -1,13 +1,13 @@
-//! Calls on sets of a few blocks, whose instructions are counted.
+//! Calls on sets of a few blocks, for counts of their instructions.
 //!
-//! Turns take one of two equal sets in turn, so that no turn can be the result of another.
+//! Turns alternate between two equal sets, so that no turn can reuse the result of another.
 use crate::inputs::Random;
 use crate::peers::{Set, sum, total};
 use bit_set::BitSet;
 use fixedbitset::FixedBitSet;
 use std::hint::black_box;
 
-/// The address of numbers, which their count follows.
+/// A pointer to numbers; their count is the next argument.
 type Numbers = *const usize;
 
 type OnSmall = unsafe extern "C" fn(len: usize, Numbers, usize, Numbers, usize, turns: usize) -> usize;
@@ -54,7 +54,7 @@ unsafe extern "C" {
     fn bench_small_contains(len: usize, a: Numbers, m: usize, b: Numbers, n: usize, turns: usize) -> usize;
 }
 
-/// Numbers below `len`: an eighth of it random ones twice, and each time the last.
+/// Numbers below `len`: twice an eighth of it at random, and each time also the last.
 pub struct Input {
     len: usize,
     first: Vec<usize>,
@@ -94,7 +94,7 @@ impl Input {
     }
 }
 
-/// One of eight numbers, another at each turn.
+/// One of eight numbers, a different one at each turn.
 #[inline]
 fn number_at(numbers: &[usize], turn: usize) -> usize {
     numbers.get(turn % 8).copied().unwrap_or(0)
@@ -133,7 +133,7 @@ fn symmetric_difference_with<S: Set>(input: &Input, turns: usize) -> usize {
     change(input, turns, S::symmetric_difference_with)
 }
 
-/// The same for a call that tells whether it changed the set. Adds up how often it did.
+/// The same for a call that returns whether it changed the set. Counts how often it did.
 #[inline(always)]
 fn tell<S: Set>(input: &Input, turns: usize, mut call: impl FnMut(&mut S, &S) -> bool) -> usize {
     let mut sets = input.two_firsts();
@@ -158,7 +158,7 @@ fn symmetric_difference_changes<S: Set>(input: &Input, turns: usize) -> usize {
     tell(input, turns, S::symmetric_difference_changes)
 }
 
-/// What the second numbers have and the first have not goes in, and whether that changed the set is told.
+/// Inserts the second numbers that are not among the first, and returns whether that changed the set.
 fn union_with_difference<S: Set>(input: &Input, turns: usize) -> usize {
     let except: S = input.rest();
     let mut copy = except.clone();
@@ -169,7 +169,7 @@ fn union_with_difference<S: Set>(input: &Input, turns: usize) -> usize {
     })
 }
 
-/// The same by two merges over a copy, which do not tell.
+/// The same by two merges over a copy, which do not return that.
 fn difference_of_a_copy<S: Set>(input: &Input, turns: usize) -> usize {
     let except: S = input.rest();
     let mut copy = except.clone();
@@ -276,7 +276,7 @@ pub struct Call {
 }
 
 impl Call {
-    /// The result of so many turns of one side. `None` where there is no such side.
+    /// The result of this many turns of one side. `None` if there is no such side.
     pub fn result(&self, side: &str, input: &Input, turns: usize) -> Option<usize> {
         let Input { len, first, second } = input;
         match side {

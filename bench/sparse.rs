@@ -1,4 +1,4 @@
-//! Rows of the calls on a set whose two numbers lie far apart.
+//! Rows of the calls on a set whose two numbers are far apart.
 use crate::peers::{Set, total};
 use crate::table::{Table, Work};
 use crate::whole::{count, walk};
@@ -66,7 +66,7 @@ fn is_empty<B: BitBlock>(mut set: BitSet<B>, turns: usize) -> usize {
     })
 }
 
-/// Makes a set that has capacity for 64M numbers and has none, and where it is to shrink gives the capacity back.
+/// Makes an empty set with capacity for 64M numbers; if it is to shrink, it then gives the capacity back.
 fn shrink_emptied<B: BitBlock>(shrinks: bool, turns: usize) -> usize {
     total(turns, |_| {
         let mut set = black_box(emptied::<B>());
@@ -94,7 +94,7 @@ fn rows_over<B: BitBlock>(table: &mut Table, calls: &Calls) {
         &|_, turns| unsafe { (calls.is_empty)(FAR.as_ptr(), FAR.len(), turns) },
         &|_, turns| is_empty(emptied::<B>(), turns),
     ]);
-    // The time of the turns that give no capacity back is taken off.
+    // The time of the turns that give no capacity back is subtracted.
     let shrinking = Work { unit: "call", units: 1, turns: 10, numbers: &[1] };
     table.row(&name("`shrink_to_fit` of {0, 64M} once both are removed"), shrinking, &[
         &|xs, turns| unsafe { (calls.shrink_emptied)(FAR[1], xs.len(), turns) },

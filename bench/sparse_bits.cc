@@ -32,7 +32,7 @@ size_t sparse_bits_sum(const Set *set) {
     return sum;
 }
 
-// The library has no count of two sets: a set is made and counted.
+// The library has no count of a merge: a set is made and counted.
 size_t sparse_bits_count_of_both(const Set *set, const Set *other) { return (*set & *other).count(); }
 
 size_t sparse_bits_count_of_rest(const Set *set, const Set *other) { return (*set - *other).count(); }

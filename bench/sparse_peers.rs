@@ -6,7 +6,7 @@ use std::collections::BTreeSet;
 use std::ffi::c_void;
 use std::sync::OnceLock;
 
-/// A set of numbers. Where a peer lacks a call, it is what its user would write.
+/// A set of numbers. For a call that a peer lacks, its method is what its user would write.
 pub trait Peer: Clone + PartialEq {
     /// The set of ascending numbers below `len`.
     fn of(len: usize, numbers: &[usize]) -> Self;
@@ -14,11 +14,11 @@ pub trait Peer: Clone + PartialEq {
     fn count_merged(&self, merge: Merge, other: &Self) -> usize;
     fn clear(&mut self);
     fn count(&self) -> usize;
-    /// The sum of the members, by a walk.
+    /// The sum of the members, by iteration.
     fn sum(&self) -> usize;
 }
 
-/// The count of what two sets become, by those of both and of what they have in common.
+/// The size of a merge, from the sizes of both sets and of their intersection.
 fn of_counts(merge: Merge, one: usize, two: usize, both: usize) -> usize {
     match merge {
         Merge::Union => one + two - both,
@@ -30,7 +30,7 @@ fn of_counts(merge: Merge, one: usize, two: usize, both: usize) -> usize {
 
 static CROARING: OnceLock<Calls> = OnceLock::new();
 
-/// Opens CRoaring where the environment says that it is. Whether it is there.
+/// Opens CRoaring at the path in the environment. Returns whether it is there.
 pub fn open_croaring() -> bool {
     let found = std::env::var("CROARING").ok().and_then(|path| Calls::open(&path));
     found.is_some_and(|calls| CROARING.set(calls).is_ok())
@@ -187,7 +187,7 @@ impl Peer for FixedBitSet {
         }
     }
 
-    /// Block by block: both sets are as long.
+    /// Block by block: both sets have the same length.
     fn count_merged(&self, merge: Merge, other: &Self) -> usize {
         let blocks = self.as_slice().iter().zip(other.as_slice());
         let ones = |block: u32| block.count_ones() as usize;

@@ -1,5 +1,5 @@
-//! Rows of sets of few numbers in a wide range, of runs, and of half of all numbers, beside sets that take memory by what
-//! is in them. Turns are on two equal sets in turn, so that none can be the result of another.
+//! Rows of sets of few numbers in a wide range, of runs, and of half of all numbers, beside sets that take memory by
+//! their members. Turns alternate between two equal sets, so that none can reuse the result of another.
 use crate::croaring::Merge;
 use crate::inputs::{Random, overlapping};
 use crate::live_variables;
@@ -21,7 +21,7 @@ unsafe extern "C" {
     ) -> usize;
 }
 
-/// What is done in each turn, in the order of `crates/bench_calls/src/sparse.rt`.
+/// The work of each turn, in the order of `crates/bench_calls/src/sparse.rt`.
 #[derive(Clone, Copy)]
 enum Call {
     Merge(Merge),
@@ -98,7 +98,7 @@ fn run_here(work: usize, input: &Input, turns: usize) -> usize {
     unsafe { bench_sparse(work, input.len, first.as_ptr(), m, second.as_ptr(), n, turns) }
 }
 
-/// Prints the table. Whether the sides of each row gave the same results.
+/// Prints the table. Returns whether the sides of each row gave the same results.
 pub fn race() -> bool {
     let mut columns = vec!["Sets", "Per", "here (`u64`)"];
     let has_croaring = open_croaring();

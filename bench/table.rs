@@ -1,26 +1,26 @@
 //! Times the sides of a row, and prints the row.
 use std::hint::black_box;
 
-/// What is timed in a row: turns of so many `units` of work.
+/// What a row times: turns, each of `units` units of work.
 pub struct Work<'a> {
     pub unit: &'static str,
     pub units: usize,
-    /// How many turns each side does at least.
+    /// The least number of turns of each side.
     pub turns: usize,
-    /// What each turn goes over. The time of the turns over no numbers is taken off.
-    /// Where there are none, the time of no turn is taken off.
+    /// The numbers of each turn. The time of the same turns over no numbers is subtracted; or, if there are no numbers,
+    /// that of no turn.
     pub numbers: &'a [usize],
 }
 
-/// A side does so many turns over some numbers, and returns a result. The sides of a row are in the order of the
-/// table: this library, `bit-set` and, where it has the call, `fixedbitset`.
+/// A side makes this many turns over these numbers, and returns a result. The sides of a row are in the order of the
+/// table: this library, `bit-set` and, if it has the call, `fixedbitset`.
 pub type Side<'a> = &'a dyn Fn(&[usize], usize) -> usize;
 
-/// The work is to take so many times what is taken off for the set-up.
+/// The work must take this many times as long as the set-up that is subtracted.
 const SHARE: f64 = 10.0;
-/// While the turns are doubled more is asked for, since the times of that are not those of the row.
+/// The share while the turns are doubled. It is greater, since the times then are not those of the row.
 const SHARE_AT_FIRST: f64 = 15.0;
-/// No side does more turns, which some loops take as numbers below the lengths of their sets.
+/// The most turns of a side, which some loops use as numbers below the lengths of their sets.
 const MOST_TURNS: usize = 1 << 19;
 /// Seconds of processor time for one run of a side, and for all of a row.
 const LONGEST_RUN: f64 = 0.5;
@@ -28,7 +28,7 @@ const LONGEST_ROW: f64 = 4.0;
 const ROUNDS: usize = 7;
 const FEWEST_ROUNDS: usize = 3;
 
-/// Processor time of this process in seconds: other work on the machine moves it less than the time on the wall.
+/// Processor time of this process in seconds, which other work on the machine affects less than wall-clock time.
 fn now() -> f64 {
     unsafe extern "C" {
         fn clock_gettime(clock: i32, time: *mut [i64; 2]) -> i32;
@@ -39,7 +39,7 @@ fn now() -> f64 {
     time[0] as f64 + time[1] as f64 * 1e-9
 }
 
-/// A side with the turns that it does, and the least times of these, in seconds.
+/// A side with its number of turns, and its least times in seconds.
 struct Timed<'a> {
     run: Side<'a>,
     turns: usize,
@@ -52,7 +52,7 @@ impl Timed<'_> {
         Timed { run, turns, set_up: f64::MAX, whole: f64::MAX }
     }
 
-    /// Runs the side once with its set-up alone and once with all of its turns.
+    /// Runs the side once with only its set-up and once with all of its turns.
     fn round(&mut self, numbers: &[usize]) {
         let empty_turns = if numbers.is_empty() { 0 } else { self.turns };
         let start = now();
@@ -64,7 +64,7 @@ impl Timed<'_> {
         self.whole = self.whole.min(end - middle);
     }
 
-    /// Whether the work took so many times what is taken off.
+    /// Whether the work took this many times as long as what is subtracted.
     fn is_mostly_work(&self, share: f64) -> bool {
         self.whole - self.set_up >= share * self.set_up
     }
@@ -90,7 +90,7 @@ struct Times {
     are_mostly_work: bool,
 }
 
-/// A table on its way.
+/// A table in progress.
 pub struct Table {
     agrees: bool,
     has_marks: bool,
@@ -104,7 +104,7 @@ impl Table {
         Table { agrees: true, has_marks: false }
     }
 
-    /// Prints what is to be said below the rows. Whether the sides of each row had the same results.
+    /// Prints the remarks below the rows. Returns whether the sides of each row had the same results.
     pub fn end(self) -> bool {
         if self.has_marks {
             println!();
@@ -113,7 +113,7 @@ impl Table {
         self.agrees
     }
 
-    /// Compares the results of the sides after one number of turns.
+    /// Compares the results of the sides after the same number of turns.
     fn compare(&mut self, results: &[usize]) {
         if results.iter().any(|result| *result != results[0]) {
             println!("the sides of the next row give different results: {results:?}");
@@ -121,7 +121,7 @@ impl Table {
         }
     }
 
-    /// Runs the sides one after another, again and again.
+    /// Runs the sides one after another, repeatedly.
     fn times(&mut self, work: &Work, sides: &[Side]) -> Times {
         let mut sides: Vec<Timed> = sides.iter().map(|run| Timed::start(*run, work.turns)).collect();
         for side in &mut sides {
@@ -144,14 +144,14 @@ impl Table {
         }
     }
 
-    /// Prints the name and the unit of a row, and marks it where its times are worth less.
+    /// Prints the name and the unit of a row, and marks it if its times are less reliable.
     fn print_name(&mut self, name: &str, unit: &str, times: &Times) {
         let mark = if times.are_mostly_work { "" } else { " *" };
         self.has_marks |= !times.are_mostly_work;
         print!("| {name}{mark} | {unit} |");
     }
 
-    /// Prints the time of each side, and this library's over the other's. There are at most two peers.
+    /// Prints the time of each side, and the ratio of this library's to each other. There are at most two peers.
     pub fn row(&mut self, name: &str, work: Work, sides: &[Side]) {
         let sides: [Option<Side>; 3] = std::array::from_fn(|place| sides.get(place).copied());
         self.row_beside(name, work, &sides);
@@ -174,7 +174,7 @@ impl Table {
         println!();
     }
 
-    /// Prints the time of each side alone.
+    /// Prints only the time of each side.
     pub fn row_of_times(&mut self, name: &str, work: Work, sides: &[Side]) {
         let times = self.times(&work, sides);
         self.print_name(name, work.unit, &times);

@@ -23,7 +23,7 @@ unsafe extern "C" {
     fn bench_close_matrix_u64(nodes: usize, each: usize, ends: *const usize, n: usize, turns: usize) -> usize;
 }
 
-/// Adds up the lowest free slots that are taken after each of some slots is given back.
+/// Adds up the lowest free slots that are taken after each of these slots is given back.
 fn slots<S: Set>(len: usize, taken: usize, given: &[usize], turns: usize) -> usize {
     let mut free = S::for_numbers_below(len);
     for slot in taken..len {
@@ -54,7 +54,7 @@ fn slots_row<B: BitBlock>(table: &mut Table, blocks: &str, here: OnSlots, len: u
     ]);
 }
 
-/// Adds up how many nodes are reached from the first one, where each has so many of the edges.
+/// Adds up how many nodes are reached from the first one, where each node has this many of the edges.
 fn reachable<S: Set>(each: usize, ends: &[usize], turns: usize) -> usize {
     let rows: Vec<Vec<usize>> = ends.chunks(each).map(<[usize]>::to_vec).collect();
     total(turns, |_| {
@@ -85,7 +85,7 @@ fn reachable_row<B: BitBlock>(table: &mut Table, blocks: &str, here: OnGraph, no
     ]);
 }
 
-/// Closes copies of the rows by Warshall's algorithm, and adds up how many edges these have then.
+/// Closes copies of the rows by Warshall's algorithm, and adds up their edges.
 fn close<S: Set>(each: usize, ends: &[usize], turns: usize) -> usize {
     let nodes = ends.len() / each;
     let rows: Vec<S> = ends.chunks(each).map(|row| S::of(nodes, row)).collect();
@@ -115,10 +115,10 @@ fn close_row<B: BitBlock>(table: &mut Table, call: &str, blocks: &str, here: OnG
     ]);
 }
 
-/// Here a matrix is closed, and there rows of sets, as in the rows of `close`.
+/// Here a matrix is closed; the peers close rows of sets, as in the rows of `close`.
 const MATRIX: &str = "`transitive_closure` of a matrix";
 
-/// Prints the table. Whether the sides of each row gave the same results.
+/// Prints the table. Returns whether the sides of each row gave the same results.
 pub fn race() -> bool {
     let mut table = Table::start(&["Users", "Per", "here", "over `bit-set`", "ratio", "over `fixedbitset`", "ratio"]);
     for (len, taken) in [(1_000, 900), (1 << 16, 60_000)] {

@@ -1,4 +1,5 @@
-//! Rows of the calls on a whole set. One number leaves after each turn, so that no turn can be the result of another.
+//! Rows of the calls on a whole set. One number is removed after each turn, so that no turn can reuse the result of
+//! another.
 use crate::inputs::Density;
 use crate::peers::{Set, sum, total};
 use crate::table::{Table, Work};
@@ -82,7 +83,7 @@ pub fn rows(table: &mut Table, density: &Density) {
         &|_, turns| eq(set(), turns),
         &|_, turns| eq(fixed(), turns),
     ]);
-    // The order of `fixedbitset` is another one.
+    // The order of `fixedbitset` is different.
     table.row(&format!("`cmp` of equal sets, {label}"), work("block", blocks, 40), &[
         &|_, turns| unsafe { bench_cmp(ms, m, turns) },
         &|_, turns| cmp(set(), turns),

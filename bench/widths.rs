@@ -1,10 +1,10 @@
-//! Times this library over blocks of 32, 64 and 128 bits beside one another, and prints a table.
+//! Times this library over blocks of 32, 64 and 128 bits, and prints a table.
 use crate::inputs::Density;
 use crate::peers::Set;
 use crate::table::{Table, Work};
 use bit_set::BitSet;
 
-/// The address of numbers, which their count follows.
+/// A pointer to numbers; their count is the next argument.
 type Numbers = *const usize;
 
 unsafe extern "C" {
@@ -86,7 +86,7 @@ fn whole_sets(table: &mut Table, density: &Density) {
     }
 }
 
-/// Sets that are small, that grow, or that are nearly empty.
+/// Sets that are small, growing or nearly empty.
 fn the_rest(table: &mut Table) {
     let small = Density::of("", 128, 1 << 15).numbers;
     let work = Work { unit: "set", units: small.len() / 8, turns: 4, numbers: &[] };
@@ -105,7 +105,7 @@ fn the_rest(table: &mut Table) {
     });
 }
 
-/// Prints the table. Whether the sides of each row gave the same results.
+/// Prints the table. Returns whether the sides of each row gave the same results.
 pub fn race() -> bool {
     let mut table = Table::start(&["Work", "Per", "`u32`", "`u64`", "`u128`"]);
     let dense = Density::of("1M in 1M", 1 << 20, 1 << 20);
