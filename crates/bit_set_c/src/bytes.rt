@@ -10,14 +10,53 @@ use crate::handed::Shared;
 use bit_set::bit_vec::block_or_zero;
 use bit_set::{BitBlock, BitSet};
 
-// Byte `q` of some blocks, or zero past them.
-fn byte_at(blocks: &[Block], q: usize) -> u8
-    ensures { (j : ℕ) → j < 8 → is_one result j
-        ≡ is_one (get_or blocks.now (q / (width / 8)) 0) (8 * (q % (width / 8)) + j) }
+const STEP: usize = WIDTH / 8;
+
+// Writes some bytes of a block, from byte `start` of it on, at a place.
+#[inline(always)]
+fn put_bytes(block: Block, start: usize, bytes: &mut [u8], at: usize, count: usize)
+    requires within { start + count ≤ width / 8 }
+    requires fits { at + count ≤ length bytes.old }
+    ensures digits { (p j : ℕ) → p < count → j < 8
+        → is_one (slice_index bytes.new (at + p)) j ≡ is_one block (8 * (start + p) + j) }
+    ensures before { (k : ℕ) → k < at → slice_index bytes.new k ≡ slice_index bytes.old k }
+    ensures others { drop (at + count) bytes.new ≡ drop (at + count) bytes.old }
 {
-    let count = WIDTH / 8;
-    let block = block_or_zero(blocks, q / count);
-    (block.shift_right(8 * (q % count)) % 256) as u8
+    for p in 0..count {
+        bytes[at + p] = (block.shift_right(8 * (start + p)) % 256) as u8;
+    }
+}
+
+// Writes all bytes of some blocks at a place. The compiler writes those of a block at once.
+fn put_whole(blocks: &[Block], bytes: &mut [u8], at: usize)
+    requires fits { at + width / 8 * length blocks.now ≤ length bytes.old }
+    ensures digits { (p j : ℕ) → p < width / 8 * length blocks.now → j < 8 → is_one (slice_index bytes.new (at + p)) j
+        ≡ is_one (get_or blocks.now (p / (width / 8)) 0) (8 * (p % (width / 8)) + j) }
+    ensures before { (k : ℕ) → k < at → slice_index bytes.new k ≡ slice_index bytes.old k }
+    ensures others { drop (at + width / 8 * length blocks.now) bytes.new
+        ≡ drop (at + width / 8 * length blocks.now) bytes.old }
+{
+    for k in 0..blocks.len() {
+        put_bytes(blocks[k], 0, bytes, at + STEP * k, STEP);
+    }
+}
+
+// Writes the bytes of some blocks, from byte `from` on: the rest of the block that it is in, whole blocks, and the front of
+// the next one.
+fn put_range(blocks: &[Block], from: usize, bytes: &mut [u8], count: usize)
+    requires within { from + count ≤ width / 8 * length blocks.now }
+    requires fits { count ≤ length bytes.old }
+    ensures digits { (q j : ℕ) → q < count → j < 8 → is_one (slice_index bytes.new q) j
+        ≡ is_one (get_or blocks.now ((from + q) / (width / 8)) 0) (8 * ((from + q) % (width / 8)) + j) }
+    ensures others { drop count bytes.new ≡ drop count bytes.old }
+{
+    let front = ((STEP - from % STEP) % STEP).min(count);
+    let whole = (count - front) / STEP;
+    let next = from.div_ceil(STEP);
+    let done = front + STEP * whole;
+    put_bytes(block_or_zero(blocks, from / STEP), from % STEP, bytes, 0, front);
+    put_whole(&blocks[next..next + whole], bytes, front);
+    put_bytes(block_or_zero(blocks, next + whole), 0, bytes, done, count - done);
 }
 
 fn copy_bytes(set: &BitSet<Block>, from: usize, bytes: &mut [u8]) -> usize
@@ -26,12 +65,10 @@ fn copy_bytes(set: &BitSet<Block>, from: usize, bytes: &mut [u8]) -> usize
         ≡ has (elements set.now.values) (8 * (from + q) + j) }
     ensures others { drop result bytes.new ≡ drop result bytes.old }
 {
-    let blocks = blocks_from(set, 0);
     let all = set.get_ref().len().div_ceil(8);
-    let count = bytes.len().min(all.saturating_sub(from));
-    for q in 0..count {
-        bytes[q] = byte_at(blocks, from + q);
-    }
+    let from = from.min(all);
+    let count = bytes.len().min(all - from);
+    put_range(blocks_from(set, 0), from, bytes, count);
     count
 }
 

@@ -1,30 +1,24 @@
-use Rattle.std.proofs.Common.{◌≡◌, ◌+◌, ◌*◌, ◌/◌, ◌%◌, ◌∙◌, ap, arith, get_or-set_other, get_or-set_same, ⊎_elim}
-use Rattle.std.proofs.lemmas.{Bool.cases_lt, Grind.common_steps}
-use Rattle.bit_blocks.specs.Digits.{is_one}
+use Rattle.std.proofs.Common.{◌≡◌, ◌+◌, ◌*◌, ◌/◌, ◌%◌, ◌∙◌, ap, arith, length}
+use Rattle.bit_blocks.{proofs.BitsLemmas.length-blocks_of, specs.Bits.{blocks_for}}
 use Rattle.bit_set.specs.Sets.{elements, has}
 use Rattle.bit_set_c.{proofs.BlockNumbers.digit_is_member, specs.Block.width}
 use Rattle.bit_set_c.proofs.bytes.copy_bytes.Goals as goal
 
-pub loop-q-preserved : goal.loop-q-preserved
-loop-q-preserved c =
-    let q = c.loop-q.q in
-    let to = c.loop-q.bytes in
-    let byte = c.byte_at.result in
+pub put_range-requires-clause-within : goal.put_range-requires-clause-within
+put_range-requires-clause-within c =
+    let blocks : length c.blocks_from.result.now ≡ blocks_for width (length c.args.set.now.values) = ap length c.blocks_from.ensures ∙ length-blocks_of width c.args.set.now.values in
+    let len = c.len.ensures.value ∙ ap (λ bits. length bits.values) c.get_ref.ensures in
+    omega (arith, blocks, len, c.min-from.ensures, c.min-count.ensures, c.div_ceil-all.ensures)
+
+pub returns-clause-members : goal.returns-clause-members
+returns-clause-members c =
     let values = c.args.set.now.values in
-    let n = c.args.from + q in
-    let k = n / (width / 8) in
-    record {
-      room = grind (arith, common_steps);
-      members = λ p j below within.
-          ⊎_elim
-          (λ less. ap (λ m. is_one m j) (get_or-set_other to q p byte 0 (λ e. omega (arith, e, less))) ∙ c.loop-q.invariant.members p j less within)
-          (λ least.
-          let at : p ≡ q = omega (arith, least, below) in
-          let here = get_or-set_same to q byte 0 (grind (arith, common_steps)) in
-          let digit = 8 * (n % (width / 8)) + j in
-          let member = digit_is_member _ values 0 k digit c.blocks_from-blocks.ensures (omega arith) in
-          let number : (0 + k) * width + digit ≡ 8 * n + j = omega arith in
-          rw at (ap (λ m. is_one m j) here ∙ c.byte_at.ensures j within ∙ member ∙ ap (has (elements values)) number))
-          (cases_lt p q);
-      others = grind (arith, common_steps);
-    }
+    let step = width / 8 in
+    λ q j below within.
+    let n = c.min-from.result + q in
+    let digit = 8 * (n % step) + j in
+    let same : n ≡ c.args.from + q = omega (arith, below, c.min-from.ensures, c.min-count.ensures) in
+    let number : (0 + n / step) * width + digit ≡ 8 * (c.args.from + q) + j = omega (arith, same) in
+    c.put_range.ensures.digits q j below within
+    ∙ digit_is_member _ values 0 (n / step) digit c.blocks_from.ensures (omega (arith, within))
+    ∙ ap (has (elements values)) number
