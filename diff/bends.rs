@@ -1,10 +1,10 @@
-//! Wrong calls of the peers' side, for the self test: each is to be seen.
+//! Wrong calls on the peers' side, for the self test: each must be detected.
 use crate::calls::{Call, Line};
 use crate::model::width;
 use crate::peers::{Block, Peer};
 use crate::sides::Set;
 
-/// What a wrong call gets wrong, of the peers' sets after the call and of what was returned.
+/// Makes the peers' sets after the call, or its result, wrong.
 type Turn = fn(&Line, &mut Around, &mut Vec<usize>);
 
 pub struct Bend {
@@ -13,7 +13,7 @@ pub struct Bend {
     turn: Turn,
 }
 
-/// The set of the call, as far as a bend may see and change it.
+/// The set of the call, as far as a wrong call may read and change it.
 pub struct Around<'a> {
     elements: Vec<usize>,
     others: Vec<usize>,

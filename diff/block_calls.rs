@@ -1,4 +1,4 @@
-//! What calls of a bit vector, its blocks and the walks over these return.
+//! The results of calls on a bit vector, its blocks and the walks over these.
 use crate::calls::{Call, Line};
 use crate::model::width;
 use crate::sides::{Answers, BlockWalk, Set, is_front, take_of};
@@ -34,7 +34,7 @@ pub fn look<S: Set>(set: &S, other: &S, line: &Line, answers: &mut Answers) {
     }
 }
 
-/// The bits of a block at which there is no true value, below the end; none where its first index is past the end.
+/// The bits of a block without a true value, below the end; none if the block begins past the end.
 fn zeros<S: Set>(set: &S, k: usize, end: usize) -> u128 {
     let first = k.checked_mul(width()).filter(|first| *first <= end);
     first.map_or(0, |first| {
@@ -56,13 +56,13 @@ fn blocks<S: Set>(set: &S, line: &Line, answers: &mut Answers) {
     let (mut on, mut copy) = (walk.copy(), walk.copy());
     step_blocks(&mut *on, line.second, answers);
     step_blocks(&mut *copy, line.second, answers);
-    // The blocks of the slice that is left, and those that each walk counts.
+    // The blocks left in the slice, and those that each walk counts.
     for left in [on.bounds().0, on.bounds().0, copy.bounds().0] {
         answers.number(left);
     }
 }
 
-/// A block that is not wanted is 0, whether there is one or not.
+/// A block that the test rejects is 0, whether there is one or not.
 fn next_if<S: Set>(set: &S, steps: usize, answers: &mut Answers) {
     let mut walk = set.bits_blocks();
     for turn in 0..steps {
@@ -71,8 +71,8 @@ fn next_if<S: Set>(set: &S, steps: usize, answers: &mut Answers) {
     answers.number(walk.bounds().0);
 }
 
-/// The blocks past one that are not 0, and the first, where they are not past one. So many come, then three more, and
-/// so many again to a copy.
+/// The first block and the nonzero ones after it, or only the nonzero ones past a given one. The walk takes these
+/// steps, then three more; its copy takes as many again.
 fn nonzero<S: Set>(set: &S, past: Option<usize>, steps: usize, answers: &mut Answers) {
     let storage = set.bits_storage();
     let last = storage.len().saturating_sub(1);
@@ -90,7 +90,7 @@ fn nonzero<S: Set>(set: &S, past: Option<usize>, steps: usize, answers: &mut Ans
     }
 }
 
-/// The blocks past the first that are not 0, from both ends.
+/// The nonzero blocks past the first, from both ends.
 fn nonzero_ends<S: Set>(set: &S, line: &Line, answers: &mut Answers) {
     let storage = set.bits_storage();
     let entries = storage.iter().enumerate().skip(1).filter(|entry| *entry.1 != 0);
@@ -102,7 +102,7 @@ fn nonzero_ends<S: Set>(set: &S, line: &Line, answers: &mut Answers) {
     }
 }
 
-/// The elements from both ends, with no bound.
+/// The elements from both ends, without bounds.
 fn refill_ends<S: Set>(set: &S, line: &Line, answers: &mut Answers) {
     let mut left = std::collections::VecDeque::from(set.elements());
     for step in 0..line.first {
@@ -110,12 +110,12 @@ fn refill_ends<S: Set>(set: &S, line: &Line, answers: &mut Answers) {
     }
 }
 
-/// The first so many items, and for each that is lacking `None`.
+/// The first `count` items, with `None` for each that is missing.
 fn chained<I: Iterator>(items: I, count: usize) -> impl Iterator<Item = Option<I::Item>> {
     items.map(Some).chain(std::iter::repeat_with(|| None)).take(count)
 }
 
-/// The elements from a block on.
+/// The elements at or above the start of a block.
 fn refill<S: Set>(set: &S, block: usize, steps: usize, answers: &mut Answers) {
     let from = block.saturating_mul(width());
     let elements = set.elements();
@@ -124,7 +124,7 @@ fn refill<S: Set>(set: &S, block: usize, steps: usize, answers: &mut Answers) {
     }
 }
 
-/// Where two lists of blocks differ, with blocks of 0 at the end of the shorter one.
+/// Where two lists of blocks differ, with the shorter one padded by zero blocks.
 fn mismatch(blocks: &[u128], others: &[u128], answers: &mut Answers) {
     let block = |blocks: &[u128], k: usize| blocks.get(k).copied().unwrap_or(0);
     let both = blocks.len().min(others.len());
@@ -138,7 +138,7 @@ fn mismatch(blocks: &[u128], others: &[u128], answers: &mut Answers) {
     }
 }
 
-/// One block, what is found in it from a place on, and what becomes of it and of one of the other list.
+/// One block, the results of searches in it from a place on, and its merges with a block of the other list.
 fn single(blocks: &[u128], others: &[u128], line: &Line, answers: &mut Answers) {
     let (k, place) = (line.first, line.second);
     let block = |blocks: &[u128]| blocks.get(k).copied().unwrap_or(0);

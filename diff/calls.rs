@@ -1,6 +1,6 @@
 //! The calls of a script, and a line that makes one.
 
-/// What a call does with its two sets. A call that may change a set needs two different ones.
+/// The effect of a call on its two sets. A call that may change a set needs two different ones.
 #[derive(Clone, Copy, PartialEq)]
 pub enum Group {
     Make,
@@ -12,8 +12,8 @@ pub enum Group {
     Look,
 }
 
-/// Defines the calls in the order of their numbers, which is that of `crates/diff_calls`. A form says what follows the
-/// name in a line: `s` and `t` two sets, `n` and `m` two numbers, `b` a truth value, `*` any numbers.
+/// Defines the calls in the order of their numbers, which is that of `crates/diff_calls`. A form lists the arguments
+/// after the name in a line: `s` and `t` two sets, `n` and `m` two numbers, `b` a truth value, `*` any numbers.
 macro_rules! calls {
     ($($group:ident { $($call:ident $name:literal $form:literal)* })*) => {
         #[derive(Clone, Copy, PartialEq, Debug)]
@@ -231,7 +231,7 @@ impl Line {
         self.numbers.iter().map(|number| *number as u8).collect()
     }
 
-    /// Whether the call makes a set what it and two others give.
+    /// Whether the call changes a set by two others.
     pub fn is_fused(&self) -> bool {
         match self.call {
             Call::UnionWithDifference | Call::UnionWithIntersection | Call::CopyDifference => true,
@@ -239,12 +239,12 @@ impl Line {
         }
     }
 
-    /// Likewise a list of bits, which the second must not be longer than.
+    /// The same for lists of bits, of which the second must be no longer than the changed one.
     pub fn is_fused_of_bits(&self) -> bool {
         matches!(self.call, Call::BitsUniteDifference | Call::BitsUniteIntersection | Call::BitsBecomeDifference)
     }
 
-    /// Those of which calls in the other order make the same.
+    /// The bytes from which calls of the other bit order make the same.
     pub fn reversed_bytes(&self) -> Vec<u8> {
         self.bytes().iter().map(|byte| byte.reverse_bits()).collect()
     }

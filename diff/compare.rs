@@ -1,4 +1,4 @@
-//! Runs a script on the three sides, and says where they first differ.
+//! Runs a script on the three sides, and finds where they first differ.
 use crate::bends::Bend;
 use crate::calls::Line;
 use crate::departures::{DEPARTURES, Rule};
@@ -8,12 +8,12 @@ use crate::peers::{Block, Peer};
 use crate::sides::{Answers, Set, answer};
 use std::panic::{AssertUnwindSafe, catch_unwind};
 
-/// A type of blocks by its name in a script.
+/// A block type by its name in a script.
 #[derive(Clone, Copy)]
 pub struct Blocks {
     pub name: &'static str,
     bits: usize,
-    /// What this library's side calls it.
+    /// Its number for this library's side.
     word: usize,
     peers: fn() -> Option<Box<dyn Beside>>,
 }
@@ -31,7 +31,7 @@ fn peers<B: Block>() -> Option<Box<dyn Beside>> {
     Some(Box::new(Peers::<B> { sets: [(); 4].map(|()| Peer::of(&Model::default())) }))
 }
 
-/// Where sides differ: after so many lines, and what each then returned.
+/// Where sides differ: after how many lines, and the results of each there.
 pub struct Difference {
     pub line: usize,
     pub model: Vec<usize>,
@@ -39,11 +39,11 @@ pub struct Difference {
     pub side: &'static str,
 }
 
-/// The peers' sets, over some type of blocks.
+/// The peers' sets, over some block type.
 trait Beside {
-    /// What the call of a line returns.
+    /// The results of a line's call.
     fn answer(&mut self, line: &Line, bend: Option<&Bend>) -> Vec<usize>;
-    /// Takes over what the model has.
+    /// Sets the peers' sets to those of the model.
     fn follow(&mut self, line: &Line, model: &[Model; 4]);
     fn blocks(&self) -> Vec<usize>;
 }
@@ -81,7 +81,7 @@ fn blocks_of<S: Set>(sets: &[S; 4]) -> Vec<usize> {
     answers.0
 }
 
-/// The sides, and how often each departure was met.
+/// The sides, and how often each departure occurred.
 pub struct Sides {
     pub blocks: Blocks,
     pub bend: Option<&'static Bend>,
@@ -95,7 +95,7 @@ impl Sides {
         Sides { blocks, bend, met: vec![0; DEPARTURES.len()], places: Vec::new() }
     }
 
-    /// Runs the lines that `next` gives, each by what the sets then have. They are left in `lines`.
+    /// Runs the lines that `next` returns, given the sets at that point. They are left in `lines`.
     pub fn differ(
         &mut self,
         lines: &mut Vec<Line>,
@@ -131,7 +131,7 @@ impl Sides {
         self.blocks.name == "u32"
     }
 
-    /// Compares the last line's words with what the peers return.
+    /// Compares the last line's results with those of the peers.
     fn beside(
         &mut self,
         peers: &mut dyn Beside,
@@ -160,7 +160,7 @@ impl Sides {
         (model != other).then_some(Difference { line: lines.len(), model, other, side })
     }
 
-    /// Compares all words with what this library returns.
+    /// Compares all results with those of this library.
     fn ours(&mut self, lines: &[Line], words: &[usize], ends: &[usize]) -> Option<Difference> {
         let side = "this library";
         if !ours::run(self.blocks.word, lines, &mut self.places) {

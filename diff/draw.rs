@@ -1,10 +1,10 @@
-//! Scripts drawn at random. Each script has a size of its own: how long its sets are, and how dense; half of them have sets
-//! of one shape.
+//! Random scripts. The lengths and densities of sets differ from script to script; half of the scripts have sets of one
+//! shape.
 use crate::calls::{CALLS, Call, Group, Line};
 use crate::model::{Model, width};
 use crate::random::Random;
 
-/// What the sets of a script are like: any sets; long ones of few elements; of nearly all; of runs.
+/// The shape of a script's sets: any sets; long ones of few elements; of nearly all; of runs.
 #[derive(Clone, Copy, PartialEq)]
 pub enum Shape {
     Any,
@@ -13,17 +13,17 @@ pub enum Shape {
     Runs,
 }
 
-/// Draws the lines of one script, each by what the sets then have.
+/// Draws the lines of one script, each given the sets at that point.
 pub struct Draw {
     random: Random,
     lines_left: usize,
     pub shape: Shape,
-    /// The lengths that are drawn stay below this, and sets of more elements are emptied.
+    /// Drawn lengths stay below this, and sets of more elements are emptied.
     most: usize,
     most_elements: usize,
 }
 
-/// How long the sets of a script get, and of more than how many elements one is emptied.
+/// The greatest length of a script's sets, and the number of elements above which one is emptied.
 fn any_size(random: &mut Random) -> (usize, usize) {
     let summary = width() * width();
     match random.below(1000) {
@@ -36,7 +36,7 @@ fn any_size(random: &mut Random) -> (usize, usize) {
     }
 }
 
-/// The same of a script whose sets are long. Full ones are no longer than the model has time for.
+/// The same for a script with long sets. Full ones are no longer than the model can handle in time.
 fn long_size(random: &mut Random, shape: Shape) -> (usize, usize) {
     let summary = width() * width();
     let most = random.of(&[2, 9, 9, 35, 35, 70]) * summary + 2;
@@ -84,14 +84,14 @@ impl Draw {
         Some(line)
     }
 
-    /// Makes a set that is short nearly as long as sets get: with no new elements, or in a script of full sets with all.
+    /// Makes a short set nearly as long as sets get: without new elements or, in a script of full sets, with all.
     fn grown(&mut self, set: usize, len: usize) -> Line {
         let first = (self.most - len).saturating_sub(self.random.below(3 * width()));
         Line { first, second: usize::from(self.shape == Shape::Full), ..Line::new(Call::BitsGrow, set) }
     }
 
-    /// A call, those that change single elements or merge more often, and in a script of runs those on ranges. Texts are for
-    /// short sets.
+    /// A call. Those that change single elements or merge are more frequent and, in a script of runs, those on ranges.
+    /// Texts are for short sets.
     fn call(&mut self, len: usize) -> Call {
         let often: &[Call] = match self.shape {
             Shape::Any => &[Call::Insert, Call::Insert, Call::Remove, Call::Extend, Call::BitsSet, Call::BitsGrow, Call::UnionWith],
@@ -106,7 +106,7 @@ impl Draw {
                 Call::Display | Call::Json | Call::IntoIter | Call::BitsStorage => len > 20_000,
                 _ => false,
             };
-            // Sets that are made new are empty or short: so not each call may make one.
+            // New sets are empty or short, so not every call may make one.
             let is_rare = matches!(call.group(), Group::Make | Group::Move)
                 || matches!(call, Call::MakeEmpty | Call::Clear | Call::Reset | Call::BitsRemoveAll);
             if !(is_long && !self.random.once_in(100) || is_rare && !self.random.once_in(3)) {
@@ -129,7 +129,7 @@ impl Draw {
                 line.first = usize::MAX - self.random.below(2);
             }
             Call::InsertRange | Call::ToggleRange => self.range(line, set),
-            // So far that the greatest element cannot be moved: a little less would want more memory than there is.
+            // So far that the greatest element cannot be moved: a little less would need more memory than there is.
             Call::ShiftUp if is_far => {
                 line.first = usize::MAX - self.random.below(set.elements.last().map_or(1, |last| last + 1));
             }
@@ -180,7 +180,7 @@ impl Draw {
             Call::BitsNonzeroEnds | Call::BitsRefillEnds | Call::IterEnds => {
                 let is_blocks = line.call == Call::BitsNonzeroEnds;
                 self.steps(line, if is_blocks { set.blocks() } else { set.elements.len() });
-                // Which end each step takes of: now of each in turn at random, now of one for long.
+                // The end of each step: the same for all steps, or random for each.
                 let mixed = self.random.next() as usize;
                 line.second = self.random.of(&[0, usize::MAX, mixed]);
             }
@@ -222,7 +222,7 @@ impl Draw {
             }
             return;
         }
-        // Long lists of true values are for scripts of short sets, and of full ones.
+        // Long lists of true values are only for scripts of short or of full sets.
         if self.shape == Shape::Full {
             return;
         }
@@ -234,7 +234,7 @@ impl Draw {
         }
     }
 
-    /// A length at a multiple of the bits of a block, of a block of the summary, or of some of those, or to a side.
+    /// A length at or beside a multiple of the bits of a block, of a summary block, or of several of those.
     fn length(&mut self) -> usize {
         let summary = width() * width();
         let unit = self.random.of(&[1, 8, width(), width(), summary, 8 * summary, 32 * summary]);
@@ -243,7 +243,7 @@ impl Draw {
         near.saturating_sub(1).min(self.most)
     }
 
-    /// An element of the set or beside one, a place at an edge, or any below the length or the most.
+    /// An element of the set or beside one, a number at an edge, or any below the length or the greatest length.
     fn element(&mut self, set: &Model) -> usize {
         match self.random.below(6) {
             0 | 1 => {
@@ -258,13 +258,13 @@ impl Draw {
         }
     }
 
-    /// A range from an element on, which may be empty. Long ones are for scripts of short sets.
+    /// A range from an element on, which may be empty. Long ranges are for scripts of short sets.
     fn range(&mut self, line: &mut Line, set: &Model) {
         line.first = self.element(set);
         let is_short = match self.shape {
             Shape::Any => self.most > 20_000 && !self.random.once_in(12),
             Shape::Few => true,
-            // A part of a full set that is taken out is short, and that of a set of runs any.
+            // A range removed from a full set is short; from a set of runs it may have any length.
             Shape::Full => !self.random.once_in(12),
             Shape::Runs => false,
         };
@@ -281,13 +281,13 @@ impl Draw {
         if is_far { usize::MAX - self.random.below(2) } else { self.element(set) / width() }
     }
 
-    /// A place below the length, and now and then one past it.
+    /// A place below the length, and occasionally one past it.
     fn within(&mut self, set: &Model) -> usize {
         let place = self.element(set);
         if place < set.len || self.random.once_in(6) { place } else { place % set.len.max(1) }
     }
 
-    /// Where to cut: mostly near the end, so that something stays.
+    /// Where to cut: mostly near the end, so that most of the set stays.
     fn cut(&mut self, set: &Model) -> usize {
         match self.random.below(4) {
             0 => self.length(),
@@ -306,7 +306,7 @@ impl Draw {
         count.min(self.most.saturating_sub(set.len))
     }
 
-    /// Some steps and some more: few, or as many as lead to the end and past it.
+    /// Some steps and some more: few, or as many as reach the end and pass it.
     fn steps(&mut self, line: &mut Line, count: usize) {
         let short = |random: &mut Random| random.below(7);
         let is_few = count > 3000 && !self.random.once_in(50);
@@ -322,7 +322,7 @@ impl Draw {
         };
     }
 
-    /// Elements in a cluster, evenly apart, at edges, or anywhere, in any order.
+    /// Elements in a cluster, evenly spaced, at edges, or anywhere, in any order.
     fn elements(&mut self, set: &Model, is_far: bool) -> Vec<usize> {
         let counts = [0, 1, 2, 5, 12, 40];
         let count = self.random.of(if self.shape == Shape::Few { &counts[..4] } else { &counts[..] });

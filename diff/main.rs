@@ -28,7 +28,7 @@ use std::time::Instant;
 
 const USAGE: &str = "diff/run [CALLS [SEED]] | --script FILE | --self-test";
 
-/// How many calls ran, how many of each kind and on sets of each size, and how often each departure was met.
+/// How many calls ran, how many of each kind and on sets of each size, and how often each departure occurred.
 struct Tally {
     calls: usize,
     of_each: Vec<usize>,
@@ -37,12 +37,12 @@ struct Tally {
     met: Vec<usize>,
 }
 
-/// Whether a set is so long that its summary has blocks enough to be passed over many at a time.
+/// Whether a set is so long that many blocks of its summary can be skipped at a time.
 fn is_long(set: &Model) -> bool {
     set.len > 8 * width() * width()
 }
 
-/// Sizes of a set, each with what is so called.
+/// Sizes of a set, each with its test.
 const SIZES: [(&str, fn(&Model) -> bool); 8] = [
     ("longer than a block", |set| set.len > width()),
     ("longer than a block of the summary tells of", |set| set.len > width() * width()),
@@ -77,7 +77,7 @@ fn main() -> ExitCode {
     }
 }
 
-/// A panic of the Rust crates is a difference, and is told as one.
+/// A panic of the Rust crates is a difference, and is reported as one.
 fn hide_panics_of_peers() {
     let tell = std::panic::take_hook();
     std::panic::set_hook(Box::new(move |panic| {
@@ -93,7 +93,7 @@ fn misused() -> ExitCode {
     ExitCode::from(2)
 }
 
-/// Runs scripts over each type of blocks in turn until so many calls were made, or two sides differ.
+/// Runs scripts over each block type in turn until this many calls were made, or two sides differ.
 fn search(calls: usize, seed: u64, bend: Option<&'static Bend>, tally: &mut Tally) -> Option<Found> {
     let mut seeds = Random::new(seed);
     let peered = if bend.is_some() { &BLOCKS[..5] } else { &BLOCKS[..] };
@@ -151,7 +151,7 @@ fn run(calls: usize, seed: u64) -> ExitCode {
     let mut tally = Tally::new();
     let found = search(calls, seed, None, &mut tally);
     tally.print(start);
-    // A call on matrices is of few bits, and there are as many for three on sets.
+    // A call on matrices is of few bits, and there is one for every three on sets.
     let agree = matrices::run(calls / 3, seed);
     let Some(found) = found else {
         return if agree {
@@ -182,7 +182,8 @@ fn show(sides: &mut Sides, script: &[Line]) {
     println!("# by the model, with the departures: {model:?}");
 }
 
-/// Runs a script of a file: a line `blocks TYPE` or `matrices TYPE` first, and then a call a line. A `#` begins a comment.
+/// Runs a script from a file: first a line `blocks TYPE` or `matrices TYPE`, and then a call in each line. A `#` begins
+/// a comment.
 fn run_file(file: &str) -> ExitCode {
     let text = match std::fs::read_to_string(file) {
         Ok(text) => text,
@@ -216,7 +217,7 @@ fn run_file(file: &str) -> ExitCode {
     if differs { ExitCode::FAILURE } else { ExitCode::SUCCESS }
 }
 
-/// Whether each bend is seen, and how.
+/// Whether each wrong call is detected; prints how.
 fn self_test() -> ExitCode {
     let mut seen = 0;
     for bend in &BENDS {

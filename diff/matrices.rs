@@ -71,7 +71,7 @@ const CALLS: [(Call, &str); 29] = [
     (Call::Hash, "hash"),
 ];
 
-/// The types of blocks, with the bits of each.
+/// The block types, with the bits of each.
 const BLOCKS: [(&str, usize); 4] = [("u8", 8), ("u32", 32), ("u64", 64), ("u128", 128)];
 
 /// How many lines a script has.
@@ -110,7 +110,7 @@ impl Line {
         };
         let mut line = Line { call, first: random.below(rows), second: random.below(columns), third: 0 };
         match call {
-            // More bits than are counted, of blocks of any width.
+            // More bits than fit a `usize`, over blocks of any width.
             Call::New if random.once_in(20) => (line.first, line.second) = (1 << 62, 1 + random.below(9)),
             Call::New => (line.first, line.second) = (length(random, 40), length(random, 300)),
             Call::FromRow => line.first = random.below(9),
@@ -130,7 +130,7 @@ impl Line {
     }
 }
 
-/// What the model returns for the lines, which are drawn one by one, and all rows at the end.
+/// The model's results for the lines, which are drawn one by one, and all rows at the end.
 fn by_model(bits: usize, bend: Option<&Bend>, mut next: impl FnMut(&Sides) -> Option<Line>) -> Vec<usize> {
     let mut sides = Sides::default();
     let mut words = Vec::new();
@@ -160,14 +160,14 @@ fn differs_from(bits: usize, script: &[Line], model: &[usize]) -> bool {
     !ours::run_matrices(bits, &words, &mut places) || places != model
 }
 
-/// A script whose sides differ, over blocks of so many bits.
+/// A script whose sides differ, over blocks of this many bits.
 struct Found {
     blocks: &'static str,
     bits: usize,
     script: Vec<Line>,
 }
 
-/// Runs scripts until so many calls were made or two sides differ. How many calls were made, too.
+/// Runs scripts until this many calls were made or two sides differ. Also returns how many were made.
 fn search(calls: usize, seed: u64, bend: Option<&Bend>) -> (usize, Option<Found>) {
     let mut random = Random::new(seed);
     let mut made = 0;
@@ -192,7 +192,7 @@ fn search(calls: usize, seed: u64, bend: Option<&Bend>) -> (usize, Option<Found>
 }
 
 impl Found {
-    /// Leaves out each line without which the sides still differ.
+    /// Removes each line without which the sides still differ.
     fn shorten(&mut self, bend: Option<&Bend>) {
         let mut place = self.script.len();
         while place > 0 {
@@ -211,7 +211,7 @@ impl Found {
     }
 }
 
-/// Runs scripts of so many calls. Whether no sides differ.
+/// Runs scripts of this many calls. Returns whether no sides differ.
 pub fn run(calls: usize, seed: u64) -> bool {
     let (made, found) = search(calls, seed, None);
     println!("{made} calls on matrices");
@@ -224,7 +224,7 @@ pub fn run(calls: usize, seed: u64) -> bool {
     true
 }
 
-/// Runs the lines of a script over some type of blocks. Whether the sides agree, or `None` where it is no script.
+/// Runs the lines of a script over some block type. Returns whether the sides agree, or `None` if it is not a script.
 pub fn run_lines<'a>(blocks: &str, lines: impl Iterator<Item = &'a str>) -> Option<bool> {
     let (_, bits) = BLOCKS.iter().find(|(name, _)| *name == blocks)?;
     let script: Vec<Line> = lines.map(Line::parse).collect::<Option<_>>()?;
@@ -233,7 +233,7 @@ pub fn run_lines<'a>(blocks: &str, lines: impl Iterator<Item = &'a str>) -> Opti
     Some(agrees)
 }
 
-/// Whether each bend is seen, and how.
+/// Whether each wrong call is detected; prints how.
 pub fn self_test() -> bool {
     let mut seen = 0;
     for bend in &BENDS {

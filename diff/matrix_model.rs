@@ -1,9 +1,10 @@
-//! The plain slow side of scripts on matrices: a `BTreeSet` for each row. It has each call, as this library documents it.
+//! The plain slow model for scripts on matrices: a `BTreeSet` for each row. It has each call, as this library documents
+//! it.
 use crate::matrices::{Call, Line};
 use crate::random::Random;
 use std::collections::BTreeSet;
 
-/// A matrix of so many columns.
+/// A matrix of this many columns.
 #[derive(Clone, Default, PartialEq, Eq)]
 pub struct Matrix {
     pub rows: Vec<BTreeSet<usize>>,
@@ -19,10 +20,10 @@ pub struct Sides {
     pub len: usize,
 }
 
-/// What stands for a refused length.
+/// Stands for a length error.
 const LENGTH: usize = 3;
 
-/// What a hasher was fed: how often, and a number that says the bytes.
+/// The input of a hasher: the number of calls, and a digest of the bytes.
 #[derive(Default)]
 struct Feed {
     calls: u64,
@@ -38,7 +39,7 @@ impl Feed {
     }
 }
 
-/// Whether so many rows of so many columns have more bits than are counted, each at whole blocks of so many bits.
+/// Whether a matrix would have more bits than fit a `usize`, with each row in whole blocks of this many bits.
 fn is_too_large(rows: usize, columns: usize, bits: usize) -> bool {
     rows.checked_mul(columns.div_ceil(bits)).and_then(|blocks| blocks.checked_mul(bits)).is_none()
 }
@@ -77,7 +78,7 @@ impl Matrix {
         [feed.calls as usize, feed.digest as usize]
     }
 
-    /// All that is in the rows, as at the end of a script.
+    /// The contents of all rows, as at the end of a script.
     pub fn write(&self, words: &mut Vec<usize>) {
         words.push(self.columns);
         self.rows.iter().for_each(|row| write_walk(row.iter().copied(), words));
@@ -96,7 +97,7 @@ fn write_text(text: &str, words: &mut Vec<usize>) {
 }
 
 impl Sides {
-    /// What the call of a line returns, over blocks of so many bits.
+    /// The results of a line's call, over blocks of this many bits.
     pub fn answer(&mut self, line: &Line, bits: usize, words: &mut Vec<usize>) {
         let (first, second) = (line.first, line.second);
         match line.call {
@@ -201,7 +202,7 @@ impl Sides {
     }
 }
 
-/// A wrong answer of the model, for the self test: each is to be seen.
+/// A wrong result of the model, for the self test: each must be detected.
 pub struct Bend {
     pub name: &'static str,
     pub call: Call,
@@ -216,7 +217,7 @@ impl Bend {
     }
 }
 
-/// Changes the row that the call of a line writes, where there is one.
+/// Changes the row that the call of a line writes, if there is one.
 fn change(sides: &mut Sides, row: usize, change: fn(&mut BTreeSet<usize>)) {
     sides.matrix.rows.get_mut(row).into_iter().for_each(change);
 }
@@ -294,7 +295,7 @@ pub static BENDS: [Bend; 10] = [
     Bend { name: "the text has no line for the last row", call: Call::Display, turn: |_, _, words| _ = words.pop() },
 ];
 
-/// A length that lies about a block's end most often.
+/// A length, most often near the end of a block.
 pub fn length(random: &mut Random, most: usize) -> usize {
     let length = match random.below(3) {
         0 => random.of(&[0, 1, 7, 8, 9, 31, 32, 33, 63, 64, 65, 127, 128, 129, 255, 256, 257]),

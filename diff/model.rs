@@ -1,4 +1,4 @@
-//! The plain slow side: a `BTreeSet` and a length. It has each call, as this library documents it.
+//! The plain slow model: a `BTreeSet` and a length. It has each call, as this library documents it.
 use crate::calls::{Call, Line};
 use crate::model_walks::{ModelBlocks, ModelMissing, ModelWalk};
 use crate::sides::{BlockWalk, Refused, Set, Walk};
@@ -12,7 +12,7 @@ thread_local! {
     static WIDTH: Cell<usize> = const { Cell::new(32) };
 }
 
-/// How many bits a block has in the scripts that follow.
+/// Sets the number of bits in a block for the scripts that follow.
 pub fn set_width(bits: usize) {
     WIDTH.set(bits);
 }
@@ -55,7 +55,7 @@ impl Model {
         Ok(true)
     }
 
-    /// Puts each number of a range in, or takes it out where it is in and that is asked for.
+    /// Inserts each number of a range, or removes it if it is present and that is asked for.
     fn turn_range(&mut self, from: usize, to: usize, takes_out: bool) {
         for number in from..to {
             if !self.elements.insert(number) && takes_out {
@@ -75,7 +75,7 @@ impl Model {
         self.elements.range(from..to.max(from))
     }
 
-    /// Fails where an element would pass the greatest.
+    /// Fails if an element would pass the greatest.
     fn shift_up(&mut self, distance: usize) -> Result<(), Refused> {
         let Some(last) = self.elements.last() else { return Ok(()) };
         let top = last.checked_add(distance).filter(|top| *top < usize::MAX).ok_or(Refused)?;
@@ -100,7 +100,7 @@ impl Model {
         self.len = self.elements.last().map_or(0, |last| (last / width() + 1) * width());
     }
 
-    /// The elements of both sets, those that a call keeps.
+    /// The elements of either set that a call keeps.
     fn merge(&mut self, call: Call, other: &Model) {
         let (one, two) = (&self.elements, &other.elements);
         self.elements = match call {
@@ -123,7 +123,7 @@ impl Model {
         self.len += count;
     }
 
-    /// The values as digits, with a space between those of one block and the next where that is wanted.
+    /// The values as digits, with a space between blocks if that is asked for.
     pub fn digits(&self, between: &str) -> String {
         let mut text = String::new();
         for place in 0..self.len {

@@ -1,10 +1,11 @@
-//! The walks of the plain slow side, with the bounds that this library documents.
+//! The walks of the plain slow model, with the bounds that this library documents.
 use crate::model::width;
 use crate::sides::{BlockWalk, Walk};
 use std::collections::BTreeSet;
 
-/// A walk over the items of a list. Its upper bound is that of the blocks from the one in hand on: at first the first
-/// block or that of the number it begins at, after an item the one with that item, and at the end the last; or what it may give at most.
+/// A walk over the items of a list. Its upper bound is `most`, or else the bits of the blocks from the current one on:
+/// at first the first block or that of the number at which it begins, after an item that of the item, and at the end
+/// the last.
 #[derive(Clone)]
 pub struct ModelWalk {
     pub items: std::rc::Rc<[usize]>,
@@ -37,8 +38,8 @@ impl Walk for ModelWalk {
     }
 }
 
-/// A walk over the numbers from `at` on and below `end` that are no elements. Its upper bound is how far the end is past the
-/// first number of the block in hand: that of the last item, or at the end the last block of the range.
+/// A walk over the absent numbers from `at` on and below `end`. Its upper bound is the distance of the end from the
+/// first number of the current block: that of the last item or, at the end, the last block of the range.
 #[derive(Clone)]
 pub struct ModelMissing<'a> {
     pub elements: &'a BTreeSet<usize>,

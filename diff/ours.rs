@@ -6,8 +6,8 @@ unsafe extern "C" {
     fn diff_run_matrices(bits: usize, script: *const usize, n: usize, places: *mut usize, m: usize) -> usize;
 }
 
-/// What the calls of a script return, and the blocks of all sets at the end; nothing where memory is refused. The bits
-/// are those of a block, or 0 for `usize`. What is in `places` is written over.
+/// Runs a script, which replaces `places` by the results of its calls and the blocks of all sets at the end. Returns
+/// false if memory runs out. The bits are those of a block, or 0 for `usize`.
 pub fn run(bits: usize, lines: &[Line], places: &mut Vec<usize>) -> bool {
     let mut script = Vec::new();
     for line in lines {
@@ -16,7 +16,7 @@ pub fn run(bits: usize, lines: &[Line], places: &mut Vec<usize>) -> bool {
     run_words(diff_run, bits, &script, places)
 }
 
-/// The same of the words of a script on matrices.
+/// The same for a script on matrices.
 pub fn run_matrices(bits: usize, script: &[usize], places: &mut Vec<usize>) -> bool {
     run_words(diff_run_matrices, bits, script, places)
 }

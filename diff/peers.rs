@@ -1,5 +1,5 @@
-//! The Rust crates' side: `bit-set` 0.5.2 over `bit-vec` 0.6.3. The calls that they lack are lines of the table in
-//! `departures.rs`, and do not come here.
+//! The Rust crates' side: `bit-set` 0.5.2 over `bit-vec` 0.6.3. Calls that they lack are lines of the table in
+//! `departures.rs`, and do not reach this file.
 use crate::calls::{Call, Line};
 use crate::model::Model;
 use crate::sides::{BlockWalk, Refused, Set, Walk};
@@ -7,16 +7,16 @@ use bit_set::BitSet;
 use bit_vec::{BitBlock, BitVec};
 use std::mem::take;
 
-/// A type of blocks that the peers have.
+/// A block type of the peers.
 pub trait Block: BitBlock + 'static {
     fn number(self) -> u128;
 
-    /// What stands at `u32` alone: `None` elsewhere.
+    /// What exists only for `u32`; `None` for others.
     fn made(_line: &Line) -> Option<BitSet<Self>> {
         None
     }
 
-    /// The set of a bit vector: a call at `u32`, and elsewhere element by element.
+    /// The set of a bit vector: a call for `u32`, and element by element for others.
     fn joined(bits: BitVec<Self>) -> BitSet<Self> {
         let mut set = BitSet::default();
         if let Some(last) = bits.len().checked_sub(1) {
@@ -84,7 +84,7 @@ impl<B: Block> Clone for Peer<B> {
 }
 
 impl<B: Block> Peer<B> {
-    /// The set that the model has.
+    /// The set of the model.
     pub fn of(model: &Model) -> Self {
         let mut bits = BitVec::<B>::default();
         bits.grow(model.len, false);
@@ -98,7 +98,7 @@ impl<B: Block> Peer<B> {
         self.0.get_ref()
     }
 
-    /// What `get_mut` lends in later releases: this one has `into_bit_vec` alone.
+    /// What later releases lend by `get_mut`: this one has only `into_bit_vec`.
     fn edit(&mut self, change: impl FnOnce(&mut BitVec<B>)) {
         let mut bits = take(&mut self.0).into_bit_vec();
         change(&mut bits);

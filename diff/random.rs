@@ -1,4 +1,4 @@
-//! Numbers drawn at random, the same for the same seed.
+//! Random numbers, the same for the same seed.
 
 /// A generator by the method splitmix64.
 pub struct Random(u64);
@@ -21,7 +21,7 @@ impl Random {
         (self.next() % bound.max(1) as u64) as usize
     }
 
-    /// True once in `times` draws.
+    /// True once in `times` draws on average.
     pub fn once_in(&mut self, times: usize) -> bool {
         self.below(times) == 0
     }

@@ -1,14 +1,14 @@
-//! Makes a script that differs as short as it gets.
+//! Shortens a script whose sides differ.
 use crate::calls::Line;
 use crate::compare::{Difference, Sides};
 
-/// Whether these lines differ.
+/// Where the sides of these lines differ, if they do.
 pub fn difference(sides: &mut Sides, script: &[Line]) -> Option<Difference> {
     let mut rest = script.iter();
     sides.differ(&mut Vec::new(), |_| rest.next().cloned())
 }
 
-/// The shortest of the scripts that are met by leaving lines out and by making numbers less, one after another.
+/// The shortest script found by leaving out lines and decreasing numbers, one after another.
 pub fn shortest(sides: &mut Sides, mut script: Vec<Line>) -> Vec<Line> {
     loop {
         let before = script.clone();
@@ -26,7 +26,7 @@ pub fn shortest(sides: &mut Sides, mut script: Vec<Line>) -> Vec<Line> {
     }
 }
 
-/// Leaves out each run of so many lines without which the sides still differ.
+/// Leaves out each piece of this many lines without which the sides still differ.
 fn without_pieces(sides: &mut Sides, script: &mut Vec<Line>, piece: usize) {
     let mut begin = script.len();
     while begin > 0 {
@@ -40,7 +40,7 @@ fn without_pieces(sides: &mut Sides, script: &mut Vec<Line>, piece: usize) {
     }
 }
 
-/// Makes the numbers of a line less, and its lists shorter, where the sides still differ.
+/// Decreases the numbers of a line, and shortens its lists, if the sides still differ.
 fn with_less(sides: &mut Sides, script: &mut [Line], place: usize) {
     for less in lesser(&script[place]) {
         let old = std::mem::replace(&mut script[place], less);
@@ -52,7 +52,7 @@ fn with_less(sides: &mut Sides, script: &mut [Line], place: usize) {
     }
 }
 
-/// Lines that are a little less than this one, those that are much less first.
+/// Lines that are less than this one, those that are much less first.
 fn lesser(line: &Line) -> Vec<Line> {
     let mut lines = Vec::new();
     for set in 0..line.set {

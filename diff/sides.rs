@@ -1,14 +1,14 @@
-//! What a side that is written in Rust has to offer, and how the words that a call returns are written: as in
+//! What a side written in Rust must offer, and how the results of a call are written as words: as in
 //! `crates/diff_calls`, so that they can be compared word by word.
 use crate::block_calls::look;
 use crate::calls::{Call, Group, Line};
 use crate::model::width;
 use std::hash::{Hash, Hasher};
 
-/// What stands for a refused element.
+/// Stands for an element that cannot be inserted.
 const REFUSED: usize = 2;
 
-/// An element that no length holds.
+/// An element that no length can have.
 pub struct Refused;
 
 /// A walk over elements.
@@ -19,10 +19,10 @@ pub trait Walk {
     fn count_left(&self) -> usize;
 }
 
-/// A set of one side. Each function is the call of its name; those behind `bits` are calls of the bit vector.
+/// A set of one side. Each function is the call of its name; those with `bits` are calls of the bit vector.
 pub trait Set: Sized + Ord + Hash + Clone {
     fn made(line: &Line) -> Result<Self, Refused>;
-    /// The call that makes a set of all four.
+    /// The call that makes a set from all four.
     fn gathered(call: Call, sets: &[Self; 4]) -> Self;
     fn changed(&mut self, line: &Line) -> Result<bool, Refused>;
     fn merged(&mut self, call: Call, other: &Self);
@@ -40,7 +40,7 @@ pub trait Set: Sized + Ord + Hash + Clone {
     fn is_disjoint(&self, other: &Self) -> bool;
     fn display(&self) -> String;
     fn debug(&self) -> String;
-    /// Nothing where blocks of this type have no JSON form.
+    /// `None` if blocks of this type have no JSON form.
     fn json(&self) -> Option<String>;
     fn walk<'a>(&'a self, line: &Line, other: &'a Self) -> Box<dyn Walk + 'a>;
     fn elements(&self) -> Vec<usize>;
@@ -72,7 +72,7 @@ pub trait BlockWalk {
     fn copy(&self) -> Box<dyn BlockWalk + '_>;
 }
 
-/// The words of the calls made so far.
+/// The results of the calls made so far, as words.
 #[derive(Default)]
 pub struct Answers(pub Vec<usize>);
 
@@ -127,7 +127,7 @@ impl Answers {
     }
 }
 
-/// Says how often it was fed, and a number that tells the bytes that it was fed.
+/// Counts the calls of a hasher, and has a digest of the bytes.
 #[derive(Default)]
 struct Feed {
     calls: usize,
@@ -147,7 +147,7 @@ impl Hasher for Feed {
     }
 }
 
-/// Makes the call of a line, and then says the lengths of both sets.
+/// Makes the call of a line, and then writes the lengths of both sets.
 pub fn answer<S: Set>(sets: &mut [S; 4], line: &Line, answers: &mut Answers) {
     match line.call.group() {
         _ if matches!(line.call, Call::UnionOf | Call::IntersectionOf) => {
@@ -221,7 +221,7 @@ fn move_over<S: Set>(set: &mut S, other: &mut S, line: &Line) {
     }
 }
 
-// How many elements a walk over two sets gives.
+// How many elements a walk over two sets yields.
 fn count_walked<S: Set>(set: &S, other: &S, walk: Call) -> usize {
     set.walk(&Line::new(walk, 0), other).count_left()
 }
@@ -329,7 +329,7 @@ fn walk<S: Set>(set: &S, other: &S, line: &Line, answers: &mut Answers) {
         _ => (line.first, line.second),
     };
     step(&mut *walk, steps, answers);
-    // A copy borrows what it is a copy of: so the walk that goes on is a copy too.
+    // A copy borrows its original: so the walk that continues is a copy too.
     let (mut on, mut copy) = (walk.copy(), walk.copy());
     step(&mut *on, further, answers);
     answers.number(on.count_left());
@@ -340,7 +340,7 @@ fn walk<S: Set>(set: &S, other: &S, line: &Line, answers: &mut Answers) {
     answers.number(on.count_left());
 }
 
-/// Whether a step takes of the front: a digit of a number says it of each.
+/// Whether a step takes from the front: there is a bit of `ends` for each.
 pub fn is_front(ends: usize, step: usize) -> bool {
     ends >> (step % 64) & 1 == 1
 }
@@ -349,7 +349,7 @@ pub fn take_of<T>(left: &mut std::collections::VecDeque<T>, front: bool) -> Opti
     if front { left.pop_front() } else { left.pop_back() }
 }
 
-/// The elements from both ends. The bound is that of the blocks from the one in hand at the front to the one at the back.
+/// The elements from both ends. The bound is that of the blocks from the current one at the front to that at the back.
 fn iter_ends<S: Set>(set: &S, line: &Line, answers: &mut Answers) {
     take_ends(set.elements(), (0, last_block(set)), (line.first, line.second), answers);
 }
@@ -358,7 +358,8 @@ fn last_block<S: Set>(set: &S) -> usize {
     set.bits_len().div_ceil(width()).max(1) - 1
 }
 
-/// The elements of a range: at its ends, and then from both. The last block in hand is the one in which the range ends.
+/// The elements of a range: those at its ends, and then from both ends. The last block is the one in which the range
+/// ends.
 fn range<S: Set>(set: &S, line: &Line, answers: &mut Answers) {
     let among = |element: &usize| line.first <= *element && *element < line.second;
     let elements: Vec<usize> = set.elements().into_iter().filter(among).collect();

@@ -1,10 +1,10 @@
-//! Wrong calls of CRoaring's side, for the self test: each is to be seen.
+//! Wrong calls on CRoaring's side, for the self test: each must be detected.
 use crate::calls::{Call, Line};
 use crate::croaring::Set;
 use crate::sides::{digest_of, digest_of_walk};
 use crate::walks::{digest_of_steps, numbers_between};
 
-/// What a wrong call gets wrong, of its set after the call, beside the second one, and of what was returned.
+/// Makes the set after the call, or its result, wrong; the second set is passed too.
 type Turn = fn(&Line, &mut Set, &Set, &mut usize);
 
 pub struct Bend {
@@ -18,7 +18,7 @@ fn low(number: u32) -> u32 {
     number % 65_536
 }
 
-/// The first member in another container than the least.
+/// The first member that is in a later container than the least.
 fn past_container(set: &Set) -> Option<u32> {
     let key = set.min()? / 65_536;
     set.numbers().into_iter().find(|number| number / 65_536 != key)

@@ -1,9 +1,9 @@
 //! The calls of a script on Roaring bitmaps, and a line that makes one.
 use crate::croaring::Merge;
 
-/// Defines the calls in the order of their numbers, which is that of `crates/roaring_calls`. A form says what follows the
-/// name in a line: `s`, `t` and `u` three sets, `n` and `m` two numbers, `c` a count, which of a call on bytes is 1 where
-/// containers have the form of the fewest bytes, and 0 where none is of runs.
+/// Defines the calls in the order of their numbers, which is that of `crates/roaring_calls`. A form lists the arguments
+/// after the name in a line: `s`, `t` and `u` three sets, `n` and `m` two numbers, `c` a count. For a call on bytes it
+/// is 1 if each container has the form of the fewest bytes, and 0 if none is of runs.
 macro_rules! calls {
     ($($call:ident $name:literal $form:literal)*) => {
         #[derive(Clone, Copy, PartialEq, Debug)]
@@ -68,13 +68,13 @@ calls! {
 }
 
 impl Call {
-    /// The name of the call, and what follows it in a line.
+    /// The name of the call, and its arguments in a line.
     fn entry(self) -> (&'static str, &'static str) {
         let (_, name, form) = CALLS[self as usize];
         (name, form)
     }
 
-    /// Which of the four operations the call is of, where it is of one.
+    /// Which of the four operations the call uses, if it does.
     pub fn merge(self) -> Option<Merge> {
         Some(match self {
             Call::Union | Call::UnionWith | Call::UnionLen => Merge::Union,
@@ -87,7 +87,7 @@ impl Call {
         })
     }
 
-    /// Whether the call changes its first set by the second, which is to be another one.
+    /// Whether the call changes its first set by the second, which must be another one.
     pub fn is_in_place(self) -> bool {
         let both = [Call::UnionWith, Call::IntersectWith, Call::DifferenceWith, Call::SymmetricDifferenceWith];
         both.contains(&self)

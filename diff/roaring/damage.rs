@@ -1,5 +1,5 @@
-//! Damaged copies of good bytes: what this library takes, CRoaring takes too, with the same members. And no copy asks for
-//! more memory than a fixed multiple of its length.
+//! Damaged copies of good bytes: CRoaring must accept what this library accepts, with the same members, and no copy may
+//! request more memory than a fixed multiple of its length.
 use crate::croaring::{Calls, Set};
 use crate::memory;
 use crate::random::Random;
@@ -7,13 +7,13 @@ use crate::sides::digest_of_walk;
 use std::ops::Range;
 use std::time::Instant;
 
-/// How many times its length a copy may ask for.
+/// How many times its length a copy may request.
 const MULTIPLE: usize = 11;
 
-/// For how many bytes a reader is asked at once, at most.
+/// The most bytes that a reader is asked for at once.
 const PIECE: usize = 8_192;
 
-/// The faults by their numbers in `crates/roaring_calls`: 0 stands for none.
+/// The faults by their numbers in `crates/roaring_calls`; 0 stands for none.
 const FAULTS: [&str; 10] =
     ["taken", "Short", "Cookie", "TooMany", "Keys", "Offset", "Cardinality", "Order", "Runs", "Memory"];
 
@@ -22,15 +22,15 @@ unsafe extern "C" {
     fn roaring_read_from(bytes: *const u8, n: usize, most: usize, places: *mut usize, m: usize) -> usize;
 }
 
-/// What this library makes of bytes: the number of the fault, and how many bytes the set takes, how many members it has, and
-/// a number that tells these.
+/// This library's result for bytes: the number of the fault, how many bytes the set takes, how many members it has, and
+/// a digest of these.
 pub fn read(bytes: &[u8]) -> (usize, [usize; 3]) {
     let mut words = [0; 3];
     let fault = unsafe { roaring_read(bytes.as_ptr(), bytes.len(), words.as_mut_ptr(), words.len()) };
     (fault, words)
 }
 
-/// The same where they come in pieces of at most so many.
+/// The same if the bytes come in pieces of at most this many.
 fn read_from(bytes: &[u8], most: usize) -> (usize, [usize; 3]) {
     let mut words = [0; 3];
     let fault = unsafe { roaring_read_from(bytes.as_ptr(), bytes.len(), most, words.as_mut_ptr(), words.len()) };
@@ -41,7 +41,7 @@ pub fn name_of(fault: usize) -> &'static str {
     FAULTS.get(fault).copied().unwrap_or("?")
 }
 
-/// What is wrong with how a copy was taken.
+/// What is wrong with the result for a copy, if anything.
 fn wrong(calls: &Calls, bytes: &[u8], words: &[usize; 3]) -> Option<&'static str> {
     let Some((set, len)) = Set::of_bytes(calls, bytes) else { return Some("CRoaring takes no set") };
     if len != words[0] {
@@ -67,7 +67,7 @@ fn good_set<'a>(calls: &'a Calls, random: &mut Random) -> Set<'a> {
     set
 }
 
-/// A part of the bytes, mostly a short one near the front, where the head stands.
+/// A part of the bytes, usually a short one near the front, where the header is.
 fn part(random: &mut Random, len: usize) -> Range<usize> {
     let most = if random.once_in(2) { len.min(64) } else { len };
     let start = random.below(most);
@@ -75,7 +75,7 @@ fn part(random: &mut Random, len: usize) -> Range<usize> {
     start..(start + count).min(len)
 }
 
-/// Damages bytes in one way or another. There are some.
+/// Damages bytes, which must not be empty, in one of several ways.
 fn damage(random: &mut Random, bytes: &mut Vec<u8>) {
     let len = bytes.len();
     match random.below(8) {
@@ -109,14 +109,14 @@ fn damage(random: &mut Random, bytes: &mut Vec<u8>) {
     }
 }
 
-/// What damaged copies came to.
+/// The results for damaged copies.
 struct Tally {
     of_faults: [usize; FAULTS.len()],
-    /// How many copies were not the good bytes any more and were taken.
+    /// How many copies differed from the good bytes and were accepted.
     changed: usize,
-    /// The most memory that was asked for, as a multiple of the length.
+    /// The most memory requested, as a multiple of the length.
     most: f64,
-    /// The same of a reader, without its first piece.
+    /// The same for a reader, without its first piece.
     most_in_pieces: f64,
     wrong: usize,
 }
@@ -144,7 +144,7 @@ fn try_copy(calls: &Calls, good: &[u8], bytes: &[u8], tally: &mut Tally) {
     }
 }
 
-/// Reads so many damaged copies. Whether all were taken as they may be.
+/// Reads this many damaged copies. Returns whether all results were allowed.
 pub fn run(calls: &Calls, copies: usize, seed: u64) -> bool {
     let start = Instant::now();
     let mut random = Random::new(seed);

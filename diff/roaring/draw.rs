@@ -1,5 +1,5 @@
-//! Scripts drawn at random. Each has keys of its own, in which most of its numbers lie, and sets that are random, clustered,
-//! dense and of runs.
+//! Random scripts. Each has its own keys, in which most of its numbers lie, and sets that are random, clustered, dense
+//! and of runs.
 use crate::calls::{CALLS, Call, Line};
 use crate::croaring::Set;
 use crate::random::Random;
@@ -7,17 +7,17 @@ use crate::random::Random;
 /// How many lines a script has. The last one writes bytes.
 pub const LINES: usize = 1_000;
 
-/// A set of more members is emptied now and then.
+/// Sets with more members are emptied occasionally.
 const MOST: u64 = 300_000;
 
-/// A bit set is made of numbers below this one: it takes memory for all of them.
+/// A bit set is made only of numbers below this one, since it takes memory for all of them.
 const GREATEST: usize = 100_000_000;
 
 pub struct Draw {
     random: Random,
     lines_left: usize,
     keys: Vec<usize>,
-    /// How many numbers a call puts in at most.
+    /// The most numbers that a call inserts.
     most: usize,
 }
 
@@ -32,7 +32,7 @@ impl Draw {
         Draw { random, lines_left: lines, keys, most }
     }
 
-    /// The next line of the script, by what the sets have.
+    /// The next line of the script, given the sets at that point.
     pub fn line(&mut self, sets: &[Set; 4]) -> Option<Line> {
         self.lines_left = self.lines_left.checked_sub(1)?;
         let set = self.random.below(4);
@@ -52,14 +52,14 @@ impl Draw {
         Some(line)
     }
 
-    /// A call: those that put numbers in and merge in place more often, and what empties a set less.
+    /// A call. Those that insert numbers and merge in place are more frequent, and those that empty a set less.
     fn call(&mut self) -> Call {
         let often = [Call::Insert, Call::Remove, Call::Spread, Call::Scatter, Call::Erase, Call::UnionWith];
         loop {
             let call = if self.random.once_in(3) { self.random.of(&often) } else { self.random.of(CALLS).0 };
             let is_rare = match call {
                 Call::Clear | Call::Intersection | Call::IntersectWith | Call::Clone => true,
-                // Numbers by the thousand take longer than the rest together.
+                // Thousands of numbers take longer than all other calls together.
                 Call::Spread | Call::Scatter | Call::Erase | Call::Append | Call::Extend => self.most > 1_000,
                 Call::FromIter | Call::FromSortedIter => true,
                 _ => false,
@@ -122,26 +122,26 @@ impl Draw {
         }
     }
 
-    /// A range, which may be empty or go past all numbers.
+    /// A range, which may be empty or pass all numbers.
     fn range(&mut self, line: &mut Line, set: &Set) {
         line.first = self.number(set);
         let ends = [line.first + self.random.below(300), self.number(set), 1 << 32, line.first];
         line.second = self.random.of(&ends);
     }
 
-    /// How many steps of a walk from both ends.
+    /// The number of steps of a walk from both ends.
     fn steps(&mut self) -> usize {
         let most = self.random.of(&[7, 40, 400]);
         self.random.below(most)
     }
 
-    /// How many numbers: few, near what a list can have, or any number up to the most.
+    /// How many numbers: few, about as many as a list can have, or up to the most.
     fn count(&mut self, most: usize) -> usize {
         let choices = [1 + self.random.below(9), 4_090 + self.random.below(12), self.random.below(most + 1)];
         self.random.of(&choices).min(most)
     }
 
-    /// A member or one beside it, the edge of a container, or any number with one of the keys, or any at all.
+    /// A member or a number beside one, the edge of a container, any number with one of the keys, or any at all.
     fn number(&mut self, set: &Set) -> usize {
         let key = self.random.below(self.keys.len());
         let start = 65_536 * self.keys[key];

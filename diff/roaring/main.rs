@@ -1,5 +1,5 @@
-//! Makes random calls of this repository's Roaring bitmaps and of CRoaring, and compares what each returns and the bytes
-//! that both write and read.
+//! Makes random calls of this repository's Roaring bitmaps and of CRoaring, and compares the result of each and the
+//! bytes that both write and read.
 mod bends;
 mod calls;
 mod croaring;
@@ -65,7 +65,7 @@ fn misused() -> ExitCode {
     ExitCode::from(2)
 }
 
-/// Runs scripts until so many calls were made, or the sides of one differ: then that script.
+/// Runs scripts until this many calls were made, or the sides of one differ: then returns that script.
 fn search(
     calls: &Calls,
     count: usize,
@@ -131,7 +131,7 @@ fn show(calls: &Calls, script: &[Line]) {
     }
 }
 
-/// Runs the lines of a file: whether the sides agree, or `None` where it is no script.
+/// Runs the lines of a file. Returns whether the sides agree, or `None` if it is not a script.
 fn run_file(calls: &Calls, file: &str) -> Option<bool> {
     let text = std::fs::read_to_string(file).ok()?;
     let lines = text.lines().filter(|line| !line.trim().is_empty() && !line.starts_with('#'));
@@ -140,7 +140,7 @@ fn run_file(calls: &Calls, file: &str) -> Option<bool> {
     Some(of_lines(calls, None, &script).is_none())
 }
 
-/// Whether each bend is seen, and how.
+/// Whether each wrong call is detected; prints how.
 fn self_test(calls: &Calls) -> bool {
     let mut seen = 0;
     for bend in &BENDS {

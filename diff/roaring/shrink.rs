@@ -1,7 +1,7 @@
-//! Makes a script that differs as short as it gets.
+//! Shortens a script whose sides differ.
 use crate::calls::Line;
 
-/// The shortest of the scripts that are met by leaving lines out and by making counts less, one after another.
+/// The shortest script found by leaving out lines and decreasing counts, one after another.
 pub fn shortest(mut script: Vec<Line>, differs: impl Fn(&[Line]) -> bool) -> Vec<Line> {
     loop {
         let before = script.clone();
@@ -25,7 +25,7 @@ pub fn shortest(mut script: Vec<Line>, differs: impl Fn(&[Line]) -> bool) -> Vec
     }
 }
 
-/// Makes the count of a line less where the script still differs.
+/// Decreases the count of a line if the script still differs.
 fn with_less(script: &mut [Line], place: usize, differs: impl Fn(&[Line]) -> bool) {
     let count = script[place].count;
     for less in [0, count / 2, count - count / 8, count.saturating_sub(1)] {

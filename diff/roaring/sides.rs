@@ -17,10 +17,10 @@ unsafe extern "C" {
     ) -> usize;
 }
 
-/// What a call returns, and how many members its set then has.
+/// The result of a call, and how many members its set then has.
 pub type Words = [usize; 2];
 
-/// What stands for a call that would change a set by itself.
+/// Stands for a call that would change a set by itself.
 const LEFT_OUT: usize = 7;
 
 /// Where the sides differ.
@@ -35,7 +35,7 @@ pub struct Difference {
 pub struct Peer<'a> {
     calls: &'a Calls,
     pub sets: [Set<'a>; 4],
-    /// The bytes that this library is to read, and those of the set that was written last.
+    /// The bytes that this library reads, and those of the set that was written last.
     input: Vec<u8>,
     written: Option<(usize, Vec<u8>)>,
 }
@@ -45,23 +45,23 @@ pub fn of_item(item: Option<u32>) -> usize {
     item.map_or(0, |number| number as usize + 1)
 }
 
-/// A number that tells a list of numbers.
+/// A digest of a list of numbers.
 pub fn digest_of(start: usize, numbers: impl Iterator<Item = usize>) -> usize {
     numbers.fold(start, |digest, number| digest.wrapping_mul(1_099_511_628_211).wrapping_add(number))
 }
 
-/// A number that tells what so many steps of a walk give.
+/// A digest of the results of this many steps of a walk.
 pub fn digest_of_walk(numbers: &[u32], steps: usize) -> usize {
     let items = numbers.iter().map(|number| of_item(Some(*number)));
     digest_of(0, items.chain(std::iter::repeat(0)).take(steps))
 }
 
-/// A step of the generator of random numbers that this library's side has too.
+/// A step of the random number generator, which this library's side has too.
 pub fn next_state(state: u64) -> u64 {
     state.wrapping_mul(6_364_136_223_846_793_005).wrapping_add(1_442_695_040_888_963_407)
 }
 
-/// The numbers of a line that puts in or takes out many.
+/// The numbers of a line that inserts or removes many.
 fn numbers_of(line: &Line) -> Vec<u32> {
     if line.call != Call::Scatter {
         let number = |turn: usize| (line.first as u32).wrapping_add((line.second as u32).wrapping_mul(turn as u32));
@@ -83,8 +83,8 @@ impl<'a> Peer<'a> {
         Peer { calls, sets: [set(), set(), set(), set()], input: Vec::new(), written: None }
     }
 
-    /// The bytes of a set in the form of the line. CRoaring finds the fewest bytes of lists and blocks, and leaves some runs that
-    /// have more.
+    /// The bytes of a set in the form of the line. CRoaring chooses the shorter of lists and blocks, but keeps some
+    /// runs that have more bytes.
     fn bytes(&self, set: usize, line: &Line) -> Vec<u8> {
         let mut copy = self.sets[set].clone();
         copy.remove_runs();
@@ -94,7 +94,7 @@ impl<'a> Peer<'a> {
         copy.bytes()
     }
 
-    /// Makes the call of a line. One that reads bytes is told where they stand.
+    /// Makes the call of a line. In a line that reads bytes it stores their place.
     fn call(&mut self, line: &mut Line, bend: Option<&Bend>) -> Words {
         let mut returned = match line.call {
             Call::Deserialize | Call::DeserializeFrom => self.read(line),
@@ -152,8 +152,8 @@ impl<'a> Peer<'a> {
         usize::from(self.sets[line.set] != before)
     }
 
-    /// A call by items. Those of `append` go in up to the first that is not above the ones before, and a set of sorted items is
-    /// made where all are.
+    /// A call by items. Those of `append` are inserted up to the first that is not above the ones before; a set of
+    /// sorted items is made only if all are.
     fn change_by_items(&mut self, line: &Line) -> usize {
         let numbers = numbers_of(line);
         let set = &mut self.sets[line.set];
@@ -179,7 +179,7 @@ impl<'a> Peer<'a> {
         }
     }
 
-    /// A call that changes one set by numbers: `None` where the line's is another one.
+    /// A call that changes one set by numbers; `None` if the line is of another call.
     fn change(&mut self, line: &Line) -> Option<usize> {
         let set = &mut self.sets[line.set];
         let number = line.first as u32;
@@ -240,7 +240,7 @@ impl<'a> Peer<'a> {
     }
 }
 
-/// What this library returns for each call, and the bytes that it wrote last, of which there are to be so many.
+/// This library's result for each call, and the bytes that it wrote last, which must be this many.
 fn ours(script: &[Line], input: &[u8], bytes: usize) -> (Vec<Words>, Vec<u8>) {
     let words: Vec<usize> = script.iter().flat_map(Line::words).collect();
     let mut places: Vec<Words> = vec![[0; 2]; script.len()];
@@ -261,7 +261,7 @@ fn ours(script: &[Line], input: &[u8], bytes: usize) -> (Vec<Words>, Vec<u8>) {
     (places, out)
 }
 
-/// Runs the lines that `next` gives, each by what CRoaring's sets then have. They are left in `lines`.
+/// Runs the lines that `next` returns, given CRoaring's sets at that point. They are left in `lines`.
 pub fn differ(
     calls: &Calls,
     bend: Option<&Bend>,
@@ -285,8 +285,8 @@ pub fn differ(
         .map(|reason| Difference { line: lines.len(), peer: None, ours: None, reason })
 }
 
-/// Whether the bytes that were written last are the same, and CRoaring reads this library's as the same set. The set is
-/// to be the one of the last line.
+/// Compares the bytes that were written last, and reads this library's by CRoaring, which must give the same set. The
+/// set must be that of the last line.
 fn bytes_differ(calls: &Calls, peer: &Peer, lines: &[Line], out: &[u8]) -> Option<&'static str> {
     let (set, bytes) = peer.written.as_ref()?;
     if lines.last()?.call != Call::Serialize {

@@ -1,9 +1,9 @@
-//! Walks from both ends, of the members that CRoaring gives. Its own walks are moved forward to a number, and have one end.
+//! Walks from both ends, over the members that CRoaring returns. Its own iterators only move forward.
 use crate::calls::Line;
 use crate::croaring::Set;
 use crate::sides::{digest_of, next_state, of_item};
 
-/// What is left of a walk, with the number that each end gave last, or was advanced to.
+/// The rest of a walk, with the number that each end returned last, or was advanced to.
 struct Walk<'a> {
     set: &'a Set<'a>,
     left: &'a [u32],
@@ -12,7 +12,7 @@ struct Walk<'a> {
 }
 
 impl Walk<'_> {
-    /// Makes the step that a word tells, as `crates/roaring_calls` does, and returns what it gives.
+    /// Makes the step that a word encodes, as `crates/roaring_calls` does, and returns its result.
     fn step(&mut self, word: u64) -> Option<u32> {
         let offset = ((word >> 10) & ((1 << ((word >> 4) % 20)) - 1)) as u32;
         match word % 5 {
@@ -32,7 +32,7 @@ impl Walk<'_> {
         }
     }
 
-    /// Passes so many members, and gives the next one.
+    /// Skips this many members, and returns the next one.
     fn next(&mut self, passed: usize) -> Option<u32> {
         self.left = self.left.get(passed..).unwrap_or_default();
         let first = *self.left.split_off_first()?;
@@ -46,7 +46,7 @@ impl Walk<'_> {
         Some(last)
     }
 
-    /// Passes the members before the one to which CRoaring's walk is moved.
+    /// Skips the members before the one to which CRoaring's iterator is moved.
     fn advance(&mut self) {
         let first = self.set.first_from(self.front);
         let passed = first.map_or(self.left.len(), |first| self.left.partition_point(|number| *number < first));
@@ -54,7 +54,7 @@ impl Walk<'_> {
     }
 }
 
-/// A number that tells what the steps of a line give, in a walk over some members.
+/// A digest of the results of a line's steps, in a walk over some members.
 pub fn digest_of_steps(set: &Set, members: &[u32], line: &Line) -> usize {
     let mut walk = Walk { set, left: members, front: 0, back: u32::MAX };
     let mut state = line.first.wrapping_add(line.second) as u64;
