@@ -2,7 +2,7 @@
 //! table of it:
 //!
 //! - `work`: calls on sets and bit vectors;
-//! - `calls`: those on one number alone;
+//! - `calls`: only those on one number;
 //! - `users`: libraries that use this one, beside the same loops over the sets of those crates;
 //! - `widths`: this library over three types of blocks;
 //! - `instructions`: calls on small sets, by their instructions;

@@ -1,5 +1,5 @@
 //! Runs scripts of random calls on this library, on the Rust crates `bit-set` and `bit-vec`, and on a plain slow
-//! model, and compares what every call returns. Scripts on matrices go by a model alone.
+//! model, and compares what every call returns. Scripts on matrices are compared only with a model.
 mod bends;
 mod block_calls;
 mod calls;

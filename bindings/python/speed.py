@@ -70,7 +70,7 @@ def beside_sets(numbers, halves):
         row(f"add, of {what}", lambda: add_each(BitSet, members), lambda: add_each(set, members))
         row(f"from a list of {what}", lambda: BitSet(members), lambda: set(members))
         row(f"a walk over {what}", lambda: walk(x), lambda: walk(y))
-    # A range makes each int anew too.
+    # A range also makes each int.
     whole = set(ascending)
     row("a walk over a range of 0, 1, 2, ..", lambda: walk(range(LIMIT)), lambda: walk(whole))
 
