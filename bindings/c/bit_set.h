@@ -220,15 +220,15 @@ size_t bit_set_count_in_range(const bit_set *set, size_t start, size_t end) BIT_
 
 /* ---- Copies. One step for each value that is copied; a search for members uses the summary. */
 
-/* Copies the members that are `from` or above, in ascending order, as many as there is room for. Returns how many; the
- * values past these stay. To continue, pass the last one plus 1. */
+/* Copies the members at or above `from`, in ascending order, at most `room` of them. Returns how many; later values are
+ * unchanged. To continue, pass the last one plus 1. */
 size_t bit_set_copy_members(const bit_set *set, size_t from, size_t *members, size_t room) BIT_SET_CALL;
 
-/* Copies the members below `end`, in descending order, as many as there is room for. Returns how many; the values past
- * these stay. To continue, pass the last one. */
+/* Copies the members below `end`, in descending order, at most `room` of them. Returns how many; later values are
+ * unchanged. To continue, pass the last one. */
 size_t bit_set_copy_members_back(const bit_set *set, size_t end, size_t *members, size_t room) BIT_SET_CALL;
 
-/* Copies the bytes from byte `from` on, as many as there is room for. Returns how many; the values past these stay. There
+/* Copies the bytes from byte `from` on, at most `room` of them. Returns how many; later values are unchanged. There
  * is a bit for each number below the length, and zeros up to the end of the last byte: number n is a member if bit n % 8
  * of byte n / 8, counted from the highest, is 1. From all bytes `bit_set_from_bytes` makes a set of the same members. */
 size_t bit_set_copy_bytes(const bit_set *set, size_t from, uint8_t *bytes, size_t room) BIT_SET_CALL;
@@ -236,7 +236,7 @@ size_t bit_set_copy_bytes(const bit_set *set, size_t from, uint8_t *bytes, size_
 /* The same bytes with bit n % 8 counted from the lowest, as `bit_set_from_bytes_lsb` reads them. */
 size_t bit_set_copy_bytes_lsb(const bit_set *set, size_t from, uint8_t *bytes, size_t room) BIT_SET_CALL;
 
-/* Copies the blocks from block `from` on, as many as there is room for. Returns how many; the values past these stay.
+/* Copies the blocks from block `from` on, at most `room` of them. Returns how many; later values are unchanged.
  * Number n is a member if bit n % 64, counted from the lowest, of block n / 64 is 1; none is past the last block. */
 size_t bit_set_copy_blocks(const bit_set *set, size_t from, bit_set_block *blocks, size_t room) BIT_SET_CALL;
 
@@ -431,7 +431,7 @@ size_t bit_matrix_next(const bit_matrix *matrix, size_t row, size_t from) BIT_SE
 
 /* ---- Whole rows. `row`, `read` and `write` may be the same row. */
 
-/* Copies the columns of the row that are `from` or above, as `bit_set_copy_members` does for a set. */
+/* Copies the columns of the row at or above `from`, as `bit_set_copy_members` does for a set. */
 size_t bit_matrix_copy_members(const bit_matrix *matrix, size_t row, size_t from, size_t *columns, size_t room)
     BIT_SET_CALL;
 
@@ -444,7 +444,7 @@ size_t bit_matrix_copy_blocks(const bit_matrix *matrix, size_t row, size_t from,
 bool bit_matrix_is_subset_row(const bit_matrix *matrix, size_t row, size_t other) BIT_SET_CALL;
 bool bit_matrix_is_disjoint_row(const bit_matrix *matrix, size_t row, size_t other) BIT_SET_CALL;
 
-/* Set the row `write` to what is in it or in the row `read`, in both, or only in it. Each returns whether that changed
+/* Set the row `write` to the columns in it or in the row `read`, in both, or only in it. Each returns whether that changed
  * it. */
 bool bit_matrix_union_rows(bit_matrix *matrix, size_t read, size_t write) BIT_SET_CALL;
 bool bit_matrix_intersect_rows(bit_matrix *matrix, size_t read, size_t write) BIT_SET_CALL;
