@@ -19,15 +19,15 @@ impl fmt::Write for Sink {
     }
 }
 
-#[derive(Clone, Copy)]
-enum Text {
+/// Display of a set, and Debug of it and of its bit vector.
+pub enum Text {
     Set,
     SetDebug,
     BitsDebug,
 }
 
 // Writes the text to what takes this many pieces. How many it was offered, and whether the writing failed.
-fn offered<B: BitBlock>(text: Text, set: &BitSet<B>, most: usize) -> (usize, bool) {
+fn offered<B: BitBlock>(text: &Text, set: &BitSet<B>, most: usize) -> (usize, bool) {
     let mut sink = Sink { most, offered: 0 };
     let ended = match text {
         Text::Set => fmt::Write::write_fmt(&mut sink, format_args!("{set}")),
@@ -37,9 +37,9 @@ fn offered<B: BitBlock>(text: Text, set: &BitSet<B>, most: usize) -> (usize, boo
     (sink.offered, ended.is_err())
 }
 
-// How many pieces the text has, where its writing fails exactly if the sink does: at the first piece that is one
-// too many, which is the last that it is offered. 0 where that is not so.
-fn pieces<B: BitBlock>(text: Text, set: &BitSet<B>) -> usize {
+/// How many pieces the text has, where its writing fails exactly if the sink does: at the first piece that is one
+/// too many, which is the last that it is offered. 0 where that is not so.
+pub fn pieces<B: BitBlock>(text: &Text, set: &BitSet<B>) -> usize {
     let (count, failed) = offered(text, set, usize::MAX);
     let mut is_right = !failed;
     for most in 0..count {
@@ -47,17 +47,4 @@ fn pieces<B: BitBlock>(text: Text, set: &BitSet<B>) -> usize {
     }
     is_right &= offered(text, set, count) == (count, false);
     if is_right { count } else { 0 }
-}
-
-/// Whether Display of the set, and Debug of it and of its bit vector, write in pieces and each fail exactly where
-/// their formatter does.
-pub fn of_set<B: BitBlock>(set: &BitSet<B>) -> [usize; 6] {
-    [
-        usize::from(pieces(Text::Set, set) > 1),
-        usize::from(pieces(Text::SetDebug, set) > 1),
-        usize::from(pieces(Text::BitsDebug, set) > 1),
-        0,
-        0,
-        0,
-    ]
 }

@@ -2,7 +2,7 @@
 use crate::asks::Ask;
 use crate::faults::Fault;
 use crate::states::{has_just, push, works};
-use crate::sweep::{Row, Sweep, Trial};
+use crate::sweep::{Row, Trial, table};
 use bit_set::{BitBlock, BitSet, SetError};
 use dataflow::{
     DefinitionBlock, ExpressionBlock, FlowBlock, VariableBlock, available_expressions,
@@ -82,53 +82,28 @@ const CHAIN_ASKS: &[Ask] = &[
     Ask::Other(2, BLOCKS * (48 + 64)),
 ];
 
-#[derive(Clone, Copy)]
-enum Call {
+pub enum FlowCall {
     Solve,
     LiveVariables,
     ReachingDefinitions,
     AvailableExpressions,
 }
 
-const ROWS: &[Row<Call>] = &[
-    Row {
-        name: "solve",
-        asks: RING_ASKS,
-        call: Call::Solve,
-    },
-    Row {
-        name: "live_variables",
-        asks: RING_ASKS,
-        call: Call::LiveVariables,
-    },
-    Row {
-        name: "reaching_definitions",
-        asks: RING_ASKS,
-        call: Call::ReachingDefinitions,
-    },
-    Row {
-        name: "available_expressions",
-        asks: CHAIN_ASKS,
-        call: Call::AvailableExpressions,
-    },
-];
+pub const ROWS: &[Row<FlowCall>] = table! {
+    "solve", RING_ASKS, FlowCall::Solve;
+    "live_variables", RING_ASKS, FlowCall::LiveVariables;
+    "reaching_definitions", RING_ASKS, FlowCall::ReachingDefinitions;
+    "available_expressions", CHAIN_ASKS, FlowCall::AvailableExpressions;
+};
 
-impl Call {
+impl FlowCall {
     // The blocks of its problem.
-    fn blocks(self) -> &'static [Block] {
+    fn blocks(&self) -> &'static [Block] {
         match self {
-            Call::AvailableExpressions => CHAIN,
+            FlowCall::AvailableExpressions => CHAIN,
             _ => RING,
         }
     }
-}
-
-// What a block is made of.
-#[derive(Drop)]
-struct Part<B: BitBlock> {
-    sources: Vec<usize>,
-    gained: BitSet<B>,
-    lost: BitSet<B>,
 }
 
 // A set of these values, of length 5001.
@@ -138,21 +113,21 @@ fn long_set<B: BitBlock>(alloc: Global, values: &[usize]) -> Result<BitSet<B>, S
     Ok(set)
 }
 
-fn part_of<B: BitBlock>(alloc: Global, block: &Block) -> Result<Part<B>, SetError> {
+fn flow_block<B: BitBlock>(alloc: Global, block: &Block) -> Result<FlowBlock<B>, SetError> {
     let Block(sources, gained, lost, _) = block;
     let sources = sources.to_vec(alloc)?;
-    let gained = long_set(alloc, gained)?;
-    let lost = long_set(alloc, lost)?;
-    Ok(Part {
+    let generated = long_set(alloc, gained)?;
+    let killed = long_set(alloc, lost)?;
+    Ok(FlowBlock {
         sources,
-        gained,
-        lost,
+        generated,
+        killed,
     })
 }
 
-// The blocks of a call.
+/// The blocks of a call.
 #[derive(Drop)]
-enum Problem<B: BitBlock> {
+pub enum Problem<B: BitBlock> {
     Solve(Vec<FlowBlock<B>>),
     LiveVariables(Vec<VariableBlock<B>>),
     ReachingDefinitions(Vec<DefinitionBlock<B>>),
@@ -161,53 +136,53 @@ enum Problem<B: BitBlock> {
 
 impl<B: BitBlock> Problem<B> {
     // That of a call, with no blocks.
-    fn new(alloc: Global, call: Call) -> Self {
+    fn new(alloc: Global, call: &FlowCall) -> Self {
         match call {
-            Call::Solve => Problem::Solve(Vec::new(alloc)),
-            Call::LiveVariables => Problem::LiveVariables(Vec::new(alloc)),
-            Call::ReachingDefinitions => Problem::ReachingDefinitions(Vec::new(alloc)),
-            Call::AvailableExpressions => Problem::AvailableExpressions(Vec::new(alloc)),
+            FlowCall::Solve => Problem::Solve(Vec::new(alloc)),
+            FlowCall::LiveVariables => Problem::LiveVariables(Vec::new(alloc)),
+            FlowCall::ReachingDefinitions => Problem::ReachingDefinitions(Vec::new(alloc)),
+            FlowCall::AvailableExpressions => Problem::AvailableExpressions(Vec::new(alloc)),
         }
     }
 
-    // Appends a block of these parts.
-    fn append(&mut self, part: Part<B>) -> Result<(), AllocError> {
-        let Part {
+    // Appends a block, in the problem's own words.
+    fn append(&mut self, block: FlowBlock<B>) -> Result<(), AllocError> {
+        let FlowBlock {
             sources,
-            gained,
-            lost,
-        } = part;
+            generated,
+            killed,
+        } = block;
         match self {
             Problem::Solve(blocks) => push(
                 blocks,
                 FlowBlock {
                     sources,
-                    generated: gained,
-                    killed: lost,
+                    generated,
+                    killed,
                 },
             ),
             Problem::LiveVariables(blocks) => push(
                 blocks,
                 VariableBlock {
                     successors: sources,
-                    used: gained,
-                    assigned: lost,
+                    used: generated,
+                    assigned: killed,
                 },
             ),
             Problem::ReachingDefinitions(blocks) => push(
                 blocks,
                 DefinitionBlock {
                     predecessors: sources,
-                    defined: gained,
-                    overwritten: lost,
+                    defined: generated,
+                    overwritten: killed,
                 },
             ),
             Problem::AvailableExpressions(blocks) => push(
                 blocks,
                 ExpressionBlock {
                     predecessors: sources,
-                    computed: gained,
-                    killed: lost,
+                    computed: generated,
+                    killed,
                 },
             ),
         }
@@ -225,56 +200,31 @@ impl<B: BitBlock> Problem<B> {
     }
 }
 
-fn problem_of<B: BitBlock>(alloc: Global, call: Call) -> Result<Problem<B>, SetError> {
-    let mut problem = Problem::new(alloc, call);
-    for block in call.blocks() {
-        problem.append(part_of(alloc, block)?)?;
-    }
-    Ok(problem)
-}
-
 // Whether the sets of the blocks are right, and work.
 fn are_solved<B: BitBlock>(blocks: &[Block], sets: &mut [BitSet<B>]) -> bool {
     let mut is_right = sets.len() == blocks.len();
     for (set, Block(_, _, _, solved)) in sets.iter_mut().zip(blocks) {
-        is_right &= has_just(set, solved, usize::MAX) && works(set);
+        is_right &= has_just(set, solved, usize::MAX) & works(set);
     }
     is_right
 }
 
-// A problem, and the sets that solved it last.
-#[derive(Drop)]
-struct Solving<B: BitBlock> {
-    problem: Problem<B>,
-    sets: Vec<BitSet<B>>,
-}
-
-impl<B: BitBlock> Trial<Call> for Solving<B> {
-    fn prepare(alloc: Global, call: &Call) -> Result<Self, Fault> {
-        let problem = problem_of(alloc, *call)?;
-        let sets = Vec::new(alloc);
-        Ok(Solving { problem, sets })
+impl<B: BitBlock> Trial<FlowCall> for Problem<B> {
+    fn prepare(alloc: Global, call: &FlowCall) -> Result<Self, Fault> {
+        let mut problem = Problem::new(alloc, call);
+        for block in call.blocks() {
+            problem.append(flow_block(alloc, block)?)?;
+        }
+        Ok(problem)
     }
 
-    fn make(&mut self, alloc: Global, _call: &Call) -> Result<bool, Fault> {
-        self.sets = self.problem.solved(alloc)?;
-        Ok(true)
+    fn make(&mut self, alloc: Global, call: &FlowCall) -> Result<bool, Fault> {
+        let mut sets = self.solved(alloc)?;
+        Ok(are_solved(call.blocks(), sets.as_mut_slice()))
     }
 
     // The blocks are as before after the call: a further one solves them.
-    fn is_right(&mut self, alloc: Global, call: &Call, has_returned: bool) -> Result<bool, Fault> {
-        let blocks = call.blocks();
-        let is_right = if has_returned {
-            are_solved(blocks, self.sets.as_mut_slice())
-        } else {
-            self.sets.is_empty()
-        };
-        self.sets = self.problem.solved(alloc)?;
-        Ok(is_right && are_solved(blocks, self.sets.as_mut_slice()))
+    fn is_right(&mut self, alloc: Global, call: &FlowCall, _returned: bool) -> Result<bool, Fault> {
+        self.make(alloc, call)
     }
-}
-
-/// Makes these calls.
-pub fn all<B: BitBlock>(sweep: &mut Sweep<'_>) {
-    sweep.over::<Call, Solving<B>>(ROWS);
 }

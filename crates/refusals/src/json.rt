@@ -1,82 +1,48 @@
 // Calls of the JSON form, which not every type of blocks has.
 use crate::asks::Ask;
 use crate::faults::Fault;
-use crate::states::{LENT, State, is_state, lent_set, works};
-use crate::sweep::{Row, Sweep, Trial};
+use crate::states::{LENT, LENT_ELEMENTS, is_state, set_of, works};
+use crate::sweep::{Row, Trial, table};
 use bit_set::{BitSet, JsonBlock, JsonError};
 use serde_json::Value;
 use std::alloc::Global;
 
-// A value that is read.
-#[derive(Clone, Copy)]
-enum Form {
-    // That of the set that is lent to calls.
-    OfLent,
-    // One out of form, and the fault that it has. All tests of it come before memory is asked for.
-    Faulty(&'static str, JsonError),
+/// What is done with a value.
+pub enum Form {
+    // Reads that of the set that is lent to calls.
+    Read,
+    // Reads one out of form, which has this fault. All tests of it come before memory is asked for.
+    ReadFaulty(&'static str, JsonError),
+    // Makes that of the set.
+    Write,
 }
-
-const ROWS: &[Row<Form>] = &[
-    Row {
-        name: "from_json",
-        asks: &[Ask::Exact(5001)],
-        call: Form::OfLent,
-    },
-    Row {
-        name: "json_shape",
-        asks: &[],
-        call: Form::Faulty(
-            "{\"bit_vec\": {\"storage\": [1, 1, 1], \"nbits\": 3, \"more\": 1}}",
-            JsonError::Shape,
-        ),
-    },
-    Row {
-        name: "json_number",
-        asks: &[],
-        call: Form::Faulty(
-            "{\"bit_vec\": {\"storage\": [1, 1, true], \"nbits\": 3}}",
-            JsonError::Number,
-        ),
-    },
-    Row {
-        name: "json_blocks",
-        asks: &[],
-        call: Form::Faulty(
-            "{\"bit_vec\": {\"storage\": [1, 1, 1], \"nbits\": 18446744073709551615}}",
-            JsonError::Blocks,
-        ),
-    },
-    Row {
-        name: "json_unclean",
-        asks: &[],
-        call: Form::Faulty(
-            "{\"bit_vec\": {\"storage\": [2], \"nbits\": 1}}",
-            JsonError::Unclean,
-        ),
-    },
-];
 
 // What `to_json` may ask for: an entry for each block, of four words, and the two objects with the names of their three
 // members.
-const WRITING: &[Row<()>] = &[Row {
-    name: "to_json",
-    asks: &[Ask::Entries(5001, 32), Ask::Other(5, 2048)],
-    call: (),
-}];
+const WRITE: &[Ask] = &[Ask::Entries(5001, 32), Ask::Other(5, 2048)];
 
-const EMPTY: State = State::Of(&[], 0);
+const SHAPE: &str = "{\"bit_vec\": {\"storage\": [1, 1, 1], \"nbits\": 3, \"more\": 1}}";
 
-// A value, and the set that was read from it last.
+const NUMBER: &str = "{\"bit_vec\": {\"storage\": [1, 1, true], \"nbits\": 3}}";
+
+const BLOCKS: &str = "{\"bit_vec\": {\"storage\": [1, 1, 1], \"nbits\": 18446744073709551615}}";
+
+const UNCLEAN: &str = "{\"bit_vec\": {\"storage\": [2], \"nbits\": 1}}";
+
+pub const ROWS: &[Row<Form>] = table! {
+    "from_json", &[Ask::Exact(5001)], Form::Read;
+    "json_shape", &[], Form::ReadFaulty(SHAPE, JsonError::Shape);
+    "json_number", &[], Form::ReadFaulty(NUMBER, JsonError::Number);
+    "json_blocks", &[], Form::ReadFaulty(BLOCKS, JsonError::Blocks);
+    "json_unclean", &[], Form::ReadFaulty(UNCLEAN, JsonError::Unclean);
+    "to_json", WRITE, Form::Write;
+};
+
+/// The set that is lent to calls, and a value.
 #[derive(Drop)]
-struct Reading<B: JsonBlock> {
-    value: Value,
+pub struct Forms<B: JsonBlock> {
     set: BitSet<B>,
-}
-
-// The form of the set that is lent to calls.
-fn form_of_lent<B: JsonBlock>(alloc: Global) -> Result<Value, Fault> {
-    let lent = lent_set::<B>(alloc)?;
-    Ok(lent.to_json(alloc)?)
+    value: Value,
 }
 
 fn parsed(alloc: Global, text: &str) -> Result<Value, Fault> {
@@ -86,96 +52,53 @@ fn parsed(alloc: Global, text: &str) -> Result<Value, Fault> {
     }
 }
 
-fn value_of<B: JsonBlock>(alloc: Global, form: Form) -> Result<Value, Fault> {
+fn value_of<B: JsonBlock>(alloc: Global, form: &Form, set: &BitSet<B>) -> Result<Value, Fault> {
     match form {
-        Form::OfLent => form_of_lent::<B>(alloc),
-        Form::Faulty(text, _) => parsed(alloc, text),
+        Form::Read => Ok(set.to_json(alloc)?),
+        Form::ReadFaulty(text, _) => parsed(alloc, text),
+        Form::Write => Ok(Value::Null),
     }
 }
 
-impl Form {
-    // What a set is that was read from it, or not changed.
-    fn state(self) -> State {
-        match self {
-            Form::OfLent => LENT,
-            Form::Faulty(..) => EMPTY,
-        }
-    }
-
-    fn fault(self) -> Option<JsonError> {
-        match self {
-            Form::OfLent => None,
-            Form::Faulty(_, fault) => Some(fault),
-        }
+// Whether the value has this fault, or none and is read as the set that is lent to calls.
+fn is_read<B: JsonBlock>(
+    alloc: Global,
+    value: &Value,
+    wanted: Option<JsonError>,
+) -> Result<bool, Fault> {
+    match BitSet::<B>::from_json(alloc, value) {
+        Ok(mut set) => Ok(wanted.is_none() & is_state(&set, LENT) & works(&mut set)),
+        Err(fault) if wanted == Some(fault) => Ok(true),
+        Err(fault) => Err(Fault::from(fault)),
     }
 }
 
-impl<B: JsonBlock> Trial<Form> for Reading<B> {
+impl<B: JsonBlock> Trial<Form> for Forms<B> {
     fn prepare(alloc: Global, form: &Form) -> Result<Self, Fault> {
-        let value = value_of::<B>(alloc, *form)?;
-        let set = BitSet::new_general(alloc);
-        Ok(Reading { value, set })
+        let set = set_of(alloc, LENT_ELEMENTS)?;
+        let value = value_of(alloc, form, &set)?;
+        Ok(Forms { set, value })
     }
 
     fn make(&mut self, alloc: Global, form: &Form) -> Result<bool, Fault> {
-        match BitSet::from_json(alloc, &self.value) {
-            Ok(set) => {
-                self.set = set;
-                Ok(form.fault().is_none())
+        match form {
+            Form::Read => is_read::<B>(alloc, &self.value, None),
+            Form::ReadFaulty(_, fault) => is_read::<B>(alloc, &self.value, Some(*fault)),
+            Form::Write => {
+                self.value = self.set.to_json(alloc)?;
+                Ok(true)
             }
-            Err(fault) if form.fault() == Some(fault) => Ok(true),
-            Err(fault) => Err(Fault::from(fault)),
         }
     }
 
-    // A further call reads the value.
+    // A further call reads the value, or what was made.
     fn is_right(&mut self, alloc: Global, form: &Form, has_returned: bool) -> Result<bool, Fault> {
-        let was_right = is_state(&self.set, if has_returned { form.state() } else { EMPTY });
-        let is_read = self.make(alloc, form)?;
-        Ok(was_right && is_read && is_state(&self.set, form.state()) && works(&mut self.set))
-    }
-}
-
-// A set, and the value that was made of it last.
-#[derive(Drop)]
-struct Writing<B: JsonBlock> {
-    set: BitSet<B>,
-    value: Value,
-}
-
-// Whether the value is read as the set that is lent to calls.
-fn is_form_of_lent<B: JsonBlock>(alloc: Global, value: &Value) -> bool {
-    match BitSet::<B>::from_json(alloc, value) {
-        Ok(set) => is_state(&set, LENT),
-        Err(_) => false,
-    }
-}
-
-impl<B: JsonBlock> Trial<()> for Writing<B> {
-    fn prepare(alloc: Global, _call: &()) -> Result<Self, Fault> {
-        let set = lent_set(alloc)?;
-        let value = Value::Null;
-        Ok(Writing { set, value })
-    }
-
-    fn make(&mut self, alloc: Global, _call: &()) -> Result<bool, Fault> {
-        self.value = self.set.to_json(alloc)?;
-        Ok(true)
-    }
-
-    // What was made is read back.
-    fn is_right(&mut self, alloc: Global, _call: &(), has_returned: bool) -> Result<bool, Fault> {
-        let is_right = if has_returned {
-            is_form_of_lent::<B>(alloc, &self.value)
-        } else {
-            self.value.is_null()
+        let is_kept = is_state(&self.set, LENT) & works(&mut self.set);
+        let is_right = match form {
+            Form::Write if has_returned => is_read::<B>(alloc, &self.value, None)?,
+            Form::Write => self.value.is_null(),
+            _ => self.make(alloc, form)?,
         };
-        Ok(is_right && is_state(&self.set, LENT) && works(&mut self.set))
+        Ok(is_kept & is_right)
     }
-}
-
-/// Makes these calls.
-pub fn all<B: JsonBlock>(sweep: &mut Sweep<'_>) {
-    sweep.over::<Form, Reading<B>>(ROWS);
-    sweep.over::<(), Writing<B>>(WRITING);
 }

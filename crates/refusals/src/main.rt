@@ -3,76 +3,65 @@
 #![tactic(auto)]
 
 mod asks;
-mod bits;
-mod ends;
+mod changes;
 mod failing_writers;
 mod faults;
 mod feed;
 mod flow_problems;
 mod json;
 mod matrices;
-mod new_values;
-mod ranges;
-mod reporting;
-mod rows;
+mod plain;
 mod runs;
-mod sets;
-mod splits;
 mod state_machines;
 mod states;
+mod steps;
 mod sweep;
+mod tables;
 mod users;
-mod without_memory;
 
 use bit_set::{BitBlock, JsonBlock};
+use changes::{Change, Sets};
 use faults::Fault;
+use flow_problems::{FlowCall, Problem};
+use json::{Form, Forms};
+use matrices::{Matrices, MatrixCall};
+use plain::Moves;
+use runs::{RunCall, Running};
+use state_machines::{MachineCall, Machines};
 use std::env;
 use std::process::ExitCode;
 use sweep::Sweep;
+use tables::{CHANGES, GROUPS, PLAIN};
+use users::{UserCall, Users};
 
 // The words after the program's name.
 fn words(rt: &HostRuntime) -> Result<Vec<String>, Fault> {
     Ok(env::args(rt)?.skip(1).collect(rt.alloc())?)
 }
 
-// The calls of sets and bit vectors that each type of blocks has, over one of them.
-fn over_sets<B: BitBlock>(sweep: &mut Sweep<'_>) {
-    sets::all::<B>(sweep);
-    reporting::all::<B>(sweep);
-    ranges::all::<B>(sweep);
-    splits::all::<B>(sweep);
-    new_values::all::<B>(sweep);
-    bits::all::<B>(sweep);
-    runs::all::<B>(sweep);
-    without_memory::all::<B>(sweep);
-}
-
-// The calls of the libraries that are over sets.
-fn over_users<B: BitBlock>(sweep: &mut Sweep<'_>) {
-    matrices::all::<B>(sweep);
-    users::all::<B>(sweep);
-    flow_problems::all::<B>(sweep);
-    state_machines::all::<B>(sweep);
-}
-
-// Every call that each type of blocks has.
+// The calls that each type of blocks has, over one of them.
 fn over<'a, B: BitBlock>(sweep: &mut Sweep<'a>, block: &'a str) {
     sweep.go_over(block, B::bits());
-    over_sets::<B>(sweep);
-    over_users::<B>(sweep);
+    sweep.over::<Change, Sets<B>>(CHANGES);
+    sweep.over::<RunCall, Running<B>>(runs::ROWS);
+    sweep.over::<Change, Sets<B>>(GROUPS);
+    sweep.over::<MatrixCall, Matrices<B>>(matrices::ROWS);
+    sweep.over::<UserCall, Users<B>>(users::ROWS);
+    sweep.over::<FlowCall, Problem<B>>(flow_problems::ROWS);
+    sweep.over::<MachineCall, Machines<B>>(state_machines::ROWS);
 }
 
 // Those and the calls of the JSON form.
 fn over_with_json<'a, B: JsonBlock>(sweep: &mut Sweep<'a>, block: &'a str) {
     over::<B>(sweep, block);
-    json::all::<B>(sweep);
+    sweep.over::<Form, Forms<B>>(json::ROWS);
 }
 
 // Those and the calls that are over blocks of 32 bits alone.
 fn over_plain(sweep: &mut Sweep<'_>) {
     over_with_json::<u32>(sweep, "u32");
-    new_values::all_plain(sweep);
-    without_memory::all_plain(sweep);
+    sweep.over::<Change, Sets<u32>>(PLAIN);
+    sweep.over::<(), Moves>(plain::MOVES);
 }
 
 // The calls over the type of blocks of this name. Whether it names one.

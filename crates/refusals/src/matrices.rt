@@ -1,15 +1,14 @@
 // Calls of matrices that make something, and some that take no memory.
 use crate::asks::Ask;
 use crate::faults::Fault;
-use crate::states::{LENT, State, is_state, lent_set};
-use crate::sweep::{Row, Sweep, Trial};
+use crate::states::{LENT, LENT_ELEMENTS, is_state, set_of};
+use crate::sweep::{Row, Trial, table};
 use bit_matrix::{BitMatrix, MatrixError};
 use bit_set::{BitBlock, BitSet};
 use graph_walks::transitive_closure;
-use std::alloc::Global;
+use std::alloc::{AllocError, Global};
 
-#[derive(Clone, Copy, PartialEq, Eq)]
-enum Making {
+pub enum MatrixCall {
     New,
     FromRow,
     Clone,
@@ -24,51 +23,21 @@ enum Making {
 // How many columns the matrices have: the length of the set that each row is.
 const COLUMNS: usize = 5001;
 
-const ROWS: &[Row<Making>] = &[
-    Row {
-        name: "matrix_new",
-        asks: &[Ask::Rows(3, COLUMNS)],
-        call: Making::New,
-    },
-    Row {
-        name: "matrix_from_row",
-        asks: &[Ask::Rows(2, COLUMNS)],
-        call: Making::FromRow,
-    },
-    Row {
-        name: "matrix_clone",
-        asks: &[Ask::Rows(2, COLUMNS)],
-        call: Making::Clone,
-    },
-    Row {
-        name: "matrix_transpose",
-        asks: &[Ask::Rows(COLUMNS, 2)],
-        call: Making::Transpose,
-    },
-    Row {
-        name: "matrix_row_to_set",
-        asks: &[Ask::Exact(COLUMNS)],
-        call: Making::RowToSet,
-    },
-    Row {
-        name: "matrix_too_large",
-        asks: &[],
-        call: Making::TooMany,
-    },
-    Row {
-        name: "matrix_changes",
-        asks: &[],
-        call: Making::Change,
-    },
-];
+pub const ROWS: &[Row<MatrixCall>] = table! {
+    "matrix_new", &[Ask::Rows(3, COLUMNS)], MatrixCall::New;
+    "matrix_from_row", &[Ask::Rows(2, COLUMNS)], MatrixCall::FromRow;
+    "matrix_clone", &[Ask::Rows(2, COLUMNS)], MatrixCall::Clone;
+    "matrix_transpose", &[Ask::Rows(COLUMNS, 2)], MatrixCall::Transpose;
+    "matrix_row_to_set", &[Ask::Exact(COLUMNS)], MatrixCall::RowToSet;
+    "matrix_too_large", &[], MatrixCall::TooMany;
+    "matrix_changes", &[], MatrixCall::Change;
+};
 
-// The set that is lent, two rows of it, and what is made of them.
+/// The set that is lent, and two rows of it.
 #[derive(Drop)]
-struct Matrices<B: BitBlock> {
+pub struct Matrices<B: BitBlock> {
     lent: BitSet<B>,
     rows: BitMatrix<B>,
-    made: BitMatrix<B>,
-    made_set: BitSet<B>,
 }
 
 // Whether the matrix has this many rows and columns, and each row just these columns.
@@ -114,87 +83,66 @@ fn is_too_large<B: BitBlock>(alloc: Global) -> bool {
     }
 }
 
-// Makes a matrix.
+// Whether the first row is the set that is lent.
+fn is_row_of_lent<B: BitBlock>(alloc: Global, rows: &BitMatrix<B>) -> Result<bool, AllocError> {
+    if rows.rows() == 0 {
+        return Ok(false);
+    }
+    let set = rows.row_to_set(alloc, 0)?;
+    Ok(is_state(&set, LENT))
+}
+
 fn made<B: BitBlock>(
     alloc: Global,
-    making: Making,
+    call: &MatrixCall,
     set: &BitSet<B>,
     rows: &BitMatrix<B>,
 ) -> Result<BitMatrix<B>, Fault> {
-    Ok(match making {
-        Making::New => BitMatrix::new_general(alloc, 3, COLUMNS)?,
-        Making::FromRow => BitMatrix::from_row(alloc, set, 2)?,
-        Making::Clone => rows.clone(alloc)?,
+    Ok(match call {
+        MatrixCall::New => BitMatrix::new_general(alloc, 3, COLUMNS)?,
+        MatrixCall::FromRow => BitMatrix::from_row(alloc, set, 2)?,
+        MatrixCall::Clone => rows.clone(alloc)?,
         _ => rows.transpose(alloc)?,
     })
 }
 
-impl<B: BitBlock> Matrices<B> {
-    fn make_set(&mut self, alloc: Global) -> Result<bool, Fault> {
-        if self.rows.rows() == 0 {
-            return Ok(false);
-        }
-        self.made_set = self.rows.row_to_set(alloc, 0)?;
-        Ok(true)
-    }
-
-    // Whether what is made is right where the call returned.
-    fn is_made(&self, making: Making) -> bool {
-        match making {
-            Making::New => has_rows(&self.made, 3, COLUMNS, &[]),
-            Making::Transpose => is_transposed(&self.made),
-            Making::TooMany => self.made.rows() == 0,
-            Making::RowToSet => is_state(&self.made_set, LENT),
-            _ => self.made == self.rows,
-        }
-    }
+// Makes a matrix. Whether it is right.
+fn makes<B: BitBlock>(
+    alloc: Global,
+    call: &MatrixCall,
+    set: &BitSet<B>,
+    rows: &BitMatrix<B>,
+) -> Result<bool, Fault> {
+    let made = made(alloc, call, set, rows)?;
+    Ok(match call {
+        MatrixCall::New => has_rows(&made, 3, COLUMNS, &[]),
+        MatrixCall::Transpose => is_transposed(&made),
+        _ => made == *rows,
+    })
 }
 
-impl<B: BitBlock> Trial<Making> for Matrices<B> {
-    fn prepare(alloc: Global, call: &Making) -> Result<Self, Fault> {
-        let lent = lent_set(alloc)?;
+impl<B: BitBlock> Trial<MatrixCall> for Matrices<B> {
+    fn prepare(alloc: Global, _call: &MatrixCall) -> Result<Self, Fault> {
+        let lent = set_of(alloc, LENT_ELEMENTS)?;
         let rows = BitMatrix::from_row(alloc, &lent, 2)?;
-        let count = if *call == Making::Change { 2 } else { 0 };
-        let made = BitMatrix::from_row(alloc, &lent, count)?;
-        let made_set = BitSet::new_general(alloc);
-        Ok(Matrices {
-            lent,
-            rows,
-            made,
-            made_set,
-        })
+        Ok(Matrices { lent, rows })
     }
 
-    fn make(&mut self, alloc: Global, call: &Making) -> Result<bool, Fault> {
+    fn make(&mut self, alloc: Global, call: &MatrixCall) -> Result<bool, Fault> {
         match call {
-            Making::RowToSet => self.make_set(alloc),
-            Making::TooMany => Ok(is_too_large::<B>(alloc)),
-            Making::Change => Ok(changes(&mut self.made)),
-            _ => {
-                self.made = made(alloc, *call, &self.lent, &self.rows)?;
-                Ok(true)
-            }
+            MatrixCall::RowToSet => Ok(is_row_of_lent(alloc, &self.rows)?),
+            MatrixCall::TooMany => Ok(is_too_large::<B>(alloc)),
+            MatrixCall::Change => Ok(changes(&mut self.rows)),
+            _ => makes(alloc, call, &self.lent, &self.rows),
         }
     }
 
     fn is_right(
         &mut self,
         _alloc: Global,
-        call: &Making,
-        has_returned: bool,
+        _call: &MatrixCall,
+        _returned: bool,
     ) -> Result<bool, Fault> {
-        let are_lent = is_state(&self.lent, LENT)
-            && has_rows(&self.rows, 2, COLUMNS, &[3, 7, 5000]);
-        let is_right = if has_returned {
-            self.is_made(*call)
-        } else {
-            self.made.rows() == 0 && is_state(&self.made_set, State::Of(&[], 0))
-        };
-        Ok(are_lent && is_right)
+        Ok(is_state(&self.lent, LENT) & has_rows(&self.rows, 2, COLUMNS, LENT_ELEMENTS))
     }
-}
-
-/// Makes these calls.
-pub fn all<B: BitBlock>(sweep: &mut Sweep<'_>) {
-    sweep.over::<Making, Matrices<B>>(ROWS);
 }

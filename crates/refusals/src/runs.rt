@@ -2,12 +2,11 @@
 use crate::asks::Ask;
 use crate::faults::Fault;
 use crate::states::has_just;
-use crate::sweep::{Row, Sweep, Trial};
+use crate::sweep::{Row, Trial, table};
 use bit_set::BitBlock;
 use bit_set_commands::{append_reply, read_line};
 use bit_set_run::{Command, Reply, RunFault, SetName, Table, run, run_lines};
 use std::alloc::{AllocError, Global};
-use std::marker::PhantomData;
 
 // The elements of the sets `a`, `b` and `c`.
 type Three = [&'static [usize]; 3];
@@ -19,72 +18,33 @@ struct Line {
     failed: &'static [Three],
 }
 
-// Of the items of an extend a front may be in.
-const LINES: &[Line] = &[
-    Line {
-        text: "extend a 3 447",
-        reply: "ok",
-        failed: &[[&[], &[], &[]], [&[3], &[], &[]]],
-    },
-    Line {
-        text: "insert b 5000",
-        reply: "true",
-        failed: &[[&[3, 447], &[], &[]]],
-    },
-    Line {
-        text: "copy a c",
-        reply: "ok",
-        failed: &[[&[3, 447], &[5000], &[]]],
-    },
-    Line {
-        text: "union_with a b",
-        reply: "ok",
-        failed: &[[&[3, 447], &[5000], &[3, 447]]],
-    },
-    Line {
-        text: "items a",
-        reply: "{3, 447, 5000}",
-        failed: &[UNITED],
-    },
-    Line {
-        text: "intersection a b",
-        reply: "{5000}",
-        failed: &[UNITED],
-    },
-    Line {
-        text: "rest iter a 1",
-        reply: "2 {447, 5000}",
-        failed: &[UNITED],
-    },
-    Line {
-        text: "append c b",
-        reply: "ok",
-        failed: &[UNITED],
-    },
-    Line {
-        text: "split_off c 448 b",
-        reply: "ok",
-        failed: &[[&[3, 447, 5000], &[], &[3, 447, 5000]]],
-    },
-    Line {
-        text: "reserve a 9000",
-        reply: "ok",
-        failed: &[UNITED],
-    },
-    Line {
-        text: "reserve_exact b 9000",
-        reply: "ok",
-        failed: &[UNITED],
-    },
-    Line {
-        text: "shrink a",
-        reply: "ok",
-        failed: &[UNITED],
-    },
-];
-
 // What they are behind the union, and at last.
 const UNITED: Three = [&[3, 447, 5000], &[5000], &[3, 447]];
+
+macro_rules! lines {
+    ($($text:literal, $reply:literal, $($failed:expr),+;)*) => {
+        &[$(Line { text: $text, reply: $reply, failed: &[$($failed),+] }),*]
+    };
+}
+
+// Of the items of an extend a front may be in.
+const LINES: &[Line] = lines! {
+    "extend a 3 447", "ok", [&[], &[], &[]], [&[3], &[], &[]];
+    "insert b 5000", "true", [&[3, 447], &[], &[]];
+    "copy a c", "ok", [&[3, 447], &[5000], &[]];
+    "union_with a b", "ok", [&[3, 447], &[5000], &[3, 447]];
+    "items a", "{3, 447, 5000}", UNITED;
+    "intersection a b", "{5000}", UNITED;
+    "rest iter a 1", "2 {447, 5000}", UNITED;
+    "append c b", "ok", UNITED;
+    "split_off c 448 b", "ok", [&[3, 447, 5000], &[], &[3, 447, 5000]];
+    "reserve a 9000", "ok", UNITED;
+    "reserve_exact b 9000", "ok", UNITED;
+    "shrink a", "ok", UNITED;
+};
+
+// What the sets may be behind all lines.
+const LAST: &[Three] = &[UNITED];
 
 // The memory that the commands may ask for, one after another, and then some more: the sets, the numbers in three of the
 // replies, and the vector of the replies, which doubles twice.
@@ -108,44 +68,36 @@ macro_rules! asks_of_commands {
     };
 }
 
-#[derive(Clone, Copy)]
-enum RunCall {
-    OfLines,
+// Past that the lines may ask for the input, the two numbers of a line, and the output, which doubles from 8 bytes on.
+const ASKS_OF_LINES: &[Ask] = asks_of_commands!(
+    Ask::Other(1, 2 * 170),
+    Ask::Other(1, 32),
+    Ask::Other(5, 8 + 16 + 32 + 64 + 128)
+);
+
+pub enum RunCall {
+    OfCommands,
     // A thousand that need no memory, with capacity for their replies.
     Thousand,
+    OfLines,
 }
 
-const RUNS: &[Row<RunCall>] = &[
-    Row {
-        name: "run",
-        asks: asks_of_commands!(),
-        call: RunCall::OfLines,
-    },
-    Row {
-        name: "run_thousand_within",
-        asks: &[],
-        call: RunCall::Thousand,
-    },
-];
+pub const ROWS: &[Row<RunCall>] = table! {
+    "run", asks_of_commands!(), RunCall::OfCommands;
+    "run_thousand_within", &[], RunCall::Thousand;
+    "run_lines", ASKS_OF_LINES, RunCall::OfLines;
+};
 
-// Past that the lines may ask for the input, the two numbers of a line, and the output, which doubles from 8 bytes on.
-const RUN_LINES: &[Row<()>] = &[Row {
-    name: "run_lines",
-    asks: asks_of_commands!(
-        Ask::Other(1, 2 * 170),
-        Ask::Other(1, 32),
-        Ask::Other(5, 8 + 16 + 32 + 64 + 128)
-    ),
-    call: (),
-}];
-
-// Commands on a table, the replies to those that were executed, and how many these are.
+/// Commands on a table, the replies to those that were executed, and how many these are; and lines, and what is written,
+/// which takes the whole output without memory.
 #[derive(Drop)]
-struct Running<B: BitBlock> {
+pub struct Running<B: BitBlock> {
     commands: Vec<Command>,
     table: Table<B>,
     replies: Vec<Reply>,
     done: usize,
+    input: Vec<u8>,
+    written: Vec<u8>,
 }
 
 // The commands that the lines spell.
@@ -157,6 +109,27 @@ fn commands(alloc: Global) -> Result<Vec<Command>, AllocError> {
         }
     }
     Ok(commands)
+}
+
+fn thousand_commands(alloc: Global) -> Result<Vec<Command>, AllocError> {
+    let mut commands = Vec::new(alloc);
+    for n in 0..1000 {
+        if let Some(name) = SetName::from_letter(b'a') {
+            commands.push(Command::Contains(name, n))?;
+        }
+    }
+    Ok(commands)
+}
+
+// The lines, or what replies to them.
+fn joined(alloc: Global, are_replies: bool) -> Result<Vec<u8>, AllocError> {
+    let mut text = Vec::new(alloc);
+    for line in LINES {
+        let part = if are_replies { line.reply } else { line.text };
+        text.extend_from_slice(part.as_bytes())?;
+        text.push(b'\n')?;
+    }
+    Ok(text)
 }
 
 // Whether the sets are these.
@@ -171,21 +144,17 @@ fn are<B: BitBlock>(table: &Table<B>, wanted: &Three) -> bool {
     is_right
 }
 
-// Whether the sets are one of these.
-fn are_one_of<B: BitBlock>(table: &Table<B>, allowed: &[Three]) -> bool {
+// Whether the sets may be so where the command of this place fails, or behind them all.
+fn may_stand<B: BitBlock>(table: &Table<B>, place: usize) -> bool {
+    let allowed = match LINES.get(place) {
+        Some(line) => line.failed,
+        None => LAST,
+    };
     let mut is_one = false;
     for wanted in allowed {
         is_one |= are(table, wanted);
     }
     is_one
-}
-
-// Whether the sets may be so where the command of this place fails, or behind them all.
-fn may_stand<B: BitBlock>(table: &Table<B>, place: usize) -> bool {
-    match LINES.get(place) {
-        Some(line) => are_one_of(table, line.failed),
-        None => are(table, &UNITED),
-    }
 }
 
 // Whether this many commands have just their replies.
@@ -200,18 +169,15 @@ fn are_replies(alloc: Global, count: usize, replies: &[Reply]) -> Result<bool, A
     Ok(is_right)
 }
 
-impl<B: BitBlock> Running<B> {
-    fn new(alloc: Global, commands: Vec<Command>, replies: Vec<Reply>) -> Self {
-        let table = Table::new(alloc);
-        let done = 0;
-        Running {
-            commands,
-            table,
-            replies,
-            done,
-        }
+// Whether what was written is all replies where the call returned, and else nothing.
+fn is_written(alloc: Global, written: &[u8], has_returned: bool) -> Result<bool, AllocError> {
+    if !has_returned {
+        return Ok(written.is_empty());
     }
+    Ok(joined(alloc, true)?.as_slice() == written)
+}
 
+impl<B: BitBlock> Running<B> {
     fn run(&mut self, alloc: Global) -> Result<bool, Fault> {
         match run(alloc, &mut self.table, &self.commands, &mut self.replies) {
             Ok(()) => {
@@ -223,12 +189,6 @@ impl<B: BitBlock> Running<B> {
                 Err(Fault::Memory)
             }
         }
-    }
-
-    // Whether what was executed has its replies and left the sets as it must, and one more command is executed.
-    fn is_right_so_far(&mut self, alloc: Global) -> Result<bool, AllocError> {
-        let are_right = are_replies(alloc, self.done, self.replies.as_slice())?;
-        Ok(are_right && may_stand(&self.table, self.done) && self.goes_on(alloc))
     }
 
     // Whether one more command is executed.
@@ -243,30 +203,37 @@ impl<B: BitBlock> Running<B> {
     }
 }
 
-fn thousand_commands(alloc: Global) -> Result<Vec<Command>, AllocError> {
-    let mut commands = Vec::new(alloc);
-    for n in 0..1000 {
-        if let Some(name) = SetName::from_letter(b'a') {
-            commands.push(Command::Contains(name, n))?;
-        }
-    }
-    Ok(commands)
-}
-
 impl<B: BitBlock> Trial<RunCall> for Running<B> {
     fn prepare(alloc: Global, call: &RunCall) -> Result<Self, Fault> {
         let (commands, capacity) = match call {
-            RunCall::OfLines => (commands(alloc)?, 0),
             RunCall::Thousand => (thousand_commands(alloc)?, 1000),
+            _ => (commands(alloc)?, 0),
         };
         let replies = Vec::with_capacity(alloc, capacity)?;
-        Ok(Running::new(alloc, commands, replies))
+        let input = joined(alloc, false)?;
+        let written = Vec::with_capacity(alloc, joined(alloc, true)?.len())?;
+        Ok(Running {
+            commands,
+            table: Table::new(alloc),
+            replies,
+            done: 0,
+            input,
+            written,
+        })
     }
 
-    fn make(&mut self, alloc: Global, _call: &RunCall) -> Result<bool, Fault> {
-        self.run(alloc)
+    fn make(&mut self, alloc: Global, call: &RunCall) -> Result<bool, Fault> {
+        match call {
+            RunCall::OfLines => {
+                let mut reader = self.input.as_slice();
+                run_lines::<B, _, _>(alloc, &mut reader, &mut self.written)?;
+                Ok(true)
+            }
+            _ => self.run(alloc),
+        }
     }
 
+    // Whether what was executed has its replies and left the sets as it must, and one more command is executed.
     fn is_right(
         &mut self,
         alloc: Global,
@@ -275,59 +242,12 @@ impl<B: BitBlock> Trial<RunCall> for Running<B> {
     ) -> Result<bool, Fault> {
         let is_done = has_returned == (self.done == self.commands.len());
         match call {
-            RunCall::OfLines => Ok(is_done && self.is_right_so_far(alloc)?),
-            RunCall::Thousand => Ok(is_done && self.replies.len() == 1000),
+            RunCall::OfCommands => {
+                let are_right = are_replies(alloc, self.done, self.replies.as_slice())?;
+                Ok(is_done & are_right & may_stand(&self.table, self.done) & self.goes_on(alloc))
+            }
+            RunCall::Thousand => Ok(is_done & (self.replies.len() == 1000)),
+            RunCall::OfLines => Ok(is_written(alloc, self.written.as_slice(), has_returned)?),
         }
     }
-}
-
-// Lines, and what is written, which takes the whole output without memory.
-#[derive(Drop)]
-struct Lines<B: BitBlock> {
-    input: Vec<u8>,
-    written: Vec<u8>,
-    blocks: PhantomData<B>,
-}
-
-// The lines, or what replies to them.
-fn joined(alloc: Global, are_replies: bool) -> Result<Vec<u8>, AllocError> {
-    let mut text = Vec::new(alloc);
-    for line in LINES {
-        let part = if are_replies { line.reply } else { line.text };
-        text.extend_from_slice(part.as_bytes())?;
-        text.push(b'\n')?;
-    }
-    Ok(text)
-}
-
-impl<B: BitBlock> Trial<()> for Lines<B> {
-    fn prepare(alloc: Global, _call: &()) -> Result<Self, Fault> {
-        let input = joined(alloc, false)?;
-        let written = Vec::with_capacity(alloc, joined(alloc, true)?.len())?;
-        let blocks = PhantomData;
-        Ok(Lines {
-            input,
-            written,
-            blocks,
-        })
-    }
-
-    fn make(&mut self, alloc: Global, _call: &()) -> Result<bool, Fault> {
-        let mut reader = self.input.as_slice();
-        run_lines::<B, _, _>(alloc, &mut reader, &mut self.written)?;
-        Ok(true)
-    }
-
-    fn is_right(&mut self, alloc: Global, _call: &(), has_returned: bool) -> Result<bool, Fault> {
-        if !has_returned {
-            return Ok(self.written.is_empty());
-        }
-        Ok(joined(alloc, true)?.as_slice() == self.written.as_slice())
-    }
-}
-
-/// Makes these calls.
-pub fn all<B: BitBlock>(sweep: &mut Sweep<'_>) {
-    sweep.over::<RunCall, Running<B>>(RUNS);
-    sweep.over::<(), Lines<B>>(RUN_LINES);
 }

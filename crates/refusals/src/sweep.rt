@@ -11,6 +11,15 @@ pub struct Row<C> {
     pub call: C,
 }
 
+// A row for each line: its name, the memory that it may ask for, and the call.
+macro_rules! table {
+    ($($name:literal, $asks:expr, $call:expr;)*) => {
+        &[$(Row { name: $name, asks: $asks, call: $call }),*]
+    };
+}
+
+pub(crate) use table;
+
 /// What calls of a table are made on.
 pub trait Trial<C>: Drop {
     /// What this call is made on.
