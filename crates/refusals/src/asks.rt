@@ -1,7 +1,6 @@
 // What memory a call may ask for, by plain arithmetic on lengths and widths that knows nothing of the library.
 
 /// Memory that a call may ask for.
-#[derive(Clone, Copy)]
 pub enum Ask {
     /// The blocks of a list of this length and their summary, where one is stored, and no more.
     Exact(usize),
@@ -46,17 +45,14 @@ fn bytes_of(blocks: usize, width: usize) -> usize {
 // than four times as many as a block has bits.
 fn bound_of_list(len: usize, width: usize, grows: bool) -> Bound {
     let count = blocks_of(len, width);
-    let blocks = asked(count, grows);
-    if count <= width.saturating_mul(4) {
-        return Bound {
-            requests: 1,
-            bytes: bytes_of(blocks, width),
-        };
-    }
-    let rows = asked(blocks_of(count, width), grows);
+    let (requests, rows) = if count > width.saturating_mul(4) {
+        (2, asked(blocks_of(count, width), grows))
+    } else {
+        (1, 0)
+    };
     Bound {
-        requests: 2,
-        bytes: bytes_of(blocks.saturating_add(rows), width),
+        requests,
+        bytes: bytes_of(asked(count, grows).saturating_add(rows), width),
     }
 }
 
@@ -72,8 +68,8 @@ impl Bound {
 
 impl Ask {
     // What this is over blocks of this many bits.
-    fn bound(self, width: usize) -> Bound {
-        match self {
+    fn bound(&self, width: usize) -> Bound {
+        match *self {
             Ask::Exact(len) => bound_of_list(len, width, false),
             Ask::Grown(len) => bound_of_list(len, width, true),
             Ask::Lists(count, len) => bound_of_list(len, width, false).times(count),

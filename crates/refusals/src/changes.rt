@@ -92,33 +92,25 @@ pub enum Exchange {
 }
 
 pub enum Make {
-    Copied(Copied),
-    BitsCopied(BitsCopied),
-    FromBytes(Order),
-    BitsFromBytes,
-    FromIter,
-    FromRanges,
-    /// Of the bytes that the other set becomes.
-    OfOwnBytes(Order),
-}
-
-pub enum Copied {
     WithCapacity,
     UnionOf,
     IntersectionOf,
     Clone,
-}
-
-pub enum BitsCopied {
-    FromElem,
-    Clone,
-    CloneTail,
+    BitsFromElem,
+    BitsClone,
+    BitsCloneTail,
+    BitsFromBytes,
+    FromBytes(Order),
+    FromIter,
+    FromRanges,
+    /// Of the bytes that the other set becomes.
+    Reread(Order),
 }
 
 /// Which bit of a byte comes first.
 pub enum Order {
-    Highest,
-    Lowest,
+    High,
+    Low,
 }
 
 fn changed<B: BitBlock>(
@@ -209,25 +201,25 @@ fn exchanged<B: BitBlock>(
 
 fn copy_of<B: BitBlock>(
     alloc: Global,
-    call: &Copied,
+    call: &Make,
     lent: &BitSet<B>,
 ) -> Result<BitSet<B>, AllocError> {
     match call {
-        Copied::WithCapacity => BitSet::with_capacity_general(alloc, 5000),
-        Copied::UnionOf => BitSet::union_of(alloc, &[lent.clone(alloc)?]),
-        Copied::IntersectionOf => BitSet::intersection_of(alloc, &[lent.clone(alloc)?]),
-        Copied::Clone => lent.clone(alloc),
+        Make::WithCapacity => BitSet::with_capacity_general(alloc, 5000),
+        Make::UnionOf => BitSet::union_of(alloc, &[lent.clone(alloc)?]),
+        Make::IntersectionOf => BitSet::intersection_of(alloc, &[lent.clone(alloc)?]),
+        _ => lent.clone(alloc),
     }
 }
 
 fn copy_of_bits<B: BitBlock>(
     alloc: Global,
-    call: &BitsCopied,
+    call: &Make,
     lent: &BitVec<B>,
 ) -> Result<BitVec<B>, AllocError> {
     match call {
-        BitsCopied::FromElem => BitVec::from_elem_general(alloc, 5000, false),
-        BitsCopied::CloneTail if lent.len() > 4 => lent.clone_tail(alloc, 4),
+        Make::BitsFromElem => BitVec::from_elem_general(alloc, 5000, false),
+        Make::BitsCloneTail if lent.len() > 4 => lent.clone_tail(alloc, 4),
         _ => lent.clone(alloc),
     }
 }
@@ -238,38 +230,38 @@ fn of_bytes<B: BitBlock>(
     bytes: &[u8],
 ) -> Result<BitSet<B>, SetError> {
     match order {
-        Order::Highest => BitSet::from_bytes_general(alloc, bytes),
-        Order::Lowest => BitSet::from_bytes_lsb_general(alloc, bytes),
+        Order::High => BitSet::from_bytes_general(alloc, bytes),
+        Order::Low => BitSet::from_bytes_lsb_general(alloc, bytes),
     }
 }
 
-fn of_own_bytes<B: BitBlock>(
+fn reread<B: BitBlock>(
     alloc: Global,
     order: &Order,
     lent: &BitSet<B>,
 ) -> Result<BitSet<B>, SetError> {
     let bytes = match order {
-        Order::Highest => lent.to_bytes(alloc)?,
-        Order::Lowest => lent.to_bytes_lsb(alloc)?,
+        Order::High => lent.to_bytes(alloc)?,
+        Order::Low => lent.to_bytes_lsb(alloc)?,
     };
     of_bytes(alloc, order, &bytes)
 }
 
 fn made<B: BitBlock>(alloc: Global, call: &Make, lent: &BitSet<B>) -> Result<BitSet<B>, Fault> {
     match call {
-        Make::Copied(call) => Ok(copy_of(alloc, call, lent)?),
-        Make::BitsCopied(call) => Ok(BitSet::from_bit_vec_general(copy_of_bits(
-            alloc,
-            call,
-            lent.get_ref(),
-        )?)),
+        Make::BitsFromElem | Make::BitsClone | Make::BitsCloneTail => {
+            let bits = copy_of_bits(alloc, call, lent.get_ref())?;
+            Ok(BitSet::from_bit_vec_general(bits))
+        }
         Make::FromBytes(order) => Ok(of_bytes(alloc, order, &BYTES)?),
-        Make::BitsFromBytes => Ok(BitSet::from_bit_vec_general(BitVec::from_bytes_general(
-            alloc, &BYTES,
-        )?)),
+        Make::BitsFromBytes => {
+            let bits = BitVec::from_bytes_general(alloc, &BYTES)?;
+            Ok(BitSet::from_bit_vec_general(bits))
+        }
         Make::FromIter => Ok(set_of(alloc, &[9, 450, 5000])?),
         Make::FromRanges => Ok(BitSet::from_ranges(alloc, "9, 450,5000")?),
-        Make::OfOwnBytes(order) => Ok(of_own_bytes(alloc, order, lent)?),
+        Make::Reread(order) => Ok(reread(alloc, order, lent)?),
+        _ => Ok(copy_of(alloc, call, lent)?),
     }
 }
 

@@ -8,12 +8,21 @@ use std::alloc::AllocError;
 use std::io;
 
 /// Why a call failed.
-#[derive(Clone, Copy, Debug, PartialEq, Eq)]
+#[derive(Clone, Copy)]
 pub enum Fault {
     /// No memory was found.
     Memory,
     /// Anything else, which no call here may return.
     Other,
+}
+
+// The fault where memory is what is said to be missing, or not.
+fn fault_of(is_memory: bool) -> Fault {
+    if is_memory {
+        Fault::Memory
+    } else {
+        Fault::Other
+    }
 }
 
 impl From<AllocError> for Fault {
@@ -30,63 +39,42 @@ impl From<io::Error> for Fault {
 
 impl From<BitsError> for Fault {
     fn from(fault: BitsError) -> Self {
-        match fault {
-            BitsError::Memory(_) => Fault::Memory,
-            BitsError::Length => Fault::Other,
-        }
+        fault_of(matches!(fault, BitsError::Memory(_)))
     }
 }
 
 impl From<SetError> for Fault {
     fn from(fault: SetError) -> Self {
-        match fault {
-            SetError::Memory(_) => Fault::Memory,
-            _ => Fault::Other,
-        }
+        fault_of(matches!(fault, SetError::Memory(_)))
     }
 }
 
 impl From<JsonError> for Fault {
     fn from(fault: JsonError) -> Self {
-        match fault {
-            JsonError::Memory(_) => Fault::Memory,
-            _ => Fault::Other,
-        }
+        fault_of(matches!(fault, JsonError::Memory(_)))
     }
 }
 
 impl From<RangesError> for Fault {
     fn from(fault: RangesError) -> Self {
-        match fault {
-            RangesError::Memory(_) => Fault::Memory,
-            _ => Fault::Other,
-        }
+        fault_of(matches!(fault, RangesError::Memory(_)))
     }
 }
 
 impl From<LinesFault> for Fault {
     fn from(fault: LinesFault) -> Self {
-        match fault {
-            LinesFault::Memory => Fault::Memory,
-            _ => Fault::Other,
-        }
+        fault_of(matches!(fault, LinesFault::Memory))
     }
 }
 
 impl From<DfaError> for Fault {
     fn from(fault: DfaError) -> Self {
-        match fault {
-            DfaError::Memory(_) => Fault::Memory,
-            DfaError::TooMany => Fault::Other,
-        }
+        fault_of(matches!(fault, DfaError::Memory(_)))
     }
 }
 
 impl From<MatrixError> for Fault {
     fn from(fault: MatrixError) -> Self {
-        match fault {
-            MatrixError::Memory(_) => Fault::Memory,
-            MatrixError::Length => Fault::Other,
-        }
+        fault_of(matches!(fault, MatrixError::Memory(_)))
     }
 }

@@ -65,8 +65,8 @@ const CHAIN: &[Block] = &[
     ),
 ];
 
-// The memory that a call over the ring may ask for: twelve sets, the blocks that wait, and a vector with the row of each
-// block, of those that follow it: these are few, and lie in the row. Nothing is asked for when a block is visited.
+// The memory that a call over the ring may ask for: twelve sets, the blocks that wait, and a vector with the row of
+// each block, of those that follow it: these are few, and lie in the row. A visit of a block asks for nothing.
 const RING_ASKS: &[Ask] = &[
     Ask::Lists(12, 5001),
     Ask::Other(1, 8),
@@ -82,25 +82,25 @@ const CHAIN_ASKS: &[Ask] = &[
     Ask::Other(2, BLOCKS * (48 + 64)),
 ];
 
-pub enum FlowCall {
+pub enum Call {
     Solve,
     LiveVariables,
     ReachingDefinitions,
     AvailableExpressions,
 }
 
-pub const ROWS: &[Row<FlowCall>] = table! {
-    "solve", RING_ASKS, FlowCall::Solve;
-    "live_variables", RING_ASKS, FlowCall::LiveVariables;
-    "reaching_definitions", RING_ASKS, FlowCall::ReachingDefinitions;
-    "available_expressions", CHAIN_ASKS, FlowCall::AvailableExpressions;
+pub const ROWS: &[Row<Call>] = table! {
+    "solve", RING_ASKS, Call::Solve;
+    "live_variables", RING_ASKS, Call::LiveVariables;
+    "reaching_definitions", RING_ASKS, Call::ReachingDefinitions;
+    "available_expressions", CHAIN_ASKS, Call::AvailableExpressions;
 };
 
-impl FlowCall {
+impl Call {
     // The blocks of its problem.
     fn blocks(&self) -> &'static [Block] {
         match self {
-            FlowCall::AvailableExpressions => CHAIN,
+            Call::AvailableExpressions => CHAIN,
             _ => RING,
         }
     }
@@ -134,14 +134,20 @@ pub enum Problem<B: BitBlock> {
     AvailableExpressions(Vec<ExpressionBlock<B>>),
 }
 
+macro_rules! push_block {
+    ($blocks:ident, $block:ident { $($field:ident: $part:ident),* }) => {
+        push($blocks, $block { $($field: $part),* })
+    };
+}
+
 impl<B: BitBlock> Problem<B> {
     // That of a call, with no blocks.
-    fn new(alloc: Global, call: &FlowCall) -> Self {
+    fn new(alloc: Global, call: &Call) -> Self {
         match call {
-            FlowCall::Solve => Problem::Solve(Vec::new(alloc)),
-            FlowCall::LiveVariables => Problem::LiveVariables(Vec::new(alloc)),
-            FlowCall::ReachingDefinitions => Problem::ReachingDefinitions(Vec::new(alloc)),
-            FlowCall::AvailableExpressions => Problem::AvailableExpressions(Vec::new(alloc)),
+            Call::Solve => Problem::Solve(Vec::new(alloc)),
+            Call::LiveVariables => Problem::LiveVariables(Vec::new(alloc)),
+            Call::ReachingDefinitions => Problem::ReachingDefinitions(Vec::new(alloc)),
+            Call::AvailableExpressions => Problem::AvailableExpressions(Vec::new(alloc)),
         }
     }
 
@@ -153,38 +159,18 @@ impl<B: BitBlock> Problem<B> {
             killed,
         } = block;
         match self {
-            Problem::Solve(blocks) => push(
-                blocks,
-                FlowBlock {
-                    sources,
-                    generated,
-                    killed,
-                },
-            ),
-            Problem::LiveVariables(blocks) => push(
-                blocks,
-                VariableBlock {
-                    successors: sources,
-                    used: generated,
-                    assigned: killed,
-                },
-            ),
-            Problem::ReachingDefinitions(blocks) => push(
-                blocks,
-                DefinitionBlock {
-                    predecessors: sources,
-                    defined: generated,
-                    overwritten: killed,
-                },
-            ),
-            Problem::AvailableExpressions(blocks) => push(
-                blocks,
-                ExpressionBlock {
-                    predecessors: sources,
-                    computed: generated,
-                    killed,
-                },
-            ),
+            Problem::Solve(blocks) => push_block! {
+                blocks, FlowBlock { sources: sources, generated: generated, killed: killed }
+            },
+            Problem::LiveVariables(blocks) => push_block! {
+                blocks, VariableBlock { successors: sources, used: generated, assigned: killed }
+            },
+            Problem::ReachingDefinitions(blocks) => push_block! {
+                blocks, DefinitionBlock { predecessors: sources, defined: generated, overwritten: killed }
+            },
+            Problem::AvailableExpressions(blocks) => push_block! {
+                blocks, ExpressionBlock { predecessors: sources, computed: generated, killed: killed }
+            },
         }
     }
 
@@ -209,8 +195,8 @@ fn are_solved<B: BitBlock>(blocks: &[Block], sets: &mut [BitSet<B>]) -> bool {
     is_right
 }
 
-impl<B: BitBlock> Trial<FlowCall> for Problem<B> {
-    fn prepare(alloc: Global, call: &FlowCall) -> Result<Self, Fault> {
+impl<B: BitBlock> Trial<Call> for Problem<B> {
+    fn prepare(alloc: Global, call: &Call) -> Result<Self, Fault> {
         let mut problem = Problem::new(alloc, call);
         for block in call.blocks() {
             problem.append(flow_block(alloc, block)?)?;
@@ -218,13 +204,13 @@ impl<B: BitBlock> Trial<FlowCall> for Problem<B> {
         Ok(problem)
     }
 
-    fn make(&mut self, alloc: Global, call: &FlowCall) -> Result<bool, Fault> {
+    fn make(&mut self, alloc: Global, call: &Call) -> Result<bool, Fault> {
         let mut sets = self.solved(alloc)?;
         Ok(are_solved(call.blocks(), sets.as_mut_slice()))
     }
 
     // The blocks are as before after the call: a further one solves them.
-    fn is_right(&mut self, alloc: Global, call: &FlowCall, _returned: bool) -> Result<bool, Fault> {
+    fn is_right(&mut self, alloc: Global, call: &Call, _returned: bool) -> Result<bool, Fault> {
         self.make(alloc, call)
     }
 }

@@ -22,17 +22,17 @@ mod users;
 use bit_set::{BitBlock, JsonBlock};
 use changes::{Change, Sets};
 use faults::Fault;
-use flow_problems::{FlowCall, Problem};
+use flow_problems::Problem;
 use json::{Form, Forms};
-use matrices::{Matrices, MatrixCall};
+use matrices::Matrices;
 use plain::Moves;
-use runs::{RunCall, Running};
-use state_machines::{MachineCall, Machines};
+use runs::Running;
+use state_machines::Machines;
 use std::env;
 use std::process::ExitCode;
 use sweep::Sweep;
 use tables::{CHANGES, GROUPS, PLAIN};
-use users::{UserCall, Users};
+use users::Users;
 
 // The words after the program's name.
 fn words(rt: &HostRuntime) -> Result<Vec<String>, Fault> {
@@ -43,12 +43,12 @@ fn words(rt: &HostRuntime) -> Result<Vec<String>, Fault> {
 fn over<'a, B: BitBlock>(sweep: &mut Sweep<'a>, block: &'a str) {
     sweep.go_over(block, B::bits());
     sweep.over::<Change, Sets<B>>(CHANGES);
-    sweep.over::<RunCall, Running<B>>(runs::ROWS);
+    sweep.over::<runs::Call, Running<B>>(runs::ROWS);
     sweep.over::<Change, Sets<B>>(GROUPS);
-    sweep.over::<MatrixCall, Matrices<B>>(matrices::ROWS);
-    sweep.over::<UserCall, Users<B>>(users::ROWS);
-    sweep.over::<FlowCall, Problem<B>>(flow_problems::ROWS);
-    sweep.over::<MachineCall, Machines<B>>(state_machines::ROWS);
+    sweep.over::<matrices::Call, Matrices<B>>(matrices::ROWS);
+    sweep.over::<users::Call, Users<B>>(users::ROWS);
+    sweep.over::<flow_problems::Call, Problem<B>>(flow_problems::ROWS);
+    sweep.over::<state_machines::Call, Machines<B>>(state_machines::ROWS);
 }
 
 // Those and the calls of the JSON form.
@@ -76,39 +76,24 @@ fn over_named(sweep: &mut Sweep<'_>, block: &str) -> bool {
     true
 }
 
-// The status after these calls: 0 where each went as it may, 1 where one did not, 3 where one was not made.
-fn status(sweep: &Sweep<'_>) -> u8 {
-    if !sweep.is_whole() {
-        return 3;
+// Makes the call of this name, or all where there is none, over these types of blocks. The status after that, and 2
+// where there is no such type.
+fn swept_over(rt: &HostRuntime, name: Option<&str>, blocks: &[&str]) -> u8 {
+    let mut sweep = Sweep::new(rt, name);
+    for block in blocks {
+        if !over_named(&mut sweep, block) {
+            return 2;
+        }
     }
-    u8::from(!sweep.is_right())
-}
-
-// Makes the call of this name over this type of blocks. The status after that, and 2 where there is no such type.
-fn swept_one(rt: &HostRuntime, block: &str, name: &str) -> u8 {
-    let mut sweep = Sweep::new(rt, Some(name));
-    if over_named(&mut sweep, block) {
-        status(&sweep)
-    } else {
-        2
-    }
-}
-
-// Makes all calls. The status after that.
-fn swept_all(rt: &HostRuntime) -> u8 {
-    let mut sweep = Sweep::new(rt, None);
-    for block in ["u8", "u32", "u64", "u128"] {
-        over_named(&mut sweep, block);
-    }
-    status(&sweep)
+    sweep.status()
 }
 
 // Makes the call that the words name, after its type of blocks, or all of them where there is no word. The status after
 // that, and 2 where they name none.
 fn swept(rt: &HostRuntime, words: &[String]) -> u8 {
     match words {
-        [] => swept_all(rt),
-        [block, name] => swept_one(rt, block.as_str(), name.as_str()),
+        [] => swept_over(rt, None, &["u8", "u32", "u64", "u128"]),
+        [block, name] => swept_over(rt, Some(name.as_str()), &[block.as_str()]),
         _ => 2,
     }
 }

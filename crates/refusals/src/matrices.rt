@@ -8,7 +8,7 @@ use bit_set::{BitBlock, BitSet};
 use graph_walks::transitive_closure;
 use std::alloc::{AllocError, Global};
 
-pub enum MatrixCall {
+pub enum Call {
     New,
     FromRow,
     Clone,
@@ -23,14 +23,14 @@ pub enum MatrixCall {
 // How many columns the matrices have: the length of the set that each row is.
 const COLUMNS: usize = 5001;
 
-pub const ROWS: &[Row<MatrixCall>] = table! {
-    "matrix_new", &[Ask::Rows(3, COLUMNS)], MatrixCall::New;
-    "matrix_from_row", &[Ask::Rows(2, COLUMNS)], MatrixCall::FromRow;
-    "matrix_clone", &[Ask::Rows(2, COLUMNS)], MatrixCall::Clone;
-    "matrix_transpose", &[Ask::Rows(COLUMNS, 2)], MatrixCall::Transpose;
-    "matrix_row_to_set", &[Ask::Exact(COLUMNS)], MatrixCall::RowToSet;
-    "matrix_too_large", &[], MatrixCall::TooMany;
-    "matrix_changes", &[], MatrixCall::Change;
+pub const ROWS: &[Row<Call>] = table! {
+    "matrix_new", &[Ask::Rows(3, COLUMNS)], Call::New;
+    "matrix_from_row", &[Ask::Rows(2, COLUMNS)], Call::FromRow;
+    "matrix_clone", &[Ask::Rows(2, COLUMNS)], Call::Clone;
+    "matrix_transpose", &[Ask::Rows(COLUMNS, 2)], Call::Transpose;
+    "matrix_row_to_set", &[Ask::Exact(COLUMNS)], Call::RowToSet;
+    "matrix_too_large", &[], Call::TooMany;
+    "matrix_changes", &[], Call::Change;
 };
 
 /// The set that is lent, and two rows of it.
@@ -92,57 +92,43 @@ fn is_row_of_lent<B: BitBlock>(alloc: Global, rows: &BitMatrix<B>) -> Result<boo
     Ok(is_state(&set, LENT))
 }
 
-fn made<B: BitBlock>(
-    alloc: Global,
-    call: &MatrixCall,
-    set: &BitSet<B>,
-    rows: &BitMatrix<B>,
-) -> Result<BitMatrix<B>, Fault> {
-    Ok(match call {
-        MatrixCall::New => BitMatrix::new_general(alloc, 3, COLUMNS)?,
-        MatrixCall::FromRow => BitMatrix::from_row(alloc, set, 2)?,
-        MatrixCall::Clone => rows.clone(alloc)?,
-        _ => rows.transpose(alloc)?,
-    })
-}
-
 // Makes a matrix. Whether it is right.
 fn makes<B: BitBlock>(
     alloc: Global,
-    call: &MatrixCall,
+    call: &Call,
     set: &BitSet<B>,
     rows: &BitMatrix<B>,
 ) -> Result<bool, Fault> {
-    let made = made(alloc, call, set, rows)?;
     Ok(match call {
-        MatrixCall::New => has_rows(&made, 3, COLUMNS, &[]),
-        MatrixCall::Transpose => is_transposed(&made),
-        _ => made == *rows,
+        Call::New => has_rows(
+            &BitMatrix::<B>::new_general(alloc, 3, COLUMNS)?,
+            3,
+            COLUMNS,
+            &[],
+        ),
+        Call::FromRow => BitMatrix::from_row(alloc, set, 2)? == *rows,
+        Call::Clone => rows.clone(alloc)? == *rows,
+        _ => is_transposed(&rows.transpose(alloc)?),
     })
 }
 
-impl<B: BitBlock> Trial<MatrixCall> for Matrices<B> {
-    fn prepare(alloc: Global, _call: &MatrixCall) -> Result<Self, Fault> {
+impl<B: BitBlock> Trial<Call> for Matrices<B> {
+    fn prepare(alloc: Global, _call: &Call) -> Result<Self, Fault> {
         let lent = set_of(alloc, LENT_ELEMENTS)?;
         let rows = BitMatrix::from_row(alloc, &lent, 2)?;
         Ok(Matrices { lent, rows })
     }
 
-    fn make(&mut self, alloc: Global, call: &MatrixCall) -> Result<bool, Fault> {
+    fn make(&mut self, alloc: Global, call: &Call) -> Result<bool, Fault> {
         match call {
-            MatrixCall::RowToSet => Ok(is_row_of_lent(alloc, &self.rows)?),
-            MatrixCall::TooMany => Ok(is_too_large::<B>(alloc)),
-            MatrixCall::Change => Ok(changes(&mut self.rows)),
+            Call::RowToSet => Ok(is_row_of_lent(alloc, &self.rows)?),
+            Call::TooMany => Ok(is_too_large::<B>(alloc)),
+            Call::Change => Ok(changes(&mut self.rows)),
             _ => makes(alloc, call, &self.lent, &self.rows),
         }
     }
 
-    fn is_right(
-        &mut self,
-        _alloc: Global,
-        _call: &MatrixCall,
-        _returned: bool,
-    ) -> Result<bool, Fault> {
+    fn is_right(&mut self, _alloc: Global, _call: &Call, _returned: bool) -> Result<bool, Fault> {
         Ok(is_state(&self.lent, LENT) & has_rows(&self.rows, 2, COLUMNS, LENT_ELEMENTS))
     }
 }

@@ -1,7 +1,7 @@
 // Calls over blocks of 32 bits alone.
 use crate::faults::Fault;
 use crate::states::{State, is_state, works};
-use crate::sweep::{Row, Trial};
+use crate::sweep::{Row, Trial, table};
 use bit_set::BitSet;
 use bit_set::bit_vec::BitVec;
 use bit_set_run::Numbers;
@@ -78,8 +78,4 @@ impl Trial<()> for Moves {
     }
 }
 
-pub const MOVES: &[Row<()>] = &[Row {
-    name: "plain_moves",
-    asks: &[],
-    call: (),
-}];
+pub const MOVES: &[Row<()>] = table! { "plain_moves", &[], (); };

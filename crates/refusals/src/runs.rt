@@ -46,24 +46,14 @@ const LINES: &[Line] = lines! {
 // What the sets may be behind all lines.
 const LAST: &[Three] = &[UNITED];
 
-// The memory that the commands may ask for, one after another, and then some more: the sets, the numbers in three of the
-// replies, and the vector of the replies, which doubles twice.
+// The memory that the commands may ask for, one after another, and then some more: the sets, the numbers in three of
+// the replies, and the vector of the replies, which doubles twice.
 macro_rules! asks_of_commands {
     ($($more:expr),*) => {
         &[
-            Ask::Grown(4),
-            Ask::Grown(448),
-            Ask::Grown(5001),
-            Ask::Exact(448),
-            Ask::Grown(5001),
-            Ask::Other(3, 3 * 32),
-            Ask::Grown(5001),
-            Ask::Exact(5001),
-            Ask::Grown(9000),
-            Ask::Exact(9000),
-            Ask::Exact(5001),
-            Ask::Other(3, (4 + 8 + 16) * 64),
-            $($more),*
+            Ask::Grown(4), Ask::Grown(448), Ask::Grown(5001), Ask::Exact(448), Ask::Grown(5001), Ask::Other(3, 3 * 32),
+            Ask::Grown(5001), Ask::Exact(5001), Ask::Grown(9000), Ask::Exact(9000), Ask::Exact(5001),
+            Ask::Other(3, (4 + 8 + 16) * 64), $($more),*
         ]
     };
 }
@@ -75,21 +65,21 @@ const ASKS_OF_LINES: &[Ask] = asks_of_commands!(
     Ask::Other(5, 8 + 16 + 32 + 64 + 128)
 );
 
-pub enum RunCall {
+pub enum Call {
     OfCommands,
     // A thousand that need no memory, with capacity for their replies.
     Thousand,
     OfLines,
 }
 
-pub const ROWS: &[Row<RunCall>] = table! {
-    "run", asks_of_commands!(), RunCall::OfCommands;
-    "run_thousand_within", &[], RunCall::Thousand;
-    "run_lines", ASKS_OF_LINES, RunCall::OfLines;
+pub const ROWS: &[Row<Call>] = table! {
+    "run", asks_of_commands!(), Call::OfCommands;
+    "run_thousand_within", &[], Call::Thousand;
+    "run_lines", ASKS_OF_LINES, Call::OfLines;
 };
 
-/// Commands on a table, the replies to those that were executed, and how many these are; and lines, and what is written,
-/// which takes the whole output without memory.
+/// Commands on a table, the replies to those that were executed, and how many these are; and lines, and what is
+/// written, which takes the whole output without memory.
 #[derive(Drop)]
 pub struct Running<B: BitBlock> {
     commands: Vec<Command>,
@@ -169,14 +159,6 @@ fn are_replies(alloc: Global, count: usize, replies: &[Reply]) -> Result<bool, A
     Ok(is_right)
 }
 
-// Whether what was written is all replies where the call returned, and else nothing.
-fn is_written(alloc: Global, written: &[u8], has_returned: bool) -> Result<bool, AllocError> {
-    if !has_returned {
-        return Ok(written.is_empty());
-    }
-    Ok(joined(alloc, true)?.as_slice() == written)
-}
-
 impl<B: BitBlock> Running<B> {
     fn run(&mut self, alloc: Global) -> Result<bool, Fault> {
         match run(alloc, &mut self.table, &self.commands, &mut self.replies) {
@@ -203,10 +185,10 @@ impl<B: BitBlock> Running<B> {
     }
 }
 
-impl<B: BitBlock> Trial<RunCall> for Running<B> {
-    fn prepare(alloc: Global, call: &RunCall) -> Result<Self, Fault> {
+impl<B: BitBlock> Trial<Call> for Running<B> {
+    fn prepare(alloc: Global, call: &Call) -> Result<Self, Fault> {
         let (commands, capacity) = match call {
-            RunCall::Thousand => (thousand_commands(alloc)?, 1000),
+            Call::Thousand => (thousand_commands(alloc)?, 1000),
             _ => (commands(alloc)?, 0),
         };
         let replies = Vec::with_capacity(alloc, capacity)?;
@@ -222,9 +204,9 @@ impl<B: BitBlock> Trial<RunCall> for Running<B> {
         })
     }
 
-    fn make(&mut self, alloc: Global, call: &RunCall) -> Result<bool, Fault> {
+    fn make(&mut self, alloc: Global, call: &Call) -> Result<bool, Fault> {
         match call {
-            RunCall::OfLines => {
+            Call::OfLines => {
                 let mut reader = self.input.as_slice();
                 run_lines::<B, _, _>(alloc, &mut reader, &mut self.written)?;
                 Ok(true)
@@ -234,20 +216,16 @@ impl<B: BitBlock> Trial<RunCall> for Running<B> {
     }
 
     // Whether what was executed has its replies and left the sets as it must, and one more command is executed.
-    fn is_right(
-        &mut self,
-        alloc: Global,
-        call: &RunCall,
-        has_returned: bool,
-    ) -> Result<bool, Fault> {
+    fn is_right(&mut self, alloc: Global, call: &Call, has_returned: bool) -> Result<bool, Fault> {
         let is_done = has_returned == (self.done == self.commands.len());
         match call {
-            RunCall::OfCommands => {
+            Call::OfCommands => {
                 let are_right = are_replies(alloc, self.done, self.replies.as_slice())?;
                 Ok(is_done & are_right & may_stand(&self.table, self.done) & self.goes_on(alloc))
             }
-            RunCall::Thousand => Ok(is_done & (self.replies.len() == 1000)),
-            RunCall::OfLines => Ok(is_written(alloc, self.written.as_slice(), has_returned)?),
+            Call::Thousand => Ok(is_done & (self.replies.len() == 1000)),
+            Call::OfLines if !has_returned => Ok(self.written.is_empty()),
+            Call::OfLines => Ok(joined(alloc, true)?.as_slice() == self.written.as_slice()),
         }
     }
 }

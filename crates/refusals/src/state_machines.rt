@@ -14,21 +14,21 @@ const THIRD: &[usize] = &[0, 1, 0, 0];
 
 const SECOND: &[usize] = &[0, 0, 1, 0];
 
-pub enum MachineCall {
+pub enum Call {
     // A short word, and one of a thousand symbols, for whose runs there are two sets.
     Accept,
     AcceptThousand,
     Determinize,
-    // Whether automata are equivalent that accept in state 5000, and in 5000 or 2.
-    CompareEqual,
-    CompareOther,
+    // Looks for a word that only one of two automata accepts, of which one accepts in state 5000 and the other in this
+    // one. It is this word, or empty where there is none.
+    Compare(usize, &'static [usize]),
     // Makes an automaton that starts nowhere and accepts nowhere, and reads a table.
     Make,
 }
 
-// Two copies of each of eight sets, of which the first is {0}, and a spare set; the accepting states; the list of the
-// sets, of 64 bytes each, and the sixteen numbers of the table, two lists that double; and a leaf of the map from sets to
-// their numbers, with places for fifteen of both and a word for how many there are.
+// Of determinizing: two copies of each of eight sets, of which the first is {0}, and a spare set; the accepting states;
+// the list of the sets, of 64 bytes each, and the sixteen numbers of the table, two lists that double; and a leaf of
+// the map from sets to their numbers, with places for fifteen of both and a word for how many there are.
 const DETERMINIZE: &[Ask] = &[
     Ask::Lists(2, 1),
     Ask::Lists(15, 5001),
@@ -38,19 +38,16 @@ const DETERMINIZE: &[Ask] = &[
     Ask::Other(1, 15 * (64 + 8) + 8),
 ];
 
-// Nine rows of nine bits, each at whole blocks, four words for each pair that is met, and the word. Of equal automata
-// eight pairs are met, in a list that doubles once, and else those of the words `1`, `10`, `11` and the empty one.
-const COMPARE_EQUAL: &[Ask] = &[Ask::Rows(9, 9), Ask::Other(2, (4 + 8) * 32)];
-
-const COMPARE_OTHER: &[Ask] = &[Ask::Rows(9, 9), Ask::Other(1, 4 * 32), Ask::Other(1, 4 * 8)];
-
-pub const ROWS: &[Row<MachineCall>] = table! {
-    "accepts", &[Ask::Lists(2, 5001)], MachineCall::Accept;
-    "accepts_thousand", &[Ask::Lists(2, 5001)], MachineCall::AcceptThousand;
-    "determinize", DETERMINIZE, MachineCall::Determinize;
-    "equivalent", COMPARE_EQUAL, MachineCall::CompareEqual;
-    "equivalent_differ", COMPARE_OTHER, MachineCall::CompareOther;
-    "automata", &[], MachineCall::Make;
+// Of a comparison: nine rows of nine bits, each at whole blocks, four words for each pair that is met, and the word. Of
+// equal automata eight pairs are met, in a list that doubles once, and else those of the words `1`, `10`, `11` and the
+// empty one.
+pub const ROWS: &[Row<Call>] = table! {
+    "accepts", &[Ask::Lists(2, 5001)], Call::Accept;
+    "accepts_thousand", &[Ask::Lists(2, 5001)], Call::AcceptThousand;
+    "determinize", DETERMINIZE, Call::Determinize;
+    "equivalent", &[Ask::Rows(9, 9), Ask::Other(2, (4 + 8) * 32)], Call::Compare(5000, &[]);
+    "equivalent_differ", &[Ask::Rows(9, 9), Ask::Other(1, 4 * 32), Ask::Other(1, 4 * 8)], Call::Compare(2, &[1, 0]);
+    "automata", &[], Call::Make;
 };
 
 // The sets to which each of two symbols leads from the states 0, 1 and 2.
@@ -97,12 +94,6 @@ fn is_table<B: BitBlock>(dfa: &Dfa<B>) -> bool {
     (dfa.states() == 8) & dfa.accepts(THIRD) & !dfa.accepts(SECOND)
 }
 
-// Whether the automaton is determinized to that.
-fn is_determinized<B: BitBlock>(alloc: Global, nfa: &Nfa<B>) -> Result<bool, Fault> {
-    let dfa = determinize(alloc, nfa, 8)?;
-    Ok(is_table(&dfa))
-}
-
 // Whether this is the word that is found, which just one of the two accepts, or none is and it is empty.
 fn tells_apart<B: BitBlock>(
     alloc: Global,
@@ -135,12 +126,11 @@ pub struct Machines<B: BitBlock> {
     b: Dfa<B>,
 }
 
-impl<B: BitBlock> Trial<MachineCall> for Machines<B> {
-    fn prepare(alloc: Global, call: &MachineCall) -> Result<Self, Fault> {
-        let accepting = if matches!(call, MachineCall::CompareOther) {
-            2
-        } else {
-            5000
+impl<B: BitBlock> Trial<Call> for Machines<B> {
+    fn prepare(alloc: Global, call: &Call) -> Result<Self, Fault> {
+        let accepting = match call {
+            Call::Compare(accepting, _) => *accepting,
+            _ => 5000,
         };
         let nfa = automaton(alloc, 5000)?;
         let moves = moves(alloc)?;
@@ -149,29 +139,26 @@ impl<B: BitBlock> Trial<MachineCall> for Machines<B> {
         Ok(Machines { nfa, moves, a, b })
     }
 
-    fn make(&mut self, alloc: Global, call: &MachineCall) -> Result<bool, Fault> {
+    fn make(&mut self, alloc: Global, call: &Call) -> Result<bool, Fault> {
         match call {
-            MachineCall::Accept => Ok(accepts(alloc, &self.nfa, THIRD)?),
-            MachineCall::AcceptThousand => Ok(accepts_thousand(alloc, &self.nfa)?),
-            MachineCall::Determinize => is_determinized(alloc, &self.nfa),
-            MachineCall::CompareEqual => Ok(tells_apart(alloc, &self.a, &self.b, &[])?),
-            MachineCall::CompareOther => Ok(tells_apart(alloc, &self.a, &self.b, &[1, 0])?),
-            MachineCall::Make => {
+            Call::Accept => Ok(accepts(alloc, &self.nfa, THIRD)?),
+            Call::AcceptThousand => Ok(accepts_thousand(alloc, &self.nfa)?),
+            Call::Determinize => {
+                let dfa = determinize(alloc, &self.nfa, 8)?;
+                Ok(is_table(&dfa))
+            }
+            Call::Compare(_, word) => Ok(tells_apart(alloc, &self.a, &self.b, word)?),
+            Call::Make => {
                 self.nfa = idle(alloc, &mut self.moves);
                 Ok(is_table(&self.a) & (self.a.symbols() == 2))
             }
         }
     }
 
-    fn is_right(
-        &mut self,
-        alloc: Global,
-        call: &MachineCall,
-        _returned: bool,
-    ) -> Result<bool, Fault> {
+    fn is_right(&mut self, alloc: Global, call: &Call, _returned: bool) -> Result<bool, Fault> {
         let are_tables = is_table(&self.a) & (self.b.accepts(SECOND) != self.b.accepts(THIRD));
         let is_right = match call {
-            MachineCall::Make => self.nfa.symbols() == 2 && !accepts(alloc, &self.nfa, THIRD)?,
+            Call::Make => self.nfa.symbols() == 2 && !accepts(alloc, &self.nfa, THIRD)?,
             _ => is_whole(alloc, &self.nfa)?,
         };
         Ok(are_tables & is_right)

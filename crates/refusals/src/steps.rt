@@ -20,8 +20,8 @@ pub enum Step {
     Sum(Walk),
     /// How many a walk gives; the own one past its first.
     Count(Walk),
-    /// 1 where a walk over 5001 places says that it gives from none up to those of their whole blocks, and else the most
-    /// that it says.
+    /// 1 where a walk over 5001 places says that it gives from none up to those of their whole blocks, and else the
+    /// most that it says.
     Hint(Walk),
     Text(Text),
     Alter(Alter),
@@ -182,9 +182,8 @@ fn has_two_runs<B: BitBlock>(set: &BitSet<B>) -> bool {
     let first = walk.next().unwrap_or(0..0);
     let second = walk.clone().next().unwrap_or(0..0);
     walk.next();
-    let is_first = (first.start, first.end) == (3, 4);
-    let is_second = (second.start, second.end) == (447, 448);
-    is_first & is_second & walk.next().is_none()
+    let found = [first.start, first.end, second.start, second.end];
+    (found == [3, 4, 447, 448]) & walk.next().is_none()
 }
 
 fn is_so<B: BitBlock>(step: &Truth, set: &BitSet<B>, lent: &BitSet<B>) -> bool {
@@ -346,16 +345,6 @@ fn bits_are_so<B: BitBlock>(step: &TruthOfBits, bits: &BitVec<B>, lent: &BitVec<
     }
 }
 
-fn merge<B: BitBlock>(step: &AlterBits, bits: &mut BitVec<B>, lent: &BitVec<B>) {
-    if lent.len() > bits.len() {
-        return;
-    }
-    match step {
-        AlterBits::MergeBlocks => bits.merge_blocks(lent, Merge::Symmetric, &mut Steps::new()),
-        _ => bits.merge(lent, Merge::Union),
-    }
-}
-
 // What `replace` returns, and else false.
 fn alter_bits<B: BitBlock>(step: &AlterBits, bits: &mut BitVec<B>, lent: &BitVec<B>) -> bool {
     match step {
@@ -365,28 +354,16 @@ fn alter_bits<B: BitBlock>(step: &AlterBits, bits: &mut BitVec<B>, lent: &BitVec
         AlterBits::CutZeroBlocks => bits.cut_zero_blocks(),
         AlterBits::Fill => bits.fill(true),
         AlterBits::RemoveAll => bits.remove_all(),
-        _ => merge(step, bits, lent),
+        AlterBits::MergeBlocks if lent.len() <= bits.len() => {
+            bits.merge_blocks(lent, Merge::Symmetric, &mut Steps::new());
+        }
+        AlterBits::Merge if lent.len() <= bits.len() => bits.merge(lent, Merge::Union),
+        _ => {}
     }
     false
 }
 
-// What a step that changes nothing returns.
-fn read<B: BitBlock>(alloc: Global, step: &Step, set: &BitSet<B>, lent: &BitSet<B>) -> usize {
-    let (bits, lent_bits) = (set.get_ref(), lent.get_ref());
-    match step {
-        Step::Number(step) => number_of(step, set),
-        Step::Truth(step) => usize::from(is_so(step, set, lent)),
-        Step::Sum(step) => sum_of(step, set, lent),
-        Step::Count(step) => count_of(step, set, lent),
-        Step::Hint(step) => number_of_hint(hint_of(step, set, lent), B::bits()),
-        Step::Text(text) => usize::from(pieces(text, set) > 1),
-        Step::OfBits(step) => of_bits(step, bits),
-        Step::TruthOfBits(step) => usize::from(bits_are_so(step, bits, lent_bits)),
-        Step::OfNew(step) => of_nothing::<B>(alloc, step),
-        _ => 0,
-    }
-}
-
+// What a step returns.
 fn number_at<B: BitBlock>(
     alloc: Global,
     step: &Step,
@@ -394,9 +371,17 @@ fn number_at<B: BitBlock>(
     lent: &BitSet<B>,
 ) -> usize {
     match step {
+        Step::Number(step) => number_of(step, set),
+        Step::Truth(step) => usize::from(is_so(step, set, lent)),
+        Step::Sum(step) => sum_of(step, set, lent),
+        Step::Count(step) => count_of(step, set, lent),
+        Step::Hint(step) => number_of_hint(hint_of(step, set, lent), B::bits()),
+        Step::Text(text) => usize::from(pieces(text, set) > 1),
+        Step::OfBits(step) => of_bits(step, set.get_ref()),
+        Step::TruthOfBits(step) => { usize::from(bits_are_so(step, set.get_ref(), lent.get_ref())) }
+        Step::OfNew(step) => of_nothing::<B>(alloc, step),
         Step::Alter(step) => alter_set(alloc, step, set),
         Step::AlterBits(step) => usize::from(alter_bits(step, set.get_mut(), lent.get_ref())),
-        _ => read(alloc, step, set, lent),
     }
 }
 

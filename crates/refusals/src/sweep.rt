@@ -40,8 +40,7 @@ pub struct Sweep<'a> {
     block: &'a str,
     width: usize,
     name: Option<&'a str>,
-    is_right: bool,
-    is_whole: bool,
+    status: u8,
 }
 
 impl<'a> Sweep<'a> {
@@ -52,8 +51,7 @@ impl<'a> Sweep<'a> {
             block: "",
             width: 0,
             name,
-            is_right: true,
-            is_whole: true,
+            status: 0,
         }
     }
 
@@ -63,14 +61,9 @@ impl<'a> Sweep<'a> {
         self.width = width;
     }
 
-    /// Whether each call went as it may.
-    pub fn is_right(&self) -> bool {
-        self.is_right
-    }
-
-    /// Whether each call was made.
-    pub fn is_whole(&self) -> bool {
-        self.is_whole
+    /// 0 where each call went as it may, 1 where one did not, 3 where one was not made.
+    pub fn status(&self) -> u8 {
+        self.status
     }
 
     // Whether the call of this name is one of them.
@@ -137,9 +130,10 @@ impl<'a> Sweep<'a> {
     pub fn over<C, T: Trial<C>>(&mut self, rows: &[Row<C>]) {
         for row in rows {
             if self.has(row.name) {
-                let outcome = self.tried::<C, T>(row);
-                self.is_right &= outcome == Ok(true);
-                self.is_whole &= outcome.is_ok();
+                self.status = self.status.max(match self.tried::<C, T>(row) {
+                    Ok(is_right) => u8::from(!is_right),
+                    Err(_) => 3,
+                });
             }
         }
     }

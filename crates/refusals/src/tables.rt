@@ -1,11 +1,10 @@
 // The calls on sets, in the order in which they are made, with what each may ask for and leaves.
-use crate::asks::Ask;
-use crate::changes::{
-    Bits, BitsCopied, Call, Change, Copied, Exchange, InPlace, Make, Order, Put, Report,
-};
+use crate::asks::Ask::{self, Exact, Grown, Lists, Other};
+use crate::changes::{Bits, Call, Change, Exchange, InPlace, Make, Order, Put, Report};
 use crate::failing_writers::Text;
 use crate::plain::Plain;
-use crate::states::{AMPLE, EMPTY, FIRST, FULL, LENT, LONG, SHORT, State};
+use crate::states::State::{self, Blocks, Filled, Of};
+use crate::states::{AMPLE, EMPTY, FIRST, FULL, LENT, LONG, SHORT};
 use crate::steps::{
     Alter, AlterBits, Number, OfBits, OfNew, Step, Truth, TruthOfBits, Walk as Count, Walk as Hint,
     Walk as Sum,
@@ -14,45 +13,11 @@ use crate::sweep::Row;
 
 const NONE: &[Ask] = &[];
 
-const GROWN: &[Ask] = &[Ask::Grown(5001)];
+const GROWN: &[Ask] = &[Grown(5001)];
 
-const EXACT: &[Ask] = &[Ask::Exact(5001)];
+const LENGTHENED: State = Of(&[3, 447], 5001);
 
-const FIRST_EXACT: &[Ask] = &[Ask::Exact(448)];
-
-const BYTES_EXACT: &[Ask] = &[Ask::Exact(128)];
-
-// What the bytes of the other set, and the set of these, ask for.
-const OWN_BYTES: &[Ask] = &[Ask::Other(1, 626), Ask::Exact(5008)];
-
-const LENGTHENED: State = State::Of(&[3, 447], 5001);
-
-const WITH_5000: State = State::Of(&[3, 447, 5000], 5001);
-
-const EXTENDED: State = State::Of(&[3, 9, 447, 450, 5000], 5001);
-
-const OF_ITEMS: State = State::Of(&[9, 450, 5000], 5001);
-
-const NO_ELEMENTS: State = State::Of(&[], 5000);
-
-const OF_BYTES: State = State::Of(&[0, 9, 90, 127], 128);
-
-const OF_BYTES_LSB: State = State::Of(&[7, 14, 93, 120], 128);
-
-const UNION: State = State::Of(&[3, 7, 447, 5000], 5001);
-
-const INTERSECTION: State = State::Of(&[3], 5001);
-
-const DIFFERENCE: State = State::Of(&[447], 5001);
-
-const SYMMETRIC: State = State::Of(&[7, 447, 5000], 5001);
-
-const OF_LAST: State = State::Of(&[447], 448);
-
-const SHIFTED: State = State::Of(&[4556, 5000], 5001);
-
-// What a shrink leaves: a length in whole blocks.
-const BLOCKS: State = State::Blocks(&[3, 447], 448);
+const UNION: State = Of(&[3, 7, 447, 5000], 5001);
 
 // A row for each line: the name, the memory that the call may ask for, the call, the start, what is left of the set and
 // of the one that is lent where it returns, and of the set where it fails.
@@ -64,100 +29,98 @@ macro_rules! changes {
             asks: $asks,
             call: Change {
                 call: Call::$kind($kind::$call$(($($with),+))?),
-                start: $start,
-                returned: $returned,
-                lent: $lent,
-                failed: $failed,
+                start: $start, returned: $returned, lent: $lent, failed: $failed,
             },
         }),*]
     };
 }
 
 pub const CHANGES: &[Row<Change>] = changes! {
-    "insert", GROWN, Put::Insert(5000), SHORT, WITH_5000, LENT, FIRST;
-    "insert_within", NONE, Put::Insert(5000), AMPLE, WITH_5000, LENT, FIRST;
-    "insert_next", &[Ask::Grown(1101)], Put::Insert(1100), SHORT, State::Of(&[3, 447, 1100], 1101), LENT, FIRST;
-    "extend", GROWN, Put::Extend, SHORT, EXTENDED, LENT, State::Of(&[3, 9, 447, 450], 451);
-    "extend_within", NONE, Put::Extend, AMPLE, EXTENDED, LENT, FIRST;
+    "insert", GROWN, Put::Insert(5000), SHORT, Of(&[3, 447, 5000], 5001), LENT, FIRST;
+    "insert_within", NONE, Put::Insert(5000), AMPLE, Of(&[3, 447, 5000], 5001), LENT, FIRST;
+    "insert_next", &[Grown(1101)], Put::Insert(1100), SHORT, Of(&[3, 447, 1100], 1101), LENT, FIRST;
+    "extend", GROWN, Put::Extend, SHORT, Of(&[3, 9, 447, 450, 5000], 5001), LENT, Of(&[3, 9, 447, 450], 451);
+    "extend_within", NONE, Put::Extend, AMPLE, Of(&[3, 9, 447, 450, 5000], 5001), LENT, FIRST;
     "union_with", GROWN, InPlace::Union, SHORT, UNION, LENT, FIRST;
     "union_with_within", NONE, InPlace::Union, AMPLE, UNION, LENT, FIRST;
-    "intersect_with", GROWN, InPlace::Intersection, SHORT, INTERSECTION, LENT, FIRST;
-    "intersect_with_within", NONE, InPlace::Intersection, AMPLE, INTERSECTION, LENT, FIRST;
-    "difference_with", GROWN, InPlace::Difference, SHORT, DIFFERENCE, LENT, FIRST;
-    "difference_with_within", NONE, InPlace::Difference, AMPLE, DIFFERENCE, LENT, FIRST;
-    "symmetric_difference_with", GROWN, InPlace::Symmetric, SHORT, SYMMETRIC, LENT, FIRST;
-    "symmetric_difference_with_within", NONE, InPlace::Symmetric, AMPLE, SYMMETRIC, LENT, FIRST;
-    "clone_from", EXACT, InPlace::CloneFrom, SHORT, LENT, LENT, FIRST;
+    "intersect_with", GROWN, InPlace::Intersection, SHORT, Of(&[3], 5001), LENT, FIRST;
+    "intersect_with_within", NONE, InPlace::Intersection, AMPLE, Of(&[3], 5001), LENT, FIRST;
+    "difference_with", GROWN, InPlace::Difference, SHORT, Of(&[447], 5001), LENT, FIRST;
+    "difference_with_within", NONE, InPlace::Difference, AMPLE, Of(&[447], 5001), LENT, FIRST;
+    "symmetric_difference_with", GROWN, InPlace::Symmetric, SHORT, Of(&[7, 447, 5000], 5001), LENT, FIRST;
+    "symmetric_difference_with_within", NONE, InPlace::Symmetric, AMPLE, Of(&[7, 447, 5000], 5001), LENT, FIRST;
+    "clone_from", &[Exact(5001)], InPlace::CloneFrom, SHORT, LENT, LENT, FIRST;
     "clone_from_within", NONE, InPlace::CloneFrom, AMPLE, LENT, LENT, FIRST;
     "reserve_len", GROWN, InPlace::Reserve, SHORT, FIRST, LENT, FIRST;
     "reserve_len_within", NONE, InPlace::Reserve, AMPLE, FIRST, LENT, FIRST;
-    "reserve_len_exact", EXACT, InPlace::ReserveExact, SHORT, FIRST, LENT, FIRST;
+    "reserve_len_exact", &[Exact(5001)], InPlace::ReserveExact, SHORT, FIRST, LENT, FIRST;
     "reserve_len_exact_within", NONE, InPlace::ReserveExact, AMPLE, FIRST, LENT, FIRST;
-    "shrink_to_fit", FIRST_EXACT, InPlace::Shrink, LONG, BLOCKS, LENT, BLOCKS;
-    "shrink_to_fit_exact", NONE, InPlace::Shrink, FULL, BLOCKS, LENT, BLOCKS;
-    "insert_hundred_within", NONE, Put::InsertHundred, AMPLE, State::Filled(&[3, 447], 500, 600), LENT, FIRST;
+    "shrink_to_fit", &[Exact(448)], InPlace::Shrink, LONG, Blocks(&[3, 447], 448), LENT, Blocks(&[3, 447], 448);
+    "shrink_to_fit_exact", NONE, InPlace::Shrink, FULL, Blocks(&[3, 447], 448), LENT, Blocks(&[3, 447], 448);
+    "insert_hundred_within", NONE, Put::InsertHundred, AMPLE, Filled(&[3, 447], 500, 600), LENT, FIRST;
     "union_changes", GROWN, Report::Union, SHORT, UNION, LENT, FIRST;
     "union_changes_within", NONE, Report::Union, AMPLE, UNION, LENT, FIRST;
-    "intersection_changes", GROWN, Report::Intersection, SHORT, INTERSECTION, LENT, FIRST;
-    "difference_changes", GROWN, Report::Difference, SHORT, DIFFERENCE, LENT, FIRST;
-    "symmetric_difference_changes", GROWN, Report::Symmetric, SHORT, SYMMETRIC, LENT, FIRST;
+    "intersection_changes", GROWN, Report::Intersection, SHORT, Of(&[3], 5001), LENT, FIRST;
+    "difference_changes", GROWN, Report::Difference, SHORT, Of(&[447], 5001), LENT, FIRST;
+    "symmetric_difference_changes", GROWN, Report::Symmetric, SHORT, Of(&[7, 447, 5000], 5001), LENT, FIRST;
     "union_with_difference", GROWN, Report::UnionWithDifference, SHORT, UNION, LENT, FIRST;
     "union_with_difference_within", NONE, Report::UnionWithDifference, AMPLE, UNION, LENT, FIRST;
     "union_with_intersection", GROWN, Report::UnionWithIntersection, SHORT, UNION, LENT, FIRST;
     "copy_difference", GROWN, Report::CopyDifference, SHORT, LENT, LENT, FIRST;
-    "insert_range", GROWN, Put::InsertRange, SHORT, State::Filled(&[3, 447], 500, 5001), LENT, FIRST;
-    "insert_range_within", NONE, Put::InsertRange, AMPLE, State::Filled(&[3, 447], 500, 5001), LENT, FIRST;
-    "toggle_range", GROWN, Put::ToggleRange, SHORT, State::Filled(&[3], 448, 5001), LENT, FIRST;
-    "toggle_range_within", NONE, Put::ToggleRange, AMPLE, State::Filled(&[3], 448, 5001), LENT, FIRST;
-    "toggle", GROWN, Put::Toggle, SHORT, WITH_5000, LENT, FIRST;
-    "set", GROWN, Put::Set, SHORT, WITH_5000, LENT, FIRST;
-    "shift_up", GROWN, Put::ShiftUp, SHORT, SHIFTED, LENT, FIRST;
-    "shift_up_within", NONE, Put::ShiftUp, AMPLE, SHIFTED, LENT, FIRST;
-    "append", GROWN, Exchange::Append, SHORT, UNION, State::Of(&[], 5001), FIRST;
-    "append_within", NONE, Exchange::Append, AMPLE, UNION, State::Of(&[], 5001), FIRST;
-    "split_off", FIRST_EXACT, Exchange::SplitOff(3), SHORT, State::Of(&[], 3), FIRST, FIRST;
-    "split_off_last", FIRST_EXACT, Exchange::SplitOff(447), SHORT, State::Of(&[3], 447), OF_LAST, FIRST;
+    "insert_range", GROWN, Put::InsertRange, SHORT, Filled(&[3, 447], 500, 5001), LENT, FIRST;
+    "insert_range_within", NONE, Put::InsertRange, AMPLE, Filled(&[3, 447], 500, 5001), LENT, FIRST;
+    "toggle_range", GROWN, Put::ToggleRange, SHORT, Filled(&[3], 448, 5001), LENT, FIRST;
+    "toggle_range_within", NONE, Put::ToggleRange, AMPLE, Filled(&[3], 448, 5001), LENT, FIRST;
+    "toggle", GROWN, Put::Toggle, SHORT, Of(&[3, 447, 5000], 5001), LENT, FIRST;
+    "set", GROWN, Put::Set, SHORT, Of(&[3, 447, 5000], 5001), LENT, FIRST;
+    "shift_up", GROWN, Put::ShiftUp, SHORT, Of(&[4556, 5000], 5001), LENT, FIRST;
+    "shift_up_within", NONE, Put::ShiftUp, AMPLE, Of(&[4556, 5000], 5001), LENT, FIRST;
+    "append", GROWN, Exchange::Append, SHORT, UNION, Of(&[], 5001), FIRST;
+    "append_within", NONE, Exchange::Append, AMPLE, UNION, Of(&[], 5001), FIRST;
+    "split_off", &[Exact(448)], Exchange::SplitOff(3), SHORT, Of(&[], 3), FIRST, FIRST;
+    "split_off_last", &[Exact(448)], Exchange::SplitOff(447), SHORT, Of(&[3], 447), Of(&[447], 448), FIRST;
     "split_off_at_0", NONE, Exchange::SplitOff(0), SHORT, EMPTY, FIRST, FIRST;
     "split_off_at_the_length", NONE, Exchange::SplitOff(448), SHORT, FIRST, EMPTY, FIRST;
-    "copy_range", FIRST_EXACT, Exchange::CopyRange(4, 5000), SHORT, FIRST, OF_LAST, FIRST;
-    "copy_range_of_the_first", &[Ask::Exact(4)], Exchange::CopyRange(0, 4), SHORT, FIRST, State::Of(&[3], 4), FIRST;
+    "copy_range", &[Exact(448)], Exchange::CopyRange(4, 5000), SHORT, FIRST, Of(&[447], 448), FIRST;
+    "copy_range_of_the_first", &[Exact(4)], Exchange::CopyRange(0, 4), SHORT, FIRST, Of(&[3], 4), FIRST;
     "copy_range_past_the_length", NONE, Exchange::CopyRange(448, 5000), SHORT, FIRST, EMPTY, FIRST;
-    "with_capacity", &[Ask::Exact(5000)], Make::Copied(Copied::WithCapacity), FULL, NO_ELEMENTS, LENT, FIRST;
-    "from_bytes", BYTES_EXACT, Make::FromBytes(Order::Highest), FULL, OF_BYTES, LENT, FIRST;
-    "from_bytes_lsb", BYTES_EXACT, Make::FromBytes(Order::Lowest), FULL, OF_BYTES_LSB, LENT, FIRST;
-    "from_iter", &[Ask::Grown(10), Ask::Grown(451), Ask::Grown(5001)], Make::FromIter, FULL, OF_ITEMS, LENT, FIRST;
-    "from_ranges", EXACT, Make::FromRanges, FULL, OF_ITEMS, LENT, FIRST;
+    "with_capacity", &[Exact(5000)], Make::WithCapacity, FULL, Of(&[], 5000), LENT, FIRST;
+    "from_bytes", &[Exact(128)], Make::FromBytes(Order::High), FULL, Of(&[0, 9, 90, 127], 128), LENT, FIRST;
+    "from_bytes_lsb", &[Exact(128)], Make::FromBytes(Order::Low), FULL, Of(&[7, 14, 93, 120], 128), LENT, FIRST;
+    "from_iter", &[Grown(10), Grown(451), Grown(5001)], Make::FromIter, FULL, Of(&[9, 450, 5000], 5001), LENT, FIRST;
+    "from_ranges", &[Exact(5001)], Make::FromRanges, FULL, Of(&[9, 450, 5000], 5001), LENT, FIRST;
     // A copy of the other set comes first, which is the one set of the slice.
-    "union_of", &[Ask::Lists(2, 5001)], Make::Copied(Copied::UnionOf), FULL, LENT, LENT, FIRST;
-    "intersection_of", &[Ask::Lists(2, 5001)], Make::Copied(Copied::IntersectionOf), FULL, LENT, LENT, FIRST;
-    "clone", EXACT, Make::Copied(Copied::Clone), FULL, LENT, LENT, FIRST;
-    "bits_from_elem", &[Ask::Exact(5000)], Make::BitsCopied(BitsCopied::FromElem), FULL, NO_ELEMENTS, LENT, FIRST;
-    "bits_from_bytes", BYTES_EXACT, Make::BitsFromBytes, FULL, OF_BYTES, LENT, FIRST;
-    "bits_clone", EXACT, Make::BitsCopied(BitsCopied::Clone), FULL, LENT, LENT, FIRST;
-    "bits_clone_tail", EXACT, Make::BitsCopied(BitsCopied::CloneTail), FULL, State::Of(&[7, 5000], 5001), LENT, FIRST;
-    "to_bytes", OWN_BYTES, Make::OfOwnBytes(Order::Highest), FULL, State::Of(&[3, 7, 5000], 5008), LENT, FIRST;
-    "to_bytes_lsb", OWN_BYTES, Make::OfOwnBytes(Order::Lowest), FULL, State::Of(&[3, 7, 5000], 5008), LENT, FIRST;
+    "union_of", &[Lists(2, 5001)], Make::UnionOf, FULL, LENT, LENT, FIRST;
+    "intersection_of", &[Lists(2, 5001)], Make::IntersectionOf, FULL, LENT, LENT, FIRST;
+    "clone", &[Exact(5001)], Make::Clone, FULL, LENT, LENT, FIRST;
+    "bits_from_elem", &[Exact(5000)], Make::BitsFromElem, FULL, Of(&[], 5000), LENT, FIRST;
+    "bits_from_bytes", &[Exact(128)], Make::BitsFromBytes, FULL, Of(&[0, 9, 90, 127], 128), LENT, FIRST;
+    "bits_clone", &[Exact(5001)], Make::BitsClone, FULL, LENT, LENT, FIRST;
+    "bits_clone_tail", &[Exact(5001)], Make::BitsCloneTail, FULL, Of(&[7, 5000], 5001), LENT, FIRST;
+    // The bytes come first, and then the set of these.
+    "to_bytes", &[Other(1, 626), Exact(5008)], Make::Reread(Order::High), FULL, Of(&[3, 7, 5000], 5008), LENT, FIRST;
+    "to_bytes_lsb", &[Other(1, 626), Exact(5008)], Make::Reread(Order::Low), FULL, Of(&[3, 7, 5000], 5008), LENT, FIRST;
     "bits_grow", GROWN, Bits::Grow(false), SHORT, LENGTHENED, LENT, FIRST;
     "bits_grow_within", NONE, Bits::Grow(false), AMPLE, LENGTHENED, LENT, FIRST;
-    "bits_grow_true", GROWN, Bits::Grow(true), SHORT, State::Filled(&[3, 447], 448, 5001), LENT, FIRST;
-    "bits_grow_true_within", NONE, Bits::Grow(true), AMPLE, State::Filled(&[3, 447], 448, 5001), LENT, FIRST;
+    "bits_grow_true", GROWN, Bits::Grow(true), SHORT, Filled(&[3, 447], 448, 5001), LENT, FIRST;
+    "bits_grow_true_within", NONE, Bits::Grow(true), AMPLE, Filled(&[3, 447], 448, 5001), LENT, FIRST;
     "bits_reserve", GROWN, Bits::Reserve, SHORT, FIRST, LENT, FIRST;
     "bits_reserve_within", NONE, Bits::Reserve, AMPLE, FIRST, LENT, FIRST;
-    "bits_reserve_exact", EXACT, Bits::ReserveExact, SHORT, FIRST, LENT, FIRST;
+    "bits_reserve_exact", &[Exact(5001)], Bits::ReserveExact, SHORT, FIRST, LENT, FIRST;
     "bits_reserve_exact_within", NONE, Bits::ReserveExact, AMPLE, FIRST, LENT, FIRST;
-    "bits_clone_from", EXACT, Bits::CloneFrom, SHORT, LENT, LENT, FIRST;
+    "bits_clone_from", &[Exact(5001)], Bits::CloneFrom, SHORT, LENT, LENT, FIRST;
     "bits_clone_from_within", NONE, Bits::CloneFrom, AMPLE, LENT, LENT, FIRST;
-    "bits_shrink_to_fit", FIRST_EXACT, Bits::Shrink, AMPLE, FIRST, LENT, FIRST;
+    "bits_shrink_to_fit", &[Exact(448)], Bits::Shrink, AMPLE, FIRST, LENT, FIRST;
     "bits_shrink_to_fit_exact", NONE, Bits::Shrink, FULL, FIRST, LENT, FIRST;
 };
 
 /// Those over blocks of 32 bits alone, each of which makes a set beside the others.
 pub const PLAIN: &[Row<Change>] = changes! {
-    "plain_with_capacity", &[Ask::Exact(5000)], Plain::WithCapacity, FULL, FIRST, LENT, FIRST;
-    "plain_from_bytes", BYTES_EXACT, Plain::FromBytes, FULL, FIRST, LENT, FIRST;
-    "plain_from_bytes_lsb", BYTES_EXACT, Plain::FromBytesLsb, FULL, FIRST, LENT, FIRST;
-    "plain_bits_from_elem", &[Ask::Exact(5000)], Plain::BitsFromElem, FULL, FIRST, LENT, FIRST;
-    "plain_bits_from_bytes", BYTES_EXACT, Plain::BitsFromBytes, FULL, FIRST, LENT, FIRST;
+    "plain_with_capacity", &[Exact(5000)], Plain::WithCapacity, FULL, FIRST, LENT, FIRST;
+    "plain_from_bytes", &[Exact(128)], Plain::FromBytes, FULL, FIRST, LENT, FIRST;
+    "plain_from_bytes_lsb", &[Exact(128)], Plain::FromBytesLsb, FULL, FIRST, LENT, FIRST;
+    "plain_bits_from_elem", &[Exact(5000)], Plain::BitsFromElem, FULL, FIRST, LENT, FIRST;
+    "plain_bits_from_bytes", &[Exact(128)], Plain::BitsFromBytes, FULL, FIRST, LENT, FIRST;
 };
 
 // A row for each group of calls that take no memory: its name, the calls with their numbers, and what the set then is.
@@ -168,10 +131,7 @@ macro_rules! groups {
             asks: NONE,
             call: Change {
                 call: Call::Steps(&[$((Step::$kind($kind::$step$(($($with),+))?), $wanted)),+]),
-                start: LONG,
-                returned: $left,
-                lent: LENT,
-                failed: LENGTHENED,
+                start: LONG, returned: $left, lent: LENT, failed: LENGTHENED,
             },
         }),*]
     };
@@ -203,8 +163,9 @@ pub const GROUPS: &[Row<Change>] = groups! {
     "moves", [Alter::IntoBitsAndBack => 0, Number::Count => 2, OfBits::Len => 5001], LENGTHENED;
     "texts", [Alter::Truncate(448) => 0, Text::Set => 1, Text::SetDebug => 1, Text::BitsDebug => 1], FIRST;
     "changes", [
-        Alter::Truncate(100) => 0, Number::Count => 1, Alter::Remove(3) => 1, Alter::Remove(3) => 0, Alter::MakeEmpty => 0,
-        OfBits::Len => 100, Alter::Clear => 0, Number::Count => 0, Alter::Reset => 0, OfBits::Len => 0
+        Alter::Truncate(100) => 0, Number::Count => 1, Alter::Remove(3) => 1, Alter::Remove(3) => 0,
+        Alter::MakeEmpty => 0, OfBits::Len => 100, Alter::Clear => 0, Number::Count => 0, Alter::Reset => 0,
+        OfBits::Len => 0
     ], EMPTY;
     "bits", [
         OfBits::Len => 5001, TruthOfBits::Has(447) => 1, TruthOfBits::IsPast(5001) => 1, TruthOfBits::HasCapacity => 1,
@@ -224,16 +185,16 @@ pub const GROUPS: &[Row<Change>] = groups! {
     "ends", [
         Number::First => 3, Number::Last => 447, Number::Next(4) => 447, Number::Previous(447) => 3,
         Number::NextMissing(3) => 4, Alter::PopFirst => 3, Alter::PopLast => 447
-    ], State::Of(&[], 5001);
+    ], Of(&[], 5001);
     "ranges", [
         Number::CountIn(0, 448) => 2, Truth::ContainsAnyIn(4, 447) => 0, Truth::ContainsAllIn(447, 448) => 1,
         Alter::RemoveRange(0, 447) => 0, Alter::ToggleRange(446, 448) => 1, Alter::InsertRange(0, 2) => 1,
         Number::Count => 3, Alter::RetainPositive => 0, Number::Count => 2
-    ], State::Of(&[1, 446], 5001);
+    ], Of(&[1, 446], 5001);
     "shifts", [
-        Number::FirstGap(4, 443) => 4, Number::FirstGap(4, 444) => 448, Alter::ShiftUp(4000) => 1, Number::First => 4003,
-        Alter::ShiftDown(4004) => 0, Number::First => 443, Number::Count => 1
-    ], State::Of(&[443], 5001);
+        Number::FirstGap(4, 443) => 4, Number::FirstGap(4, 444) => 448, Alter::ShiftUp(4000) => 1,
+        Number::First => 4003, Alter::ShiftDown(4004) => 0, Number::First => 443, Number::Count => 1
+    ], Of(&[443], 5001);
     "bit_ends", [
         OfBits::CountOnesIn(0, 448) => 2, TruthOfBits::AnyIn(4, 447) => 0, TruthOfBits::AllIn(447, 448) => 1,
         OfBits::FirstOneFrom(4) => 447, OfBits::LastOneBefore(447) => 3, OfBits::FirstZeroFrom(3) => 4

@@ -3,7 +3,7 @@ use crate::asks::Ask;
 use crate::faults::Fault;
 use crate::states::{State, has_just, is_state, set_of, sets_of, works};
 use crate::sweep::{Row, Trial, table};
-use bit_matrix::{BitMatrix, MatrixError};
+use bit_matrix::BitMatrix;
 use bit_set::{BitBlock, BitSet, SetError};
 use free_slots::Slots;
 use graph_walks::{close, dominators, reachable, reachable_from_any, reaches_all_of};
@@ -12,18 +12,15 @@ use std::alloc::{AllocError, Global};
 // The ends of the edges of four nodes, and where paths of at least one edge lead. Two ends are past the last node.
 const ENDS: [&[usize]; 4] = [&[1, 40], &[2], &[0, 5000], &[]];
 
-const CLOSED: [&[usize]; 4] = [
-    &[0, 1, 2, 40, 5000],
-    &[0, 1, 2, 40, 5000],
-    &[0, 1, 2, 40, 5000],
-    &[],
-];
+const REACHED: &[usize] = &[0, 1, 2, 40, 5000];
 
-pub enum UserCall {
+const CLOSED: [&[usize]; 4] = [REACHED, REACHED, REACHED, &[]];
+
+pub enum Call {
     // A walk from node 0 over lists, or over sets, and one from the starts.
     Reach,
     ReachOverSets,
-    ReachFromAny,
+    ReachAny,
     // The closure, where each row has the capacity for it, or no more than it takes.
     Close(bool),
     Compare,
@@ -33,32 +30,18 @@ pub enum UserCall {
     TakeSlots,
 }
 
-// The memory that a walk from node 0 may ask for: that of its set, and of its stack.
-const REACHED: &[Ask] = &[
-    Ask::Grown(1),
-    Ask::Grown(41),
-    Ask::Grown(5001),
-    Ask::Other(1, 64),
-];
-
-const REACHED_FROM_ANY: &[Ask] = &[
-    Ask::Exact(4),
-    Ask::Grown(41),
-    Ask::Grown(5001),
-    Ask::Other(2, 16 + 64),
-];
-
-pub const ROWS: &[Row<UserCall>] = table! {
-    "reachable", REACHED, UserCall::Reach;
-    "reachable_from_any", REACHED_FROM_ANY, UserCall::ReachFromAny;
-    "close", &[Ask::Exact(5001), Ask::Grown(5001), Ask::Grown(5001)], UserCall::Close(false);
-    "close_within", &[Ask::Exact(5001)], UserCall::Close(true);
-    "reaches_all_of", &[], UserCall::Compare;
-    "reachable_over_sets", REACHED, UserCall::ReachOverSets;
-    "dominators", &[Ask::Rows(4, 4)], UserCall::Dominate(0);
-    "dominators_of_no_node", &[Ask::Rows(4, 4)], UserCall::Dominate(4);
-    "with_slots", &[Ask::Exact(5001)], UserCall::MakeSlots;
-    "slots", &[], UserCall::TakeSlots;
+// A walk may ask for the memory of its set, and of its stack.
+pub const ROWS: &[Row<Call>] = table! {
+    "reachable", &[Ask::Grown(1), Ask::Grown(41), Ask::Grown(5001), Ask::Other(1, 64)], Call::Reach;
+    "reachable_from_any", &[Ask::Exact(4), Ask::Grown(41), Ask::Grown(5001), Ask::Other(2, 16 + 64)], Call::ReachAny;
+    "close", &[Ask::Exact(5001), Ask::Grown(5001), Ask::Grown(5001)], Call::Close(false);
+    "close_within", &[Ask::Exact(5001)], Call::Close(true);
+    "reaches_all_of", &[], Call::Compare;
+    "reachable_over_sets", &[Ask::Grown(1), Ask::Grown(41), Ask::Grown(5001), Ask::Other(1, 64)], Call::ReachOverSets;
+    "dominators", &[Ask::Rows(4, 4)], Call::Dominate(0);
+    "dominators_of_no_node", &[Ask::Rows(4, 4)], Call::Dominate(4);
+    "with_slots", &[Ask::Exact(5001)], Call::MakeSlots;
+    "slots", &[], Call::TakeSlots;
 };
 
 // A graph as lists and as sets, some starts, and slots.
@@ -97,26 +80,22 @@ fn sets<B: BitBlock>(alloc: Global, has_capacity: bool) -> Result<Vec<BitSet<B>>
 
 fn reached<B: BitBlock>(
     alloc: Global,
-    call: &UserCall,
+    call: &Call,
     users: &Users<B>,
 ) -> Result<BitSet<B>, SetError> {
     match call {
-        UserCall::ReachFromAny => reachable_from_any(alloc, users.lists.as_slice(), &users.starts),
-        UserCall::ReachOverSets => reachable(alloc, users.rows.as_slice(), 0),
+        Call::ReachAny => reachable_from_any(alloc, users.lists.as_slice(), &users.starts),
+        Call::ReachOverSets => reachable(alloc, users.rows.as_slice(), 0),
         _ => reachable(alloc, users.lists.as_slice(), 0),
     }
 }
 
 // Whether a walk comes by what it may, in a set that works.
-fn reaches<B: BitBlock>(
-    alloc: Global,
-    call: &UserCall,
-    users: &Users<B>,
-) -> Result<bool, SetError> {
+fn reaches<B: BitBlock>(alloc: Global, call: &Call, users: &Users<B>) -> Result<bool, SetError> {
     let mut reached = reached(alloc, call, users)?;
     let wanted = match call {
-        UserCall::ReachFromAny => State::Of(&[0, 1, 2, 3, 40, 5000], 5001),
-        _ => State::Of(&[0, 1, 2, 40, 5000], 5001),
+        Call::ReachAny => State::Of(&[0, 1, 2, 3, 40, 5000], 5001),
+        _ => State::Of(REACHED, 5001),
     };
     Ok(is_state(&reached, wanted) & works(&mut reached))
 }
@@ -130,38 +109,30 @@ fn are_just<B: BitBlock>(rows: &mut [BitSet<B>], wanted: &[&[usize]]) -> bool {
     is_right
 }
 
-fn has_all<B: BitBlock>(set: &BitSet<B>, elements: &[usize]) -> bool {
-    let mut has_all = true;
-    for element in elements {
-        has_all &= set.contains(*element);
-    }
-    has_all
-}
-
 // Whether each row has the ends that it had at first.
-fn have_ends<B: BitBlock>(rows: &[BitSet<B>]) -> bool {
+fn have_ends<B: BitBlock>(alloc: Global, rows: &[BitSet<B>]) -> Result<bool, SetError> {
     let mut is_right = rows.len() == ENDS.len();
     for (row, ends) in rows.iter().zip(&ENDS) {
-        is_right &= has_all(row, ends);
+        let had = set_of::<B>(alloc, ends)?;
+        is_right &= had.is_subset(row);
     }
-    is_right
+    Ok(is_right)
 }
 
 // Whether the rows are as they may be after a closure. Where it failed each still has all that it had, and nothing else
-// where all had the capacity; and a further call leaves the rows of the closure, so that they had nothing that it does not
-// have.
+// where all had the capacity; and a further call leaves the rows of the closure, so that they had nothing else.
 fn may_be_closed<B: BitBlock>(
     alloc: Global,
     rows: &mut [BitSet<B>],
     has_capacity: bool,
     has_returned: bool,
-) -> Result<bool, AllocError> {
+) -> Result<bool, SetError> {
     let was_right = if has_returned {
         are_just(rows, &CLOSED)
     } else if has_capacity {
         are_just(rows, &ENDS)
     } else {
-        have_ends(rows)
+        have_ends(alloc, rows)?
     };
     close(alloc, rows)?;
     Ok(was_right & are_just(rows, &CLOSED))
@@ -184,20 +155,6 @@ fn are_dominators<B: BitBlock>(found: &BitMatrix<B>, entry: usize) -> bool {
     is_right
 }
 
-fn dominates<B: BitBlock>(
-    alloc: Global,
-    rows: &[BitSet<B>],
-    entry: usize,
-) -> Result<bool, MatrixError> {
-    let found: BitMatrix<B> = dominators(alloc, rows, entry)?;
-    Ok(are_dominators(&found, entry))
-}
-
-fn makes_slots<B: BitBlock>(alloc: Global) -> Result<bool, AllocError> {
-    let slots = Slots::<B>::with_slots(alloc, 5001)?;
-    Ok((slots.len() == 5001) & (slots.free_count() == 5001))
-}
-
 // Takes slots and gives them back. Whether each call returns what it may.
 fn takes_slots<B: BitBlock>(slots: &mut Slots<B>) -> bool {
     let taken = [
@@ -215,10 +172,10 @@ fn takes_slots<B: BitBlock>(slots: &mut Slots<B>) -> bool {
     is_right && !was_free && slots.take() == Some(0)
 }
 
-impl<B: BitBlock> Trial<UserCall> for Users<B> {
-    fn prepare(alloc: Global, call: &UserCall) -> Result<Self, Fault> {
+impl<B: BitBlock> Trial<Call> for Users<B> {
+    fn prepare(alloc: Global, call: &Call) -> Result<Self, Fault> {
         let lists = lists(alloc)?;
-        let rows = sets(alloc, matches!(call, UserCall::Close(true)))?;
+        let rows = sets(alloc, matches!(call, Call::Close(true)))?;
         let starts = set_of(alloc, &[1, 3])?;
         let slots = Slots::with_slots(alloc, 5001)?;
         Ok(Users {
@@ -229,35 +186,36 @@ impl<B: BitBlock> Trial<UserCall> for Users<B> {
         })
     }
 
-    fn make(&mut self, alloc: Global, call: &UserCall) -> Result<bool, Fault> {
+    fn make(&mut self, alloc: Global, call: &Call) -> Result<bool, Fault> {
         match call {
-            UserCall::Close(_) => {
+            Call::Close(_) => {
                 close(alloc, self.rows.as_mut_slice())?;
                 Ok(true)
             }
-            UserCall::Compare => {
+            Call::Compare => {
                 let rows = self.rows.as_slice();
                 Ok(reaches_all_of(rows, 0, 3) && !reaches_all_of(rows, 0, 1))
             }
-            UserCall::Dominate(entry) => Ok(dominates(alloc, self.rows.as_slice(), *entry)?),
-            UserCall::MakeSlots => Ok(makes_slots::<B>(alloc)?),
-            UserCall::TakeSlots => Ok(takes_slots(&mut self.slots)),
+            Call::Dominate(entry) => {
+                let found: BitMatrix<B> = dominators(alloc, self.rows.as_slice(), *entry)?;
+                Ok(are_dominators(&found, *entry))
+            }
+            Call::MakeSlots => {
+                let slots = Slots::<B>::with_slots(alloc, 5001)?;
+                Ok((slots.len() == 5001) & (slots.free_count() == 5001))
+            }
+            Call::TakeSlots => Ok(takes_slots(&mut self.slots)),
             _ => Ok(reaches(alloc, call, self)?),
         }
     }
 
-    fn is_right(
-        &mut self,
-        alloc: Global,
-        call: &UserCall,
-        has_returned: bool,
-    ) -> Result<bool, Fault> {
+    fn is_right(&mut self, alloc: Global, call: &Call, has_returned: bool) -> Result<bool, Fault> {
         let are_kept = is_state(&self.starts, State::Of(&[1, 3], 4));
         let is_right = match call {
-            UserCall::Close(has_capacity) => {
+            Call::Close(has_capacity) => {
                 may_be_closed(alloc, self.rows.as_mut_slice(), *has_capacity, has_returned)?
             }
-            UserCall::TakeSlots => self.slots.free_count() == 4999,
+            Call::TakeSlots => self.slots.free_count() == 4999,
             _ => self.slots.free_count() == 5001,
         };
         Ok(are_kept & is_right)
