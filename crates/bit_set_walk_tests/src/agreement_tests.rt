@@ -2,12 +2,10 @@
 ghost use Rattle.std.specs.Prelude.{◌≡◌, OnOk};
 ghost use Rattle.bit_set.specs.Sets.{elements};
 
-use crate::expect::expect_eq;
+use crate::expect::{Test, expect_eq};
 use bit_set::laws::{calls_are_set_algebra, full_walks, tests_agree, walks_agree};
 use bit_set::{BitBlock, BitSet, Iter, SetError};
 use block24::Block24;
-use std::alloc::Global;
-use std::process::Abort;
 
 // The same calls on two sets of the same elements: they have the same elements again.
 fn change_both<A: BitBlock, B: BitBlock>(
@@ -86,11 +84,10 @@ fn fill_both<A: BitBlock, B: BitBlock>(a: &mut BitSet<A>, b: &mut BitSet<B>) -> 
 
 // {3, 40, 77} over two block types, with other lengths and capacities.
 fn walked<A: BitBlock + 'static, B: BitBlock + 'static>(
-    rt: &impl Abort,
-    alloc: Global,
+    rt: &impl Test,
 ) -> (Option<usize>, Option<usize>, usize) {
-    let mut a = BitSet::<A>::with_capacity_general(alloc, 500).expect(rt, "the call fails");
-    let mut b = BitSet::<B>::new_general(alloc);
+    let mut a = BitSet::<A>::with_capacity_general(rt.alloc(), 500).expect(rt, "the call fails");
+    let mut b = BitSet::<B>::new_general(rt.alloc());
     fill_both(&mut a, &mut b).expect(rt, "the call fails");
     tests_agree(&a, &a, &b, &b, 40);
     walk_both(&a, &b)
@@ -101,9 +98,9 @@ fn sets_over_two_block_types_agree(rt: HostRuntime) {
     calls_are_set_algebra();
     full_walks::<u8>();
     for walked in [
-        walked::<u8, u128>(&rt, rt.alloc()),
-        walked::<Block24, u32>(&rt, rt.alloc()),
-        walked::<usize, Block24>(&rt, rt.alloc()),
+        walked::<u8, u128>(&rt),
+        walked::<Block24, u32>(&rt),
+        walked::<usize, Block24>(&rt),
     ] {
         expect_eq(&rt, &walked, &(Some(3), Some(40), 1));
     }

@@ -1,15 +1,11 @@
 //! Walks over sets of millions of places.
-
-use crate::expect::{expect, expect_eq, ok};
-use crate::sets::set_of_bytes;
+use crate::expect::{Test, expect, expect_eq, ok};
 use bit_set::{BitBlock, BitSet};
-use std::alloc::Global;
-use std::process::Abort;
 
 // A set of 1,048,576 bytes.
-fn millions(rt: &impl Abort, alloc: Global, byte: u8) -> BitSet<u8> {
-    let bytes = ok(rt, vec![in alloc; byte; 1_048_576]);
-    set_of_bytes(rt, alloc, &bytes)
+fn millions(rt: &impl Test, byte: u8) -> BitSet<u8> {
+    let bytes = ok(rt, vec![in rt.alloc(); byte; 1_048_576]);
+    ok(rt, BitSet::from_bytes_general(rt.alloc(), &bytes))
 }
 
 // How many elements a walk gives, and the last.
@@ -32,7 +28,7 @@ fn last_of_union<B: BitBlock>(a: &BitSet<B>, b: &BitSet<B>) -> (usize, Option<us
 }
 
 // How many elements a set has once another is joined to it, and whether the other is within it.
-fn joined(rt: &impl Abort, set: &mut BitSet<u8>, other: &BitSet<u8>) -> (usize, bool) {
+fn joined(rt: &impl Test, set: &mut BitSet<u8>, other: &BitSet<u8>) -> (usize, bool) {
     ok(rt, set.union_with(other));
     (set.count(), other.is_subset(set))
 }
@@ -40,8 +36,8 @@ fn joined(rt: &impl Abort, set: &mut BitSet<u8>, other: &BitSet<u8>) -> (usize, 
 // A body that goes over all blocks once for each item would not end in time.
 #[test]
 fn millions_of_places_are_passed_once(rt: HostRuntime) {
-    let mut a = millions(&rt, rt.alloc(), 0x80);
-    let b = millions(&rt, rt.alloc(), 0x01);
+    let mut a = millions(&rt, 0x80);
+    let b = millions(&rt, 0x01);
     expect_eq(&rt, &last_of(&a), &(1048576, Some(8388600)));
     expect_eq(&rt, &last_of_union(&a, &b), &(2097152, Some(8388607)));
     expect(&rt, a.is_disjoint(&b));

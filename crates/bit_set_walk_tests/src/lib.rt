@@ -10,12 +10,6 @@ mod expect;
 #[cfg(test)]
 mod large_tests;
 #[cfg(test)]
-mod many_tests;
-#[cfg(test)]
-mod moving_tests;
-#[cfg(test)]
 mod run_tests;
-#[cfg(test)]
-mod sets;
 #[cfg(test)]
 mod walk_tests;

@@ -7,8 +7,7 @@ ghost use Rattle.bit_set.specs.Walk.{Walk, IsAtStart};
 
 mod two_sets;
 
-use crate::expect::{expect_eq, ok};
-use crate::sets::set_of;
+use crate::expect::{expect_eq, ok, set_of};
 use bit_set::laws::{sparse_walks, whole_walks};
 use bit_set::{BitSet, Iter};
 use block24::Block24;
@@ -61,7 +60,7 @@ fn counts(set: &BitSet) -> [usize; 4] {
 fn walks_are_counted(rt: HostRuntime) {
     pulls_at_401_places();
     pulls_of_sparse_sets();
-    let set = set_of(&rt, rt.alloc(), &[3, 4, 100, 400]);
+    let set = set_of(&rt, &[3, 4, 100, 400]);
     expect_eq(&rt, &counts(&set), &[4, 4, 397, 3]);
 }
 
@@ -69,10 +68,8 @@ fn walks_are_counted(rt: HostRuntime) {
 #[test]
 fn the_bytes_are_those_that_were_read_lowest_bit_first(rt: HostRuntime) {
     let bytes = [0b0100_1010, 3, 0, 255];
-    let set = ok(
-        &rt,
-        BitSet::<Block24>::from_bytes_lsb_general(rt.alloc(), &bytes),
-    );
+    let made = BitSet::<Block24>::from_bytes_lsb_general(rt.alloc(), &bytes);
+    let set = ok(&rt, made);
     let written = ok(&rt, set.to_bytes_lsb(rt.alloc()));
     expect_eq(&rt, &written.as_slice(), &bytes.as_slice());
 }

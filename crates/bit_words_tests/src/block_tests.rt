@@ -1,5 +1,6 @@
-use crate::expect::expect_eq;
-use bit_words::bit_vec::{BitBlock, take_lowest_one};
+//! Blocks of each type, and what is read of lists of them.
+use crate::expect::{expect, expect_eq};
+use bit_words::bit_vec::{BitBlock, block_or_zero, has_one_from, take_lowest_one};
 use block24::Block24;
 
 // The ones of a byte, of its complement, and of what is left of it once only its low four bits fit above and the
@@ -30,33 +31,12 @@ fn bits_move_within_the_width(rt: HostRuntime) {
 #[test]
 fn digits_pass_the_middle_of_a_wide_block(rt: HostRuntime) {
     let middle = u128::from_byte(0b1100_0000).shift_left(57);
-    assert_eq!(rt;
-        [middle, middle.shift_left(64), middle.shift_right(63)],
-        [
-            27670116110564327424,
-            170141183460469231731687303715884105728,
-            3
-        ]
-    );
+    let shifted = [middle.shift_left(64), middle.shift_right(63)];
+    expect_eq(&rt, &middle, &(3 << 63));
+    expect_eq(&rt, &shifted, &[1 << 127, 3]);
     let one = middle & (!middle + u128::one());
-    assert_eq!(rt;
-        [one, middle - one],
-        [9223372036854775808, 18446744073709551616]
-    );
-    assert_eq!(rt; BitBlock::count_ones(middle - u128::one()), 64);
-}
-
-#[test]
-fn forty_gives_up_its_lowest_one(rt: HostRuntime) {
-    let block = 40u8;
-    let wrapping_neg = !block + u8::one();
-    let low = block & wrapping_neg;
-    let below = low - u8::one();
-    let rest = block & (block - u8::one());
-    expect_eq(&rt, &[wrapping_neg, low, below, rest], &[216, 8, 7, 32]);
-    expect_eq(&rt, &BitBlock::count_ones(below), &3);
-    expect_eq(&rt, &(low | rest), &block);
-    expect_eq(&rt, &(block ^ rest), &low);
+    expect_eq(&rt, &[one, middle - one], &[1 << 63, 1 << 64]);
+    expect_eq(&rt, &BitBlock::count_ones(middle - u128::one()), &64);
 }
 
 // The highest digit of an odd block is its own complement and one, so that it is the lowest one too.
@@ -71,4 +51,12 @@ fn the_highest_digit_of_an_odd_block(rt: HostRuntime) {
     let mut rest = block;
     expect_eq(&rt, &take_lowest_one(&mut rest), &23);
     expect_eq(&rt, &rest, &Block24(0));
+}
+
+#[test]
+fn past_the_end_a_block_is_zero(rt: HostRuntime) {
+    expect_eq(&rt, &block_or_zero(&[7u8], 0), &7);
+    expect_eq(&rt, &block_or_zero(&[7u8], 1), &0);
+    expect(&rt, has_one_from(Block24(0x80_0000), 23));
+    expect(&rt, !has_one_from(0b0100u8, 3));
 }

@@ -4,28 +4,14 @@
 #[cfg(test)]
 mod block_tests;
 #[cfg(test)]
-mod blocks_tests;
-#[cfg(test)]
-mod capacity_tests;
-#[cfg(test)]
 mod example_tests;
 #[cfg(test)]
 mod expect;
 #[cfg(test)]
-mod lists;
-#[cfg(test)]
 mod merge_tests;
-#[cfg(test)]
-mod mismatch_tests;
-#[cfg(test)]
-mod moving_tests;
 #[cfg(test)]
 mod nonzero_tests;
 #[cfg(test)]
 mod packed_tests;
-#[cfg(test)]
-mod tail_tests;
-#[cfg(test)]
-mod taking_tests;
 #[cfg(test)]
 mod vector_tests;

@@ -1,27 +1,26 @@
-use crate::expect::{expect, expect_eq, ok};
-use crate::lists::grow_by;
-use bit_words::bit_vec::{BitBlock, BitVec, BitsError, Steps};
+//! Each call on a list that is no example: what it makes, what is no memory for, and what is given back.
+use crate::expect::{Test, expect, expect_eq, list_of, ok};
+use bit_words::bit_vec::{BitBlock, BitVec, BitsError, Blocks, Steps};
 use block24::Block24;
-use std::alloc::{AllocError, Global};
-use std::fmt;
-use std::process::Abort;
+use std::alloc::AllocError;
 
 // The list of these bytes.
-fn of_bytes<B: BitBlock>(rt: &impl Abort, alloc: Global, bytes: &[u8]) -> BitVec<B> {
-    ok(rt, BitVec::from_bytes_general(alloc, bytes))
-}
-
-// This many true values.
-fn trues<B: BitBlock>(rt: &impl Abort, alloc: Global, n: usize) -> BitVec<B> {
-    ok(rt, BitVec::from_elem_general(alloc, n, true))
+fn of_bytes<B: BitBlock>(rt: &impl Test, bytes: &[u8]) -> BitVec<B> {
+    ok(rt, BitVec::from_bytes_general(rt.alloc(), bytes))
 }
 
 // A list of 40 values of which the last is true, made by way of each general call.
-fn last_of_forty<B: BitBlock>(rt: &impl Abort, alloc: Global) -> BitVec<B> {
-    let bytes = of_bytes::<B>(rt, alloc, &[0, 0, 0, 0, 1]);
-    let mut bits = trues(rt, alloc, 50);
+fn last_of_forty<B: BitBlock>(rt: &impl Test) -> BitVec<B> {
+    let bytes = of_bytes::<B>(rt, &[0, 0, 0, 0, 1]);
+    let mut bits = ok(rt, BitVec::from_elem_general(rt.alloc(), 50, true));
     ok(rt, bits.clone_from(&bytes));
-    ok(rt, bits.clone(alloc))
+    ok(rt, bits.clone(rt.alloc()))
+}
+
+// Appends this many values where a list may be so long.
+fn grow_by<B: BitBlock>(rt: &impl Test, bits: &mut BitVec<B>, n: usize, bit: bool) {
+    let n = n.min(usize::MAX - bits.len());
+    ok(rt, bits.grow(n, bit));
 }
 
 // Whether the value at a place was true, which is false then.
@@ -31,8 +30,8 @@ fn is_lowered<B: BitBlock>(bits: &mut BitVec<B>, place: usize) -> bool {
 
 // Of five values that are true except for the first: the outer two, what is past them, and whether the capacity
 // holds all.
-fn grown<B: BitBlock>(rt: &impl Abort, alloc: Global) -> ([Option<bool>; 3], bool) {
-    let mut bits = BitVec::<B>::new_general(alloc);
+fn grown<B: BitBlock>(rt: &impl Test) -> ([Option<bool>; 3], bool) {
+    let mut bits = BitVec::<B>::new_general(rt.alloc());
     grow_by(rt, &mut bits, 5, true);
     let was_true = is_lowered(&mut bits, 0);
     let ends = [bits.get(0), bits.get(4), bits.get(5)];
@@ -57,31 +56,82 @@ fn nones<B: BitBlock>(bits: &mut BitVec<B>) -> [bool; 3] {
     [whole, cut, bits.none()]
 }
 
-fn check_each_call<B: BitBlock>(rt: &impl Abort, alloc: Global, wanted: [usize; 4]) {
-    let mut bits = last_of_forty::<B>(rt, alloc);
+fn check_each_call<B: BitBlock>(rt: &impl Test, wanted: [usize; 4]) {
+    let mut bits = last_of_forty::<B>(rt);
     expect_eq(rt, &sizes(&bits), &wanted);
     expect_eq(rt, &nones(&mut bits), &[false, true, true]);
     let ends = [Some(false), Some(true), None];
-    expect_eq(rt, &grown::<B>(rt, alloc), &(ends, true));
+    expect_eq(rt, &grown::<B>(rt), &(ends, true));
 }
 
 #[test]
 fn each_call_works_at_three_widths(rt: HostRuntime) {
-    check_each_call::<u8>(&rt, rt.alloc(), [40, 5, 4, 4]);
-    check_each_call::<Block24>(&rt, rt.alloc(), [40, 2, 1, 1]);
-    check_each_call::<u128>(&rt, rt.alloc(), [40, 1, 0, 0]);
+    check_each_call::<u8>(&rt, [40, 5, 4, 4]);
+    check_each_call::<Block24>(&rt, [40, 2, 1, 1]);
+    check_each_call::<u128>(&rt, [40, 1, 0, 0]);
+    let mut steps = Steps::new();
+    steps.tick();
+    let _same = steps.clone();
+}
+
+// The next block. It has no clause, so that a test that makes many such calls does not carry each one along.
+fn next_if<B: BitBlock>(walk: &mut Blocks<'_, B>, wanted: bool) -> Option<B> {
+    walk.next_if(wanted)
 }
 
 #[test]
-fn a_walk_gives_each_block(rt: HostRuntime) {
-    let bits = of_bytes::<u8>(&rt, rt.alloc(), &[0b1000_0000, 0b0100_0000]);
+fn a_block_comes_where_it_is_wanted(rt: HostRuntime) {
+    let bits = of_bytes::<u8>(&rt, &[0b1000_0000, 0b0000_0001]);
     let mut walk = bits.blocks();
+    expect_eq(&rt, &next_if(&mut walk, false), &Some(0));
     expect_eq(&rt, &walk.size_hint(), &(2, Some(2)));
-    expect_eq(&rt, &walk.next(), &Some(1));
-    let mut copy = walk.clone();
-    let left = [walk.next(), walk.next(), copy.next()];
-    expect_eq(&rt, &left, &[Some(2), None, Some(2)]);
-    expect_eq(&rt, &copy.count(), &0);
+    let rest = [
+        next_if(&mut walk, true),
+        next_if(&mut walk, false),
+        walk.next(),
+    ];
+    expect_eq(&rt, &rest, &[Some(1), Some(0), Some(128)]);
+    let end = [next_if(&mut walk, false), next_if(&mut walk, true)];
+    expect_eq(&rt, &end, &[Some(0), None]);
+}
+
+// The tail of a list from an index on that the list has: how long it is, how many of its values are true, and whether
+// the one at the index is.
+fn tail_of<B: BitBlock>(
+    rt: &impl Test,
+    bits: &BitVec<B>,
+    at: usize,
+) -> Option<(usize, usize, Option<bool>)> {
+    if at >= bits.len() {
+        return None;
+    }
+    let tail = ok(rt, bits.clone_tail(rt.alloc(), at));
+    Some((tail.len(), tail.count_ones(), tail.get(at)))
+}
+
+#[test]
+fn a_tail_is_false_before_its_index(rt: HostRuntime) {
+    let bits = list_of::<Block24>(&rt, 100, &[3, 40, 99]);
+    expect_eq(&rt, &tail_of(&rt, &bits, 40), &Some((100, 2, Some(true))));
+}
+
+// How long a list is once its zero blocks are cut, and its capacity after that.
+fn cut_and_shrunk<B: BitBlock>(rt: &impl Test, bits: &mut BitVec<B>) -> (usize, usize) {
+    bits.cut_zero_blocks();
+    let len = bits.len();
+    ok(rt, bits.shrink_to_fit());
+    (len, bits.capacity())
+}
+
+#[test]
+fn capacity_is_reserved_exactly_and_given_back(rt: HostRuntime) {
+    let mut exact = BitVec::<Block24>::new_general(rt.alloc());
+    ok(&rt, exact.reserve_exact(25));
+    expect_eq(&rt, &exact.capacity(), &48);
+    let mut bits = list_of::<Block24>(&rt, 1000, &[40]);
+    expect_eq(&rt, &cut_and_shrunk(&rt, &mut bits), &(48, 48));
+    bits.fill(false);
+    expect_eq(&rt, &cut_and_shrunk(&rt, &mut bits), &(0, 0));
 }
 
 // How a list fails to take this many values, by each call that takes memory for them.
@@ -97,9 +147,9 @@ fn failures<B: BitBlock>(bits: &mut BitVec<B>, len: usize) -> [Result<(), AllocE
 }
 
 // Whether no list is made of this many values.
-fn is_too_long<B: BitBlock>(alloc: Global, len: usize) -> bool {
-    BitVec::<B>::from_elem_general(alloc, len, true).is_err()
-        && BitVec::<B>::from_elem_general(alloc, len, false).is_err()
+fn is_too_long<B: BitBlock>(rt: &impl Test, len: usize) -> bool {
+    BitVec::<B>::from_elem_general(rt.alloc(), len, true).is_err()
+        && BitVec::<B>::from_elem_general(rt.alloc(), len, false).is_err()
 }
 
 // The first three values and the eighth, and how many are true.
@@ -109,11 +159,11 @@ fn firsts<B: BitBlock>(bits: &BitVec<B>) -> ([Option<bool>; 4], usize) {
 }
 
 // Each call that takes a number, at one for which there is no memory.
-fn check_greatest<B: BitBlock>(rt: &impl Abort, alloc: Global, number: usize) {
-    let mut bits = of_bytes::<B>(rt, alloc, &[0b1010_0000]);
+fn check_greatest<B: BitBlock>(rt: &impl Test, number: usize) {
+    let mut bits = of_bytes::<B>(rt, &[0b1010_0000]);
     let capacity = bits.capacity();
     expect_eq(rt, &failures(&mut bits, number), &[Err(AllocError); 4]);
-    expect(rt, is_too_long::<B>(alloc, number));
+    expect(rt, is_too_long::<B>(rt, number));
     expect_eq(rt, &bits.get(number), &None);
     bits.truncate(number);
     let values = [Some(true), Some(false), Some(true), Some(false)];
@@ -124,64 +174,15 @@ fn check_greatest<B: BitBlock>(rt: &impl Abort, alloc: Global, number: usize) {
 #[test]
 fn the_greatest_numbers_change_nothing(rt: HostRuntime) {
     for number in [18446744073709551615, 18446744073709551614] {
-        check_greatest::<u8>(&rt, rt.alloc(), number);
-        check_greatest::<Block24>(&rt, rt.alloc(), number);
-        check_greatest::<u64>(&rt, rt.alloc(), number);
+        check_greatest::<u8>(&rt, number);
+        check_greatest::<Block24>(&rt, number);
+        check_greatest::<u64>(&rt, number);
     }
-}
-
-#[test]
-fn nothing_needs_no_memory(rt: HostRuntime) {
-    expect(&rt, BitVec::new(rt.alloc()).none());
-    let mut steps = Steps::new();
-    steps.tick();
-    let _same = steps.clone();
-}
-
-// Takes some calls, and fails from then on.
-#[derive(Drop)]
-struct Fails {
-    taken: usize,
-}
-
-impl fmt::Write for Fails {
-    fn write_str(&mut self, _s: &str) -> fmt::Result {
-        if self.taken == 0 {
-            return Err(fmt::Error);
-        }
-        self.taken -= 1;
-        Ok(())
-    }
-}
-
-// Whether a list is shown by this many calls, and how many of them are left.
-fn shown(bits: &BitVec<u8>, taken: usize) -> (bool, usize) {
-    let mut out = Fails { taken };
-    let is_shown = fmt::Write::write_fmt(&mut out, format_args!("{bits:?}")).is_ok();
-    (is_shown, out.taken)
-}
-
-#[test]
-fn a_text_fails_where_the_formatter_does(rt: HostRuntime) {
-    let bits = trues::<u8>(&rt, rt.alloc(), 10);
-    let text = ok(&rt, format!(in rt.alloc(); "{bits:?}"));
-    expect_eq(
-        &rt,
-        &text.as_str(),
-        &"BitVec { storage: \"11111111 11\", nbits: 10 }",
-    );
-    let (is_shown, left) = shown(&bits, 100);
-    let calls = 100usize.saturating_sub(left);
-    expect(&rt, is_shown && calls > 0);
-    for taken in 0..calls {
-        assert!(rt; !shown(&bits, taken).0, "at {taken}");
-    }
-    expect(&rt, shown(&bits, calls).0);
 }
 
 // Makes a vector of bytes and puts one byte at the end of a list: one `?` serves both.
-fn keep_byte(alloc: Global, list: &mut Vec<u8>, byte: u8) -> Result<BitVec, BitsError> {
-    let bits = BitVec::from_bytes(alloc, &[byte])?;
+fn keep_byte(rt: &impl Test, list: &mut Vec<u8>, byte: u8) -> Result<BitVec, BitsError> {
+    let bits = BitVec::from_bytes(rt.alloc(), &[byte])?;
     list.push(byte)?;
     Ok(bits)
 }
@@ -189,18 +190,7 @@ fn keep_byte(alloc: Global, list: &mut Vec<u8>, byte: u8) -> Result<BitVec, Bits
 #[test]
 fn a_vector_and_a_list_are_made_in_one_function(rt: HostRuntime) {
     let mut list = Vec::new(rt.alloc());
-    let bits = ok(&rt, keep_byte(rt.alloc(), &mut list, 0b1010_0000));
+    let bits = ok(&rt, keep_byte(&rt, &mut list, 0b1010_0000));
     expect_eq(&rt, &bits.storage(), &[5].as_slice());
     expect_eq(&rt, &list.as_slice(), &[0b1010_0000].as_slice());
-}
-
-#[test]
-fn faults_have_their_texts(rt: HostRuntime) {
-    for (fault, text) in [
-        (BitsError::Length, "too many bits"),
-        (BitsError::Memory(AllocError), "memory refused"),
-    ] {
-        let said = ok(&rt, format!(in rt.alloc(); "{fault}"));
-        expect_eq(&rt, &said.as_str(), &text);
-    }
 }

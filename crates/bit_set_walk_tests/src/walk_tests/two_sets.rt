@@ -5,8 +5,7 @@ ghost use Rattle.bit_set.specs.Sets.{elements, union, difference};
 ghost use Rattle.bit_set.specs.Walk.{TwoSetWalk, StartsOverTwo};
 
 use super::counted;
-use crate::expect::{expect, expect_eq, ok};
-use crate::sets::set_of;
+use crate::expect::{expect, expect_eq, ok, set_of};
 use bit_set::laws::{collected_walks, whole_walks_over_two_sets};
 use bit_set::{BitBlock, BitSet, Difference, SetError, Union};
 use std::alloc::Global;
@@ -38,8 +37,8 @@ fn counts(a: &BitSet, b: &BitSet) -> [usize; 4] {
 #[test]
 fn what_two_sets_make_is_counted(rt: HostRuntime) {
     pulls_over_two_sets();
-    let a = set_of(&rt, rt.alloc(), &[1, 3, 5, 200, 500]);
-    let b = set_of(&rt, rt.alloc(), &[3, 200, 201]);
+    let a = set_of(&rt, &[1, 3, 5, 200, 500]);
+    let b = set_of(&rt, &[3, 200, 201]);
     expect_eq(&rt, &counts(&a, &b), &[6, 2, 3, 4]);
 }
 
@@ -60,8 +59,8 @@ fn collect_and_unite<B: BitBlock + 'static>(
 
 #[test]
 fn a_walk_collects_what_is_left_in_place(rt: HostRuntime) {
-    let mut set = set_of::<u32>(&rt, rt.alloc(), &[11, 1, 3]);
-    let other = set_of(&rt, rt.alloc(), &[2, 11]);
+    let mut set = set_of::<u32>(&rt, &[11, 1, 3]);
+    let other = set_of(&rt, &[2, 11]);
     let collected = ok(&rt, collect_and_unite(rt.alloc(), &mut set, &other));
     expect(&rt, collected.iter().eq([1, 2, 3, 11]));
     expect(&rt, set.iter().eq([1, 2, 3, 11]));
