@@ -1,13 +1,11 @@
 //! Capacity, and the bit vector in hand.
 ghost use Rattle.std.specs.Prelude.{◌≡◌, ◌<◌, ◌≤◌, All, IsOk, length, slice_set, true};
 
-use crate::expect::{expect, expect_eq, ok};
-use crate::sets::{set_of, set_of_bytes};
-use crate::steps::{Step, has_just, take_of};
+use crate::expect::{expect, expect_eq, ok, set_of, set_of_bytes};
+use crate::steps::{Step, has_just, take};
 use bit_set::{BitBlock, BitSet, SetError};
 use block24::Block24;
 use std::alloc::Global;
-use std::process::Abort;
 
 // Makes the bit vector true at 1: what is written through it is the set.
 fn raise_at_one<B: BitBlock>(set: &mut BitSet<B>)
@@ -34,7 +32,7 @@ fn what_is_written_is_the_set(rt: HostRuntime) {
 
 #[test]
 fn the_bit_vector_is_handed_out(rt: HostRuntime) {
-    let bits = set_of::<u32>(&rt, rt.alloc(), &[0, 3]).into_bit_vec();
+    let bits = set_of::<u32>(&rt, &[0, 3]).into_bit_vec();
     expect_eq(&rt, &[bits.get(3), bits.get(4)], &[Some(true), None]);
 }
 
@@ -49,18 +47,11 @@ const EXACTLY: &[Step] = &[
 
 #[test]
 fn capacity_is_reserved_and_given_back(rt: HostRuntime) {
-    take_of::<Block24>(&rt, rt.alloc(), &[], EXACTLY);
-}
-
-const PAST_ALL_MEMORY: &[Step] = &[
-    Step::ReserveFails(18446744073709551615),
-    Step::Elements(&[5]),
-    Step::Len(6),
-];
-
-#[test]
-fn no_capacity_past_all_memory(rt: HostRuntime) {
-    take_of::<u32>(&rt, rt.alloc(), &[5], PAST_ALL_MEMORY);
+    take(
+        &rt,
+        &mut BitSet::<Block24>::new_general(rt.alloc()),
+        EXACTLY,
+    );
 }
 
 // Once 0 is in, 1 goes in for sure: they share a block.
@@ -82,7 +73,7 @@ fn is_one_new(alloc: Global) -> Result<bool, SetError> {
 #[test]
 fn a_block_that_is_there_is_enough(rt: HostRuntime) {
     expect(&rt, ok(&rt, is_one_new(rt.alloc())));
-    let bytes = set_of_bytes::<u8>(&rt, rt.alloc(), &[7; 5]);
+    let bytes = set_of_bytes::<u8>(&rt, &[7; 5]);
     expect_eq(&rt, &bytes.capacity(), &40);
 }
 
@@ -141,7 +132,7 @@ fn stays_within(set: &mut BitSet<Block24>, other: &BitSet<Block24>) -> Result<bo
 
 #[test]
 fn within_its_capacity_a_set_never_fails(rt: HostRuntime) {
-    let other = set_of(&rt, rt.alloc(), &[3, 98]);
+    let other = set_of(&rt, &[3, 98]);
     let mut set = BitSet::new_general(rt.alloc());
     let stays = ok(&rt, stays_within(&mut set, &other));
     expect(&rt, stays);

@@ -2,8 +2,6 @@
 #![tactic(auto)]
 
 #[cfg(test)]
-mod algebra_tests;
-#[cfg(test)]
 mod capacity_tests;
 #[cfg(test)]
 mod expect;
@@ -13,9 +11,5 @@ mod json_tests;
 mod order_tests;
 #[cfg(test)]
 mod set_tests;
-#[cfg(test)]
-mod sets;
-#[cfg(test)]
-mod split_tests;
 #[cfg(test)]
 mod steps;

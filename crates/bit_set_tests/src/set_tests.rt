@@ -1,48 +1,75 @@
 //! Rows with their exact results, each generic call once, and the texts of the faults.
-ghost use Rattle.std.specs.Prelude.{IsErrOf};
+ghost use Rattle.std.specs.Prelude.{◌≡◌, IsErrOf, OnOk};
 
-use crate::expect::{expect, expect_eq, ok};
-use crate::sets::{copy_of, set_of, set_of_bytes, with_capacity};
-use crate::steps::{Step, has_just, take, take_new, take_of};
-use bit_set::bit_vec::BitVec;
+use crate::expect::{Test, expect, expect_eq, ok, set_of, set_of_bytes, shows};
+use crate::steps::{Step, has_just, take};
+use bit_set::bit_vec::{BitVec, Merge};
+use bit_set::laws::parted_sets;
 use bit_set::{BitBlock, BitSet, SetError};
+use block24::Block24;
 use std::alloc::{AllocError, Global};
-use std::process::Abort;
 
 const GREATEST: usize = 18446744073709551615;
 
-const NEW_OR_NOT: &[Step] = &[
-    Step::Insert(3, true),
-    Step::Insert(3, false),
-    Step::Insert(4, true),
-    Step::Insert(4, false),
-    Step::Insert(400, true),
-    Step::Insert(400, false),
-    Step::Count(3),
-    Step::Len(401),
-    Step::Blocks(13),
+// Each from a new set. The greatest number is no element, and a set that it is put into stays as it is.
+const ROWS: &[&[Step]] = &[
+    &[
+        Step::Insert(3, true),
+        Step::Insert(3, false),
+        Step::Insert(4, true),
+        Step::Insert(400, true),
+        Step::Insert(400, false),
+        Step::Count(3),
+        Step::Len(401),
+        Step::Blocks(13),
+    ],
+    &[
+        Step::InsertFails(GREATEST, SetError::Element),
+        Step::Elements(&[]),
+        Step::Len(0),
+        Step::IsEmpty(true),
+        Step::Insert(5, true),
+        Step::InsertFails(GREATEST, SetError::Element),
+        Step::Elements(&[5]),
+        Step::Len(6),
+    ],
+    // Items before one that fails stay in.
+    &[
+        Step::ExtendFails(&[7, GREATEST, 9], SetError::Element),
+        Step::Elements(&[7]),
+    ],
+    // The list grows ahead of an item, and afterwards is as long as the items ask, also where one does not go in. The
+    // capacity stays.
+    &[
+        Step::ReserveExact(5000),
+        Step::Extend(&[3000, 5, 2500]),
+        Step::Elements(&[5, 2500, 3000]),
+        Step::Len(3001),
+        Step::Blocks(94),
+        Step::Capacity(5024),
+        Step::ExtendFails(&[4000, GREATEST, 9], SetError::Element),
+        Step::Elements(&[5, 2500, 3000, 4000]),
+        Step::Len(4001),
+        Step::Blocks(126),
+        Step::Capacity(5024),
+    ],
+    // There is not so much memory.
+    &[
+        Step::Insert(5, true),
+        Step::InsertFails(18446744073709551614, SetError::Memory(AllocError)),
+        Step::ReserveFails(GREATEST),
+        Step::Elements(&[5]),
+        Step::Len(6),
+    ],
 ];
 
 #[test]
-fn insert_returns_what_is_new(rt: HostRuntime) {
-    take_new(&rt, rt.alloc(), NEW_OR_NOT);
-}
-
-// The greatest number is no element, and a set that it is put into stays as it is.
-const NO_ELEMENT: &[Step] = &[
-    Step::InsertFails(GREATEST, SetError::Element),
-    Step::Elements(&[]),
-    Step::Len(0),
-    Step::IsEmpty(true),
-    Step::Insert(5, true),
-    Step::InsertFails(GREATEST, SetError::Element),
-    Step::Elements(&[5]),
-    Step::Len(6),
-];
-
-#[test]
-fn the_greatest_number_is_no_element(rt: HostRuntime) {
-    take_new(&rt, rt.alloc(), NO_ELEMENT);
+fn calls_return_what_they_say(rt: HostRuntime) {
+    for row in ROWS {
+        take(&rt, &mut BitSet::new(rt.alloc()), row);
+    }
+    let none = BitSet::<u8>::with_capacity_general(rt.alloc(), GREATEST);
+    expect(&rt, none.is_err());
 }
 
 // Puts a number into a set and at the end of a list: one `?` serves both.
@@ -65,39 +92,8 @@ fn a_set_and_a_list_grow_in_one_function(rt: HostRuntime) {
     expect_eq(&rt, &list.as_slice(), &[7, 3].as_slice());
 }
 
-const ITEMS_BEFORE: &[Step] = &[
-    Step::ExtendFails(&[7, GREATEST, 9], SetError::Element),
-    Step::Elements(&[7]),
-];
-
-#[test]
-fn items_before_one_that_fails_stay_in(rt: HostRuntime) {
-    take_new(&rt, rt.alloc(), ITEMS_BEFORE);
-}
-
-// The list grows ahead of an item, and afterwards is as long as the items ask, also where one does not go in. The
-// capacity stays.
-const FAR_ITEMS: &[Step] = &[
-    Step::ReserveExact(5000),
-    Step::Extend(&[3000, 5, 2500]),
-    Step::Elements(&[5, 2500, 3000]),
-    Step::Len(3001),
-    Step::Blocks(94),
-    Step::Capacity(5024),
-    Step::ExtendFails(&[4000, GREATEST, 9], SetError::Element),
-    Step::Elements(&[5, 2500, 3000, 4000]),
-    Step::Len(4001),
-    Step::Blocks(126),
-    Step::Capacity(5024),
-];
-
-#[test]
-fn a_list_is_as_long_as_far_items_ask(rt: HostRuntime) {
-    take_new(&rt, rt.alloc(), FAR_ITEMS);
-}
-
-// Of {20, 21, 22, 23}.
 const FOUR: &[Step] = &[
+    Step::Extend(&[20, 21, 22, 23]),
     Step::Count(4),
     Step::Remove(22, true),
     Step::Count(3),
@@ -105,16 +101,6 @@ const FOUR: &[Step] = &[
     Step::Count(0),
     Step::Len(24),
 ];
-
-fn put_four<B: BitBlock>(rt: &impl Abort, set: &mut BitSet<B>) {
-    ok(rt, set.extend(20..24));
-}
-
-fn four_go_in<B: BitBlock>(rt: &impl Abort, alloc: Global) {
-    let mut set = with_capacity::<B>(rt, alloc, 20);
-    put_four(rt, &mut set);
-    take(rt, &mut set, FOUR);
-}
 
 // Of a set of two bytes.
 const COPIED: &[Step] = &[
@@ -125,15 +111,12 @@ const COPIED: &[Step] = &[
     Step::Len(0),
 ];
 
-fn copy_into<B: BitBlock>(rt: &impl Abort, copy: &mut BitSet<B>, set: &BitSet<B>) {
-    ok(rt, copy.clone_from(set));
-}
-
-fn bytes_are_copied<B: BitBlock>(rt: &impl Abort, alloc: Global) {
-    let bytes = set_of_bytes::<B>(rt, alloc, &[0b0100_1010, 0b1000_0000]);
-    let mut copy = BitSet::new_general(alloc);
-    copy_into(rt, &mut copy, &bytes);
-    take(rt, &mut copy, COPIED);
+fn sets_are_made<B: BitBlock>(rt: &impl Test) {
+    let mut set = ok(rt, BitSet::<B>::with_capacity_general(rt.alloc(), 20));
+    take(rt, &mut set, FOUR);
+    let bytes = set_of_bytes(rt, &[0b0100_1010, 0b1000_0000]);
+    ok(rt, set.clone_from(&bytes));
+    take(rt, &mut set, COPIED);
 }
 
 // Nine ones are a set that has 8, that is not empty, and that has capacity for them.
@@ -143,54 +126,102 @@ const NINE: &[Step] = &[
     Step::CapacityFrom(9),
 ];
 
-fn nine_are_a_set<B: BitBlock>(rt: &impl Abort, alloc: Global) {
-    let nine = ok(rt, BitVec::<B>::from_elem_general(alloc, 9, true));
-    take(rt, &mut BitSet::from_bit_vec_general(nine), NINE);
-}
-
-// Of a copy of {60, .. 69}: one more number is new, and how many there are once the copy is cut off at 65.
+// Of a copy of {60, 65, 69}: one more number is new, and how many there are once the copy is cut off at 65.
 const CUT_COPY: &[Step] = &[
     Step::Insert(100, true),
     Step::Truncate(65),
-    Step::Count(5),
+    Step::Count(1),
     Step::Len(65),
 ];
 
-fn sixties<B: BitBlock>(rt: &impl Abort, alloc: Global) -> BitSet<B> {
-    ok(rt, BitSet::from_iter(alloc, 60..70))
+fn sets_are_copied<B: BitBlock>(rt: &impl Test) {
+    let nine = ok(rt, BitVec::<B>::from_elem_general(rt.alloc(), 9, true));
+    take(rt, &mut BitSet::from_bit_vec_general(nine), NINE);
+    let mut set = set_of::<B>(rt, &[60, 65, 69]);
+    take(rt, &mut ok(rt, set.clone(rt.alloc())), CUT_COPY);
+    take(rt, &mut set, &[Step::Count(3)]);
 }
 
-fn a_copy_is_cut<B: BitBlock>(rt: &impl Abort, alloc: Global) {
-    let mut set = sixties::<B>(rt, alloc);
-    let mut copy = copy_of(rt, alloc, &set);
-    take(rt, &mut copy, CUT_COPY);
-    take(rt, &mut set, &[Step::Count(10)]);
+// Makes the set what it and another become.
+fn merge_in<B: BitBlock>(
+    set: &mut BitSet<B>,
+    merge: Merge,
+    other: &BitSet<B>,
+) -> Result<(), AllocError> {
+    match merge {
+        Merge::Union => set.union_with(other),
+        Merge::Intersection => set.intersect_with(other),
+        Merge::Difference => set.difference_with(other),
+        Merge::Symmetric => set.symmetric_difference_with(other),
+    }
 }
 
-fn each_succeeds<B: BitBlock>(rt: &impl Abort, alloc: Global) {
-    four_go_in::<B>(rt, alloc);
-    bytes_are_copied::<B>(rt, alloc);
-    nine_are_a_set::<B>(rt, alloc);
-    a_copy_is_cut::<B>(rt, alloc);
+// How many elements two sets of numbers become, by one merge after another.
+const COUNTS: &[(Merge, usize)] = &[
+    (Merge::Union, 10),
+    (Merge::Difference, 5),
+    (Merge::Symmetric, 10),
+    (Merge::Intersection, 5),
+];
+
+fn sets_become_one<B: BitBlock>(rt: &impl Test) {
+    let mut set = set_of::<B>(rt, &[1, 3, 5, 9, 11, 160, 19, 24, 200]);
+    let other = set_of(rt, &[1, 5, 9, 13, 19]);
+    for (merge, count) in COUNTS {
+        ok(rt, merge_in(&mut set, *merge, &other));
+        expect_eq(rt, &set.count(), count);
+    }
+}
+
+// Whether a set is in another, that one in it, and whether they have nothing in common.
+fn inclusions<B: BitBlock>(less: &BitSet<B>, more: &BitSet<B>) -> [bool; 3] {
+    [
+        less.is_subset(more),
+        less.is_superset(more),
+        less.is_disjoint(more),
+    ]
+}
+
+fn each_succeeds<B: BitBlock>(rt: &impl Test) {
+    sets_are_made::<B>(rt);
+    sets_are_copied::<B>(rt);
+    sets_become_one::<B>(rt);
+    let found = inclusions::<B>(&set_of(rt, &[1, 160]), &set_of(rt, &[1, 160, 24]));
+    expect_eq(rt, &found, &[true, false, false]);
 }
 
 #[test]
 fn every_call_succeeds(rt: HostRuntime) {
-    each_succeeds::<u8>(&rt, rt.alloc());
-    each_succeeds::<u128>(&rt, rt.alloc());
+    each_succeeds::<u8>(&rt);
+    each_succeeds::<u128>(&rt);
 }
 
-const TOO_MUCH: &[Step] = &[
-    Step::InsertFails(18446744073709551614, SetError::Memory(AllocError)),
-    Step::Elements(&[5]),
-    Step::Len(6),
-];
+// Parts a set at a number and puts it together again. Once it is done, the set is as it was.
+fn split_and_join<B: BitBlock>(
+    alloc: Global,
+    set: &mut BitSet<B>,
+    at: usize,
+) -> Result<BitSet<B>, AllocError>
+    ensures { OnOk result (set.new.values ≡ set.old.values) }
+{
+    parted_sets();
+    let mut part = set.split_off(alloc, at)?;
+    set.append(&mut part)?;
+    Ok(part)
+}
+
+// {1, 2, 3, 6} is parted at a number and put together again.
+fn comes_back<B: BitBlock>(rt: &impl Test, at: usize) {
+    let mut set = set_of::<B>(rt, &[1, 2, 3, 6]);
+    let part = ok(rt, split_and_join(rt.alloc(), &mut set, at));
+    expect(rt, has_just(&set, &[1, 2, 3, 6]));
+    expect_eq(rt, &part.count(), &0);
+}
 
 #[test]
-fn too_much_memory_fails(rt: HostRuntime) {
-    take_of::<u32>(&rt, rt.alloc(), &[5], TOO_MUCH);
-    let none = BitSet::<u8>::with_capacity_general(rt.alloc(), GREATEST);
-    expect(&rt, none.is_err());
+fn a_parted_set_is_put_together_again(rt: HostRuntime) {
+    comes_back::<Block24>(&rt, 0);
+    comes_back::<u64>(&rt, 3);
 }
 
 const TEXTS: &[(SetError, &str)] = &[
@@ -202,7 +233,6 @@ const TEXTS: &[(SetError, &str)] = &[
 #[test]
 fn faults_have_texts(rt: HostRuntime) {
     for (fault, text) in TEXTS {
-        let said = ok(&rt, format!(in rt.alloc(); "{fault}"));
-        expect_eq(&rt, &said.as_str(), text);
+        shows(&rt, fault, text);
     }
 }

@@ -1,10 +1,7 @@
 // Calls on a set, one after another, each with what is wanted of it. A test is then a row of these, and the calls are
 // proved once.
-use crate::expect::expect_eq_at;
-use crate::sets::set_of;
+use crate::expect::{Test, expect_at};
 use bit_set::{BitBlock, BitSet, SetError};
-use std::alloc::Global;
-use std::process::Abort;
 
 #[derive(Clone, Copy)]
 pub(crate) enum Step {
@@ -109,23 +106,8 @@ fn goes_well<B: BitBlock>(set: &mut BitSet<B>, step: Step) -> bool {
 }
 
 // Takes the steps one after another; ends the test at one that does not come out as is wanted.
-pub(crate) fn take<B: BitBlock>(rt: &impl Abort, set: &mut BitSet<B>, steps: &[Step]) {
+pub(crate) fn take<B: BitBlock>(rt: &impl Test, set: &mut BitSet<B>, steps: &[Step]) {
     for (place, step) in steps.iter().enumerate() {
-        expect_eq_at(rt, place, &goes_well(set, *step), &true);
+        expect_at(rt, place, goes_well(set, *step));
     }
-}
-
-// Takes the steps of a new set.
-pub(crate) fn take_new(rt: &impl Abort, alloc: Global, steps: &[Step]) {
-    take(rt, &mut BitSet::new(alloc), steps);
-}
-
-// Takes the steps of the set of some numbers.
-pub(crate) fn take_of<B: BitBlock>(
-    rt: &impl Abort,
-    alloc: Global,
-    numbers: &[usize],
-    steps: &[Step],
-) {
-    take(rt, &mut set_of::<B>(rt, alloc, numbers), steps);
 }

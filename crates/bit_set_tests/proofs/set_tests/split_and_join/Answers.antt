@@ -1,4 +1,4 @@
-use Rattle.bit_set_tests.proofs.split_tests.split_and_join.Goals as goal
+use Rattle.bit_set_tests.proofs.set_tests.split_and_join.Goals as goal
 
 pub returns : goal.returns
 returns g c =
