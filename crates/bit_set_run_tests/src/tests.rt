@@ -6,13 +6,12 @@ mod fakes;
 mod faults;
 mod tables;
 
-use crate::expect::{expect, expect_eq, expect_eq_of, ok};
-use bit_set_run::{Exit, LinesFault, run_lines, start};
+use crate::expect::{Test, expect, expect_eq, ok};
+use bit_set_run::{LinesFault, run_lines, start};
 use block24::Block24;
 use fakes::{EndlessReader, PieceReader, PieceWriter};
 use std::alloc::Global;
-use std::io::ErrorKind;
-use std::process::Abort;
+use std::io::{ErrorKind, Read, Write};
 
 const ELEMENT_COMMANDS: &[u8] =
     b"insert a 3\ninsert a 3\ninsert a 400\ncontains a 3\nremove a 3\ncontains a 3\ncount a\nitems a\nitems b\n";
@@ -21,10 +20,6 @@ const ELEMENT_REPLIES: &[u8] = b"true\nfalse\ntrue\ntrue\ntrue\nfalse\n1\n{400}\
 
 // Inputs, and their outputs.
 const ROWS: &[(&[u8], &[u8])] = &[
-    (
-        b"insert a 3\ninsert a 3\ninsert a 400\nremove a 3\ncount a\nitems a\n",
-        b"true\nfalse\ntrue\ntrue\n1\n{400}\n",
-    ),
     (ELEMENT_COMMANDS, ELEMENT_REPLIES),
     (
         b"insert a 18446744073709551615\ncontains a 18446744073709551615\nfrob\nfrob 99999999999999999999\ninsert a 99999999999999999999\n",
@@ -45,10 +40,6 @@ const ROWS: &[(&[u8], &[u8])] = &[
     (
         b"insert a 18446744073709551615\nunion_with a a\nfrob\ninsert a 99999999999999999999\ninsert q 1\n\ninsert a\ninsert a -1\ninsert a 007\ncopy a a\ncontains a 18446744073709551615\nextend a 9 18446744073709551615 11\nextend a\nitems a",
         b"refused element\nrefused same\nbad command\nbad number\nbad command\nbad command\nbad command\nbad command\ntrue\nrefused same\nfalse\nrefused element\nok\n{7, 9}\n",
-    ),
-    (
-        b"extend a 1 3 5 200 500\nextend b 3 200\ndifference a b\nrest difference a b 1\nrest difference a b 9\nrest iter b 0\nrest union a b 3\nunion a b\nsymmetric_difference b a\nintersection a a\nsuperset a b\nintersect_with a b\nitems a\neq a b\ncmp a b\ncmp a c\nsubset c a\ndisjoint a b\ntruncate a 200\nitems a\nunion_with c b\nsymmetric_difference_with c a\nitems c\ndifference_with b a\nitems b\ncopy d a\nis_empty a\nempty b\nreset c\neq b c\ncount c\n",
-        b"ok\nok\n{1, 5, 500}\n2 {5, 500}\n0 {}\n2 {3, 200}\n2 {200, 500}\n{1, 3, 5, 200, 500}\n{1, 5, 500}\n{1, 3, 5, 200, 500}\ntrue\nok\n{3, 200}\ntrue\nEqual\nGreater\ntrue\nfalse\nok\n{3}\nok\nok\n{200}\nok\n{200}\nok\ntrue\nok\nok\ntrue\n0\n",
     ),
     (
         b"extend a 1 3 5 200 500\nextend b 3 200\nrest frob a b 1\nrest union a b\nunion a\nunion a b 1\nrest union a b 99999999999999999999\nrest intersection a b 1\nrest symmetric_difference a b 2\nsymmetric_difference a a\ndifference b a\nintersection a b\ncmp c a\nsuperset c a\ndisjoint a c\nsubset a b\neq a b\nitems a\n",
@@ -88,36 +79,30 @@ const ROWS: &[(&[u8], &[u8])] = &[
     ),
 ];
 
-// How the program ends.
-const DONE: Exit = Exit {
-    status: 0,
-    text: "",
-};
+// The status of the program, and what it says.
+type Ended = (u8, &'static str);
 
-const MISUSED: Exit = Exit {
-    status: 2,
-    text: "usage: bitset [u8|u16|u32|u64|usize|u128]",
-};
+const DONE: Ended = (0, "");
 
-const REFUSED: Exit = Exit {
-    status: 3,
-    text: "memory refused",
-};
+const REFUSED: Ended = (3, "memory refused");
 
-const READ_FAILED: Exit = Exit {
-    status: 4,
-    text: "read failed",
-};
+const INPUT_TOO_LARGE: Ended = (5, "input too large");
 
-const WRITE_FAILED: Exit = Exit {
-    status: 4,
-    text: "write failed",
-};
-
-const INPUT_TOO_LARGE: Exit = Exit {
-    status: 5,
-    text: "input too large",
-};
+// How the program ends at these words.
+fn ended<R: Read, W: Write>(
+    rt: &impl Test,
+    words: &[&str],
+    reader: &mut R,
+    writer: &mut W,
+) -> Ended {
+    let mut owned = Vec::new(rt.alloc());
+    for word in words {
+        let word = ok(rt, String::from_str(rt.alloc(), word));
+        expect(rt, owned.push(word).is_ok());
+    }
+    let exit = start(rt.alloc(), &owned, reader, writer);
+    (exit.status, exit.text)
+}
 
 // The words of the program, one for each type of blocks, and none.
 const WORDS: &[&[&str]] = &[
@@ -130,36 +115,32 @@ const WORDS: &[&[&str]] = &[
     &["u128"],
 ];
 
-fn words_of(rt: &impl Abort, alloc: Global, words: &[&str]) -> Vec<String> {
-    let mut owned = Vec::new(alloc);
-    for word in words {
-        let word = ok(rt, String::from_str(alloc, word));
-        expect(rt, owned.push(word).is_ok());
-    }
-    owned
+// At these words and this input the program ends so, and leaves this output.
+fn check_run(rt: &impl Test, words: &[&str], (input, output): (&[u8], &[u8]), wanted: Ended) {
+    let mut reader = input;
+    let mut writer = Vec::new(rt.alloc());
+    let found = ended(rt, words, &mut reader, &mut writer);
+    assert_eq!(rt; found, wanted, "of {words:?}");
+    assert_eq!(rt; writer.as_slice(), output, "of {words:?}");
 }
 
-// At these words and this input the program ends so, and leaves this output.
-fn check_run(
-    rt: &impl Abort,
-    alloc: Global,
-    words: &[&str],
-    (input, output): (&[u8], &[u8]),
-    wanted: Exit,
-) {
-    let owned = words_of(rt, alloc, words);
-    let mut reader = input;
-    let mut writer = Vec::new(alloc);
-    let exit = start(alloc, &owned, &mut reader, &mut writer);
-    expect_eq_of(rt, &words, &exit, &wanted);
-    expect_eq_of(rt, &words, &writer.as_slice(), &output);
-}
+// An element or a capacity that no memory holds.
+const PAST_ALL_MEMORY: &[&[u8]] = &[
+    b"insert a 18446744073709551614\n",
+    b"reserve a 18446744073709551615\n",
+    b"insert a 3\nreserve_exact a 18446744073709551615\nitems a\n",
+    b"reserve a 18446744073709551614\n",
+    b"reserve_exact a 18446744073709551614\n",
+];
 
 #[test]
 fn replies_to_rows_under_each_word(rt: HostRuntime) {
-    for row in ROWS {
-        for words in WORDS {
-            check_run(&rt, rt.alloc(), words, *row, DONE);
+    for words in WORDS {
+        for row in ROWS {
+            check_run(&rt, words, *row, DONE);
+        }
+        for input in PAST_ALL_MEMORY {
+            check_run(&rt, words, (*input, b""), REFUSED);
         }
     }
 }
@@ -176,40 +157,16 @@ fn replies_to_rows_over_blocks_of_24_bits(rt: HostRuntime) {
     }
 }
 
-// Capacity that no memory has.
-const PAST_ALL_MEMORY: &[&[u8]] = &[
-    b"reserve a 18446744073709551615\n",
-    b"insert a 3\nreserve_exact a 18446744073709551615\nitems a\n",
-    b"reserve a 18446744073709551614\n",
-    b"reserve_exact a 18446744073709551614\n",
-];
-
-#[test]
-fn fails_for_capacity_under_each_word(rt: HostRuntime) {
-    for input in PAST_ALL_MEMORY {
-        for words in WORDS {
-            check_run(&rt, rt.alloc(), words, (*input, b""), REFUSED);
-        }
-    }
-}
-
-// An element that no memory holds.
-#[test]
-fn says_that_memory_is_refused(rt: HostRuntime) {
-    let input = b"insert a 18446744073709551614\n";
-    check_run(&rt, rt.alloc(), &[], (input, b""), REFUSED);
-}
-
 const OTHER_WORDS: &[&[&str]] = &[&["u9"], &["u8", "u8"], &["u128", "u8"]];
 
 #[test]
 fn rejects_other_words(rt: HostRuntime) {
+    let misused = (2, "usage: bitset [u8|u16|u32|u64|usize|u128]");
     for words in OTHER_WORDS {
-        let owned = words_of(&rt, rt.alloc(), words);
         let mut reader = reader(ELEMENT_COMMANDS);
         let mut writer = writer(rt.alloc());
-        let exit = start(rt.alloc(), &owned, &mut reader, &mut writer);
-        expect_eq(&rt, &exit, &MISUSED);
+        let found = ended(&rt, words, &mut reader, &mut writer);
+        expect_eq(&rt, &found, &misused);
         expect(&rt, reader.calls == 0 && is_unused(&writer));
     }
 }
@@ -219,30 +176,26 @@ fn is_unused(writer: &PieceWriter) -> bool {
 }
 
 #[test]
-fn says_that_a_read_failed(rt: HostRuntime) {
+fn says_that_a_read_or_a_write_failed(rt: HostRuntime) {
     let mut bytes = Vec::new(rt.alloc());
     let mut broken = reader(ELEMENT_COMMANDS);
     broken.fails_at = 0;
-    let exit = start(rt.alloc(), &[], &mut broken, &mut bytes);
-    expect_eq(&rt, &exit, &READ_FAILED);
+    let found = ended(&rt, &[], &mut broken, &mut bytes);
+    expect_eq(&rt, &found, &(4, "read failed"));
     expect(&rt, bytes.is_empty());
+    let mut closed = writer(rt.alloc());
+    closed.fails_at = 0;
+    let found = ended(&rt, &[], &mut reader(ELEMENT_COMMANDS), &mut closed);
+    expect_eq(&rt, &found, &(4, "write failed"));
 }
 
 #[test]
 fn says_that_an_input_is_too_large(rt: HostRuntime) {
     let mut bytes = Vec::new(rt.alloc());
     let mut endless = EndlessReader { calls: 0 };
-    let exit = start(rt.alloc(), &[], &mut endless, &mut bytes);
-    expect_eq(&rt, &exit, &INPUT_TOO_LARGE);
+    let found = ended(&rt, &[], &mut endless, &mut bytes);
+    expect_eq(&rt, &found, &INPUT_TOO_LARGE);
     expect_eq(&rt, &(endless.calls, bytes.len()), &(1_048_577, 0));
-}
-
-#[test]
-fn says_that_a_write_failed(rt: HostRuntime) {
-    let mut closed = writer(rt.alloc());
-    closed.fails_at = 0;
-    let exit = start(rt.alloc(), &[], &mut reader(ELEMENT_COMMANDS), &mut closed);
-    expect_eq(&rt, &exit, &WRITE_FAILED);
 }
 
 // A reader of these bytes, seven at a call, that does not fail.
@@ -269,14 +222,23 @@ fn writer(alloc: Global) -> PieceWriter {
     }
 }
 
+// What comes of the commands with this reader and this writer.
+fn outcome(
+    rt: &impl Test,
+    reader: &mut PieceReader<'_>,
+    writer: &mut PieceWriter,
+) -> Result<(), LinesFault> {
+    run_lines::<u32, _, _>(rt.alloc(), reader, writer)
+}
+
 // A read that fails so is not tried again, and nothing is written.
-fn check_read(rt: &impl Abort, alloc: Global, kind: ErrorKind, fails_at: usize) {
+fn check_read(rt: &impl Test, kind: ErrorKind, fails_at: usize) {
     let mut reader = reader(ELEMENT_COMMANDS);
     reader.fails_at = fails_at;
     reader.kind = kind;
-    let mut writer = writer(alloc);
-    let result = run_lines::<u32, _, _>(alloc, &mut reader, &mut writer);
-    expect_eq(rt, &result, &Err(LinesFault::Read));
+    let mut writer = writer(rt.alloc());
+    let found = outcome(rt, &mut reader, &mut writer);
+    expect_eq(rt, &found, &Err(LinesFault::Read));
     expect_eq(rt, &reader.calls.saturating_sub(1), &fails_at);
     expect(rt, is_unused(&writer));
 }
@@ -295,7 +257,7 @@ fn leaves_a_read_that_failed(rt: HostRuntime) {
     let last = ELEMENT_COMMANDS.len().div_ceil(7);
     for kind in READ_FAULTS {
         for fails_at in [0, 1, last] {
-            check_read(&rt, rt.alloc(), *kind, fails_at);
+            check_read(&rt, *kind, fails_at);
         }
     }
 }
@@ -307,13 +269,12 @@ fn written(writes: usize) -> &'static [u8] {
 }
 
 // A write that fails so is not tried again, and what was written before it stays.
-fn check_write(rt: &impl Abort, alloc: Global, kind: Option<ErrorKind>, fails_at: usize) {
-    let mut writer = writer(alloc);
+fn check_write(rt: &impl Test, kind: Option<ErrorKind>, fails_at: usize) {
+    let mut writer = writer(rt.alloc());
     writer.fails_at = fails_at;
     writer.kind = kind;
-    let mut reader = reader(ELEMENT_COMMANDS);
-    let result = run_lines::<u32, _, _>(alloc, &mut reader, &mut writer);
-    expect_eq(rt, &result, &Err(LinesFault::Write));
+    let found = outcome(rt, &mut reader(ELEMENT_COMMANDS), &mut writer);
+    expect_eq(rt, &found, &Err(LinesFault::Write));
     let calls = (writer.calls.saturating_sub(1), writer.flushes);
     expect_eq(rt, &calls, &(fails_at, 0));
     expect_eq(rt, &writer.bytes.as_slice(), &written(fails_at));
@@ -333,7 +294,7 @@ fn leaves_a_write_that_failed(rt: HostRuntime) {
     let last = ELEMENT_REPLIES.len().div_ceil(7).saturating_sub(1);
     for kind in WRITE_FAULTS {
         for fails_at in [0, 1, last] {
-            check_write(&rt, rt.alloc(), *kind, fails_at);
+            check_write(&rt, *kind, fails_at);
         }
     }
 }
@@ -343,20 +304,19 @@ fn writes_in_pieces_and_flushes(rt: HostRuntime) {
     let mut patient = writer(rt.alloc());
     patient.piece = 1;
     let mut read = reader(ELEMENT_COMMANDS);
-    let result = run_lines::<u32, _, _>(rt.alloc(), &mut read, &mut patient);
-    expect_eq(&rt, &result, &Ok(()));
+    let found = outcome(&rt, &mut read, &mut patient);
+    expect_eq(&rt, &found, &Ok(()));
     // None comes after the end.
     let calls = ELEMENT_COMMANDS.len().div_ceil(7).saturating_add(1);
-    expect_eq(&rt, &read.calls, &calls);
+    expect_eq(&rt, &(read.calls, patient.flushes), &(calls, 1));
     expect_eq(&rt, &patient.bytes.as_slice(), &ELEMENT_REPLIES);
-    expect_eq(&rt, &patient.flushes, &1);
 }
 
 #[test]
 fn flushes_an_empty_output_too(rt: HostRuntime) {
     let mut idle = writer(rt.alloc());
-    let result = run_lines::<u32, _, _>(rt.alloc(), &mut reader(b""), &mut idle);
-    expect_eq(&rt, &result, &Ok(()));
+    let found = outcome(&rt, &mut reader(b""), &mut idle);
+    expect_eq(&rt, &found, &Ok(()));
     expect_eq(&rt, &(idle.calls, idle.flushes), &(0, 1));
 }
 
@@ -364,15 +324,15 @@ fn flushes_an_empty_output_too(rt: HostRuntime) {
 fn leaves_a_flush_that_failed(rt: HostRuntime) {
     let mut unflushed = writer(rt.alloc());
     unflushed.flush_fails = true;
-    let result = run_lines::<u32, _, _>(rt.alloc(), &mut reader(ELEMENT_COMMANDS), &mut unflushed);
-    expect_eq(&rt, &result, &Err(LinesFault::Write));
+    let found = outcome(&rt, &mut reader(ELEMENT_COMMANDS), &mut unflushed);
+    expect_eq(&rt, &found, &Err(LinesFault::Write));
     expect_eq(&rt, &unflushed.bytes.as_slice(), &ELEMENT_REPLIES);
     expect_eq(&rt, &unflushed.flushes, &1);
 }
 
 // Some bytes, in lines of 64 that spell no command.
-fn long_lines(rt: &impl Abort, alloc: Global, count: usize) -> Vec<u8> {
-    let mut input = ok(rt, vec![in alloc; b'x'; count]);
+fn long_lines(rt: &impl Test, count: usize) -> Vec<u8> {
+    let mut input = ok(rt, vec![in rt.alloc(); b'x'; count]);
     for line in input.chunks_mut(64) {
         if let Some(last) = line.last_mut() {
             *last = b'\n';
@@ -384,7 +344,7 @@ fn long_lines(rt: &impl Abort, alloc: Global, count: usize) -> Vec<u8> {
 const FOUR_REPLIES: &[u8] = b"bad command\nbad command\nbad command\nbad command\n";
 
 // How many bytes there are, in copies of four replies to lines that spell no command.
-fn bad_commands(rt: &impl Abort, output: &[u8]) -> usize {
+fn bad_commands(rt: &impl Test, output: &[u8]) -> usize {
     for lines in output.chunks(48) {
         expect_eq(rt, &lines, &FOUR_REPLIES);
     }
@@ -393,40 +353,22 @@ fn bad_commands(rt: &impl Abort, output: &[u8]) -> usize {
 
 #[test]
 fn takes_inputs_up_to_the_limit(rt: HostRuntime) {
-    let input = long_lines(&rt, rt.alloc(), 1_048_576);
-    let mut reader = input.as_slice();
+    let input = long_lines(&rt, 1_048_576);
     let mut writer = Vec::new(rt.alloc());
-    let exit = start(rt.alloc(), &[], &mut reader, &mut writer);
-    expect_eq(&rt, &exit.status, &0);
+    let found = ended(&rt, &[], &mut input.as_slice(), &mut writer);
+    expect_eq(&rt, &found, &DONE);
     expect_eq(&rt, &bad_commands(&rt, &writer), &196_608);
-}
-
-// An input of one byte more.
-fn too_large(rt: &impl Abort, alloc: Global) -> Vec<u8> {
-    let mut input = long_lines(rt, alloc, 1_048_576);
-    ok(rt, input.push(b'\n'));
-    input
 }
 
 #[test]
 fn runs_no_line_of_an_input_past_the_limit(rt: HostRuntime) {
-    let input = too_large(&rt, rt.alloc());
+    let mut input = long_lines(&rt, 1_048_576);
+    ok(&rt, input.push(b'\n'));
+    check_run(&rt, &[], (input.as_slice(), b""), INPUT_TOO_LARGE);
     let mut reader = reader(&input);
     reader.piece = usize::MAX;
     let mut writer = writer(rt.alloc());
-    let result = run_lines::<u32, _, _>(rt.alloc(), &mut reader, &mut writer);
-    expect_eq(&rt, &result, &Err(LinesFault::TooLarge));
+    let found = outcome(&rt, &mut reader, &mut writer);
+    expect_eq(&rt, &found, &Err(LinesFault::TooLarge));
     expect(&rt, is_unused(&writer));
-}
-
-#[test]
-fn says_that_an_input_is_past_the_limit(rt: HostRuntime) {
-    let input = too_large(&rt, rt.alloc());
-    check_run(
-        &rt,
-        rt.alloc(),
-        &[],
-        (input.as_slice(), b""),
-        INPUT_TOO_LARGE,
-    );
 }

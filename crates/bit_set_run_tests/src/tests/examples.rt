@@ -1,12 +1,11 @@
 //! The examples of the documents of `bit_set_run`.
-use crate::expect::{expect_eq, ok};
+use crate::expect::{Test, expect_eq, ok};
 use bit_set_run::{
     Command, Exit, LinesFault, Reply, RunFault, SetName, Table, run, run_lines, start,
 };
-use std::alloc::Global;
-use std::process::Abort;
 
-fn run_of_commands(rt: &impl Abort, alloc: Global, a: SetName) -> Result<(), RunFault> {
+fn run_of_commands(rt: &impl Test, a: SetName) -> Result<(), RunFault> {
+    let alloc = rt.alloc();
     // `a` is the name of the first set.
     let mut table = Table::<u32>::new(alloc);
     let mut replies = Vec::new(alloc);
@@ -19,7 +18,8 @@ fn run_of_commands(rt: &impl Abort, alloc: Global, a: SetName) -> Result<(), Run
     Ok(())
 }
 
-fn output_of_lines(rt: &impl Abort, alloc: Global) -> Result<(), LinesFault> {
+fn output_of_lines(rt: &impl Test) -> Result<(), LinesFault> {
+    let alloc = rt.alloc();
     let mut lines = b"insert a 3\nitems a\n".as_slice();
     let mut output = Vec::new(alloc);
     run_lines::<u32, _, _>(alloc, &mut lines, &mut output)?;
@@ -29,20 +29,17 @@ fn output_of_lines(rt: &impl Abort, alloc: Global) -> Result<(), LinesFault> {
 
 #[test]
 fn commands_are_executed(rt: HostRuntime) {
+    let alloc = rt.alloc();
     let a = ok(&rt, SetName::from_letter(b'a').ok_or("a"));
-    ok(&rt, run_of_commands(&rt, rt.alloc(), a));
-    let table = Table::<u32>::new(rt.alloc());
+    ok(&rt, run_of_commands(&rt, a));
+    let table = Table::<u32>::new(alloc);
     expect_eq(&rt, &table.get(a).count(), &0);
 }
 
 #[test]
 fn lines_have_their_output(rt: HostRuntime) {
-    ok(&rt, output_of_lines(&rt, rt.alloc()));
-}
-
-#[test]
-fn the_program_is_run(rt: HostRuntime) {
     let alloc = rt.alloc();
+    ok(&rt, output_of_lines(&rt));
     let mut lines = b"count a\n".as_slice();
     let mut output = Vec::new(alloc);
     let exit = start(alloc, &[], &mut lines, &mut output);
