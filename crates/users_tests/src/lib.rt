@@ -10,8 +10,6 @@ mod callers;
 #[cfg(test)]
 mod dataflow_tests;
 #[cfg(test)]
-mod examples;
-#[cfg(test)]
 mod expect;
 #[cfg(test)]
 mod free_slots_tests;

@@ -1,10 +1,8 @@
-//! The closures of graphs that are matrices, worked out by hand.
+//! The closures and the dominators of graphs, worked out by hand, and the examples of the doc comments.
 use super::rows_of;
-use crate::expect::{expect, expect_eq_at, ok};
+use crate::expect::{Test, expect, expect_eq, expect_eq_at, ok, sets_of};
 use bit_matrix::{BitBlock, BitMatrix, MatrixError};
-use graph_walks::{reflexive_transitive_closure, transitive_closure};
-use std::alloc::Global;
-use std::process::Abort;
+use graph_walks::{Graph, dominators, reflexive_transitive_closure, transitive_closure};
 
 // Puts the column into the row, where there are both.
 fn put<B: BitBlock>(matrix: &mut BitMatrix<B>, row: usize, column: usize) {
@@ -13,16 +11,11 @@ fn put<B: BitBlock>(matrix: &mut BitMatrix<B>, row: usize, column: usize) {
     }
 }
 
-/// The matrix of these rows, without what is past its columns.
-pub(super) fn matrix_of<B: BitBlock>(
-    rt: &impl Abort,
-    alloc: Global,
-    columns: usize,
-    rows: &[Vec<usize>],
-) -> BitMatrix<B> {
-    let mut matrix = ok(rt, BitMatrix::new_general(alloc, rows.len(), columns));
+// The matrix of these rows, without what is past its columns.
+fn matrix_of<B: BitBlock>(rt: &impl Test, columns: usize, rows: &[&[usize]]) -> BitMatrix<B> {
+    let mut matrix = ok(rt, BitMatrix::new_general(rt.alloc(), rows.len(), columns));
     for (node, row) in rows.iter().enumerate() {
-        for column in row {
+        for column in *row {
             put(&mut matrix, node, *column);
         }
     }
@@ -34,15 +27,16 @@ fn is_row<B: BitBlock>(matrix: &BitMatrix<B>, row: usize, columns: &[usize]) -> 
     row < matrix.rows() && matrix.iter(row).eq(columns.iter().copied())
 }
 
-/// The matrix has just these rows.
-pub(super) fn check_rows<B: BitBlock>(rt: &impl Abort, matrix: &BitMatrix<B>, lists: &[&[usize]]) {
+// The matrix has just these rows.
+fn check_rows<B: BitBlock>(rt: &impl Test, matrix: &BitMatrix<B>, lists: &[&[usize]]) {
     expect(rt, matrix.rows() == lists.len());
     for (row, list) in lists.iter().enumerate() {
         expect_eq_at(rt, row, &is_row(matrix, row, list), &true);
     }
 }
 
-fn closed_chain(rt: &impl Abort, alloc: Global) -> Result<(), MatrixError> {
+fn closed_chain(rt: &impl Test) -> Result<(), MatrixError> {
+    let alloc = rt.alloc();
     let mut reaches = BitMatrix::new(alloc, 3, 3)?;
     reaches.insert(0, 1);
     reaches.insert(1, 2);
@@ -52,12 +46,8 @@ fn closed_chain(rt: &impl Abort, alloc: Global) -> Result<(), MatrixError> {
     Ok(())
 }
 
-#[test]
-fn a_closed_chain(rt: HostRuntime) {
-    ok(&rt, closed_chain(&rt, rt.alloc()));
-}
-
-fn reflexive_chain(rt: &impl Abort, alloc: Global) -> Result<(), MatrixError> {
+fn reflexive_chain(rt: &impl Test) -> Result<(), MatrixError> {
+    let alloc = rt.alloc();
     let mut reaches = BitMatrix::new(alloc, 3, 3)?;
     reaches.insert(0, 1);
     reaches.insert(1, 2);
@@ -68,59 +58,146 @@ fn reflexive_chain(rt: &impl Abort, alloc: Global) -> Result<(), MatrixError> {
     Ok(())
 }
 
-#[test]
-fn a_reflexive_chain(rt: HostRuntime) {
-    ok(&rt, reflexive_chain(&rt, rt.alloc()));
+fn four_nodes(rt: &impl Test) -> Result<(), MatrixError> {
+    let alloc = rt.alloc();
+    let mut edges = BitMatrix::new(alloc, 4, 4)?;
+    edges.insert(0, 1);
+    edges.insert(0, 2);
+    edges.insert(1, 3);
+    edges.insert(2, 3);
+    let found: BitMatrix = dominators(alloc, &edges, 0)?;
+    expect(rt, found.iter(3).eq([0, 3]));
+    Ok(())
 }
 
-// The closures of the graph of these rows, in a matrix of this many columns, have just these rows.
-fn check_closures(
-    rt: &impl Abort,
-    alloc: Global,
-    (columns, edges): (usize, &[&[usize]]),
-    (closed, reflexive): (&[&[usize]], &[&[usize]]),
-) {
-    let rows = rows_of(rt, alloc, edges);
-    let mut matrix = matrix_of::<u8>(rt, alloc, columns, rows.as_slice());
-    transitive_closure(&mut matrix);
-    check_rows(rt, &matrix, closed);
-    let mut matrix = matrix_of::<u64>(rt, alloc, columns, rows.as_slice());
-    reflexive_transitive_closure(&mut matrix);
-    check_rows(rt, &matrix, reflexive);
+#[test]
+fn examples_of_matrices(rt: HostRuntime) {
+    ok(&rt, closed_chain(&rt));
+    ok(&rt, reflexive_chain(&rt));
+    ok(&rt, four_nodes(&rt));
 }
 
-// 0 leads into the loop of 1, 2 and 3, and nothing to 4, which leads there too.
+// How many columns a matrix has, the rows of the graph, and those of its two closures.
+type Closures = (
+    usize,
+    &'static [&'static [usize]],
+    &'static [&'static [usize]],
+    &'static [&'static [usize]],
+);
+
+const CLOSURES: &[Closures] = &[
+    // 0 leads into the loop of 1, 2 and 3, and nothing to 4, which leads there too.
+    (
+        5,
+        &[&[1], &[2], &[3], &[1], &[0]],
+        &[
+            &[1, 2, 3],
+            &[1, 2, 3],
+            &[1, 2, 3],
+            &[1, 2, 3],
+            &[0, 1, 2, 3],
+        ],
+        &[
+            &[0, 1, 2, 3],
+            &[1, 2, 3],
+            &[1, 2, 3],
+            &[1, 2, 3],
+            &[0, 1, 2, 3, 4],
+        ],
+    ),
+    // The node 2 has a row and is no column.
+    (
+        2,
+        &[&[1], &[0], &[1]],
+        &[&[0, 1], &[0, 1], &[0, 1]],
+        &[&[0, 1], &[0, 1], &[0, 1]],
+    ),
+    // If there are fewer rows, 2 and 3 are columns and have no row.
+    (4, &[&[1], &[3]], &[&[1, 3], &[3]], &[&[0, 1, 3], &[1, 3]]),
+];
+
 #[test]
-fn a_loop_and_a_node_that_is_not_reached(rt: HostRuntime) {
-    let edges: (usize, &[&[usize]]) = (5, &[&[1], &[2], &[3], &[1], &[0]]);
-    let closed: &[&[usize]] = &[
-        &[1, 2, 3],
-        &[1, 2, 3],
-        &[1, 2, 3],
-        &[1, 2, 3],
-        &[0, 1, 2, 3],
-    ];
-    let reflexive: &[&[usize]] = &[
-        &[0, 1, 2, 3],
-        &[1, 2, 3],
-        &[1, 2, 3],
-        &[1, 2, 3],
-        &[0, 1, 2, 3, 4],
-    ];
-    check_closures(&rt, rt.alloc(), edges, (closed, reflexive));
+fn graphs_have_closures(rt: HostRuntime) {
+    for (columns, edges, closed, reflexive) in CLOSURES {
+        let mut matrix = matrix_of::<u8>(&rt, *columns, edges);
+        transitive_closure(&mut matrix);
+        check_rows(&rt, &matrix, closed);
+        let mut matrix = matrix_of::<u64>(&rt, *columns, edges);
+        reflexive_transitive_closure(&mut matrix);
+        check_rows(&rt, &matrix, reflexive);
+    }
 }
 
-// The node 2 has a row and is no column; and if there are fewer rows, 2 and 3 are columns and have no row.
+// The dominators of this graph have just these rows.
+fn check_graph<B: BitBlock, G: Graph>(rt: &impl Test, graph: G, entry: usize, lists: &[&[usize]]) {
+    let found = ok(rt, dominators::<B, G>(rt.alloc(), graph, entry));
+    expect_eq(rt, &found.columns(), &found.rows());
+    check_rows(rt, &found, lists);
+}
+
+// The edges of a graph, its entry, and the rows of its dominators.
+const DOMINATORS: &[(&[&[usize]], usize, &[&[usize]])] = &[
+    // Loops within loops, and a back edge from 8 to the entry.
+    (
+        &[
+            &[1, 2],
+            &[2],
+            &[3],
+            &[2, 4, 5],
+            &[6],
+            &[6],
+            &[3, 7],
+            &[2, 8, 9],
+            &[0],
+            &[6],
+        ],
+        0,
+        &[
+            &[0],
+            &[0, 1],
+            &[0, 2],
+            &[0, 2, 3],
+            &[0, 2, 3, 4],
+            &[0, 2, 3, 5],
+            &[0, 2, 3, 6],
+            &[0, 2, 3, 6, 7],
+            &[0, 2, 3, 6, 7, 8],
+            &[0, 2, 3, 6, 7, 9],
+        ],
+    ),
+    // Loops that are entered at more than one node.
+    (&[&[1, 2], &[2], &[1]], 0, &[&[0], &[0, 1], &[0, 2]]),
+    (
+        &[&[1], &[0, 2], &[1], &[1, 2], &[0], &[3, 4]],
+        5,
+        &[&[0, 5], &[1, 5], &[2, 5], &[3, 5], &[4, 5], &[5]],
+    ),
+    // No path leads to 2 and 3, and an edge from 2 to 1 takes nothing out of the row of 1.
+    (
+        &[&[1], &[], &[1, 3], &[2]],
+        0,
+        &[&[0], &[0, 1], &[0, 1, 2, 3], &[0, 1, 2, 3]],
+    ),
+    // Edges to the entry, from a node to itself and past the end change nothing.
+    (OUTWARD, 0, &[&[0], &[0, 1], &[0, 1, 2]]),
+    // From past the end no node is reached.
+    (OUTWARD, 3, &[&[0, 1, 2], &[0, 1, 2], &[0, 1, 2]]),
+    (OUTWARD, usize::MAX, &[&[0, 1, 2], &[0, 1, 2], &[0, 1, 2]]),
+    (&[], 0, &[]),
+    (&[&[0]], 0, &[&[0]]),
+];
+
+const OUTWARD: &[&[usize]] = &[&[0, 1, 9], &[0, 1, 2], &[2, 70, 1]];
+
+// So it is of the graph as lists, as sets and as a matrix.
 #[test]
-fn rows_that_are_no_columns(rt: HostRuntime) {
-    let edges: (usize, &[&[usize]]) = (2, &[&[1], &[0], &[1]]);
-    let closed: &[&[usize]] = &[&[0, 1], &[0, 1], &[0, 1]];
-    check_closures(&rt, rt.alloc(), edges, (closed, closed));
-    let edges: (usize, &[&[usize]]) = (4, &[&[1], &[3]]);
-    check_closures(
-        &rt,
-        rt.alloc(),
-        edges,
-        (&[&[1, 3], &[3]], &[&[0, 1, 3], &[1, 3]]),
-    );
+fn graphs_have_dominators(rt: HostRuntime) {
+    for (edges, entry, lists) in DOMINATORS {
+        let rows = rows_of(&rt, edges);
+        check_graph::<u8, _>(&rt, rows.as_slice(), *entry, lists);
+        let sets = sets_of::<u32>(&rt, edges);
+        check_graph::<u32, _>(&rt, sets.as_slice(), *entry, lists);
+        let matrix = matrix_of::<u64>(&rt, edges.len(), edges);
+        check_graph::<u64, _>(&rt, &matrix, *entry, lists);
+    }
 }
