@@ -2,8 +2,6 @@
 #![tactic(auto)]
 
 #[cfg(test)]
-mod bits_tests;
-#[cfg(test)]
 mod chains_tests;
 #[cfg(test)]
 mod commands_tests;
@@ -17,7 +15,3 @@ mod loops_tests;
 mod matrices_tests;
 #[cfg(test)]
 mod set_tests;
-#[cfg(test)]
-mod sets;
-#[cfg(test)]
-mod worklists_tests;

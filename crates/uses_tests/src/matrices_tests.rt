@@ -1,10 +1,9 @@
-//! The uses of `BitMatrix`.
-use crate::expect::{expect, ok, ok_as_said};
-use crate::sets::{has_members, set_of};
+//! The uses of `BitMatrix` and of `BitVec`.
+use crate::expect::{Test, expect, expect_eq, has_members, ok, ok_as_said, set_of};
 use bit_matrix::BitMatrix;
 use bit_set::BitSet;
-use std::alloc::Global;
-use std::process::Abort;
+use bit_words::bit_vec::BitVec;
+use uses::bits::{mark, push_true};
 use uses::matrices::{image, is_symmetric, remove_column, row_is};
 
 #[test]
@@ -15,8 +14,8 @@ fn a_column_leaves_each_row(rt: HostRuntime) {
     expect(&rt, matrix.iter(1).eq([0, 1, 2, 4]));
 }
 
-fn images(rt: &impl Abort, alloc: Global, matrix: &BitMatrix<u8>, from: &BitSet<u8>) -> BitSet<u8> {
-    ok(rt, image(alloc, matrix, from))
+fn images(rt: &impl Test, matrix: &BitMatrix<u8>, from: &BitSet<u8>) -> BitSet<u8> {
+    ok(rt, image(rt.alloc(), matrix, from))
 }
 
 #[test]
@@ -24,8 +23,8 @@ fn pairs_are_a_relation(rt: HostRuntime) {
     let mut matrix: BitMatrix<u8> = ok_as_said(&rt, BitMatrix::new_general(rt.alloc(), 3, 3));
     matrix.insert(0, 2);
     expect(&rt, !is_symmetric(&matrix));
-    let from = set_of(&rt, rt.alloc(), &[0, 9]);
-    has_members(&rt, &images(&rt, rt.alloc(), &matrix, &from), &[2]);
+    let from = set_of(&rt, &[0, 9]);
+    has_members(&rt, &images(&rt, &matrix, &from), &[2]);
 }
 
 #[test]
@@ -34,5 +33,14 @@ fn pairs_lead_back(rt: HostRuntime) {
     matrix.insert(0, 1);
     matrix.insert(1, 0);
     expect(&rt, is_symmetric(&matrix));
-    expect(&rt, row_is(&matrix, 0, &set_of(&rt, rt.alloc(), &[1])));
+    expect(&rt, row_is(&matrix, 0, &set_of(&rt, &[1])));
+}
+
+#[test]
+fn bits_are_appended_and_marked(rt: HostRuntime) {
+    let mut bits: BitVec<u8> = ok_as_said(&rt, BitVec::from_elem_general(rt.alloc(), 8, false));
+    ok_as_said(&rt, push_true(&mut bits));
+    let new = [mark(&mut bits, 3), mark(&mut bits, 3)];
+    expect_eq(&rt, &new, &[true, false]);
+    expect_eq(&rt, &bits.storage(), &[8, 1].as_slice());
 }

@@ -1,6 +1,5 @@
 //! The uses of `src/lib.rt`.
-use crate::expect::{expect_eq, ok, ok_as_said};
-use crate::sets::{has_members, set_of};
+use crate::expect::{expect_eq, has_members, ok, ok_as_said, set_of};
 use bit_set::BitSet;
 use std::collections::BTreeMap;
 use uses::chains::copy_over;
@@ -15,14 +14,14 @@ fn sets_are_made(rt: HostRuntime) {
 
 #[test]
 fn members_are_listed(rt: HostRuntime) {
-    let set = set_of::<u8>(&rt, rt.alloc(), EVENS);
+    let set = set_of::<u8>(&rt, EVENS);
     let members = ok(&rt, members(rt.alloc(), &set));
     expect_eq(&rt, &members.as_slice(), &EVENS);
 }
 
 #[test]
 fn members_are_exchanged(rt: HostRuntime) {
-    let mut set = set_of::<u16>(&rt, rt.alloc(), &[2, 4]);
+    let mut set = set_of::<u16>(&rt, &[2, 4]);
     ok(&rt, exchange(&mut set, 300, 2));
     has_members(&rt, &set, &[4, 300]);
 }
@@ -38,7 +37,7 @@ fn a_member_comes_and_goes(rt: HostRuntime) {
 
 #[test]
 fn a_set_is_a_key(rt: HostRuntime) {
-    let mut longer = set_of::<u8>(&rt, rt.alloc(), &[0, 2, 900]);
+    let mut longer = set_of::<u8>(&rt, &[0, 2, 900]);
     longer.remove(900);
     let shorter = ok_as_said(&rt, copy_over::<u8, u8>(rt.alloc(), &longer));
     lists_of_members(&shorter, &longer);
