@@ -2,17 +2,13 @@
 use crate::inputs::Random;
 use crate::peers::{Set, total};
 use crate::table::{Table, Work};
+use crate::user_calls::*;
 use bit_set::BitSet;
 use bit_vec::BitBlock;
 use fixedbitset::FixedBitSet;
 use std::collections::BTreeMap;
 
 type OnAutomaton = unsafe extern "C" fn(states: usize, each: usize, *const usize, usize, turns: usize) -> usize;
-
-unsafe extern "C" {
-    fn bench_determinize_u32(states: usize, each: usize, ends: *const usize, n: usize, turns: usize) -> usize;
-    fn bench_determinize_u64(states: usize, each: usize, ends: *const usize, n: usize, turns: usize) -> usize;
-}
 
 /// Sets in the order in which they were found, and the number of each.
 struct Numbering<S> {

@@ -1,19 +1,11 @@
 //! Rows of the calls that grow, fill or shrink a set or a bit vector, or make a set from bytes.
+use crate::calls::*;
 use crate::peers::{Set, total};
 use crate::table::{Table, Work};
 use bit_set::BitSet;
 use bit_vec::BitVec;
 use fixedbitset::FixedBitSet;
 use std::hint::black_box;
-
-unsafe extern "C" {
-    fn bench_insert_in_order(len: usize, turns: usize) -> usize;
-    fn bench_from_bytes(bytes: *const u8, n: usize, turns: usize) -> usize;
-    fn bench_fill(len: usize, turns: usize) -> usize;
-    fn bench_grow(values: u8, turns: u32) -> usize;
-    fn bench_reserve_len(turns: usize) -> usize;
-    fn bench_shrink_to_fit(number: usize, turns: usize) -> usize;
-}
 
 const LEN: usize = 1 << 20;
 

@@ -3,16 +3,12 @@ use crate::inputs::Random;
 use crate::peers::{Flow, total};
 use crate::sparse_peers::SparseBits;
 use crate::table::{Side, Table, Work};
+use crate::user_calls::*;
 use bit_set::BitSet;
 use bit_vec::BitBlock;
 use fixedbitset::FixedBitSet;
 
 type OnBlocks = unsafe extern "C" fn(variables: usize, *const usize, usize, turns: usize) -> usize;
-
-unsafe extern "C" {
-    fn bench_live_variables_u32(variables: usize, numbers: *const usize, n: usize, turns: usize) -> usize;
-    fn bench_live_variables_u64(variables: usize, numbers: *const usize, n: usize, turns: usize) -> usize;
-}
 
 /// How many successors a block has, and how many variables are in each of its sets.
 const SUCCESSORS: usize = 2;

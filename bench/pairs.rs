@@ -1,5 +1,6 @@
 //! Rows of the calls on two sets. One number is removed after each turn, so that no turn can reuse the result of
 //! another.
+use crate::calls::*;
 use crate::inputs::Density;
 use crate::peers::{Set, sum, total};
 use crate::table::{Table, Work};
@@ -10,30 +11,6 @@ use fixedbitset::FixedBitSet;
 type Numbers = *const usize;
 
 type OnPair = unsafe extern "C" fn(Numbers, usize, Numbers, usize, turns: usize) -> usize;
-
-unsafe extern "C" {
-    fn bench_walk_union(a: Numbers, m: usize, b: Numbers, n: usize, turns: usize) -> usize;
-    fn bench_walk_intersection(a: Numbers, m: usize, b: Numbers, n: usize, turns: usize) -> usize;
-    fn bench_walk_difference(a: Numbers, m: usize, b: Numbers, n: usize, turns: usize) -> usize;
-    fn bench_walk_symmetric_difference(a: Numbers, m: usize, b: Numbers, n: usize, turns: usize) -> usize;
-    fn bench_count_union(a: Numbers, m: usize, b: Numbers, n: usize, turns: usize) -> usize;
-    fn bench_count_intersection(a: Numbers, m: usize, b: Numbers, n: usize, turns: usize) -> usize;
-    fn bench_count_difference(a: Numbers, m: usize, b: Numbers, n: usize, turns: usize) -> usize;
-    fn bench_count_symmetric_difference(a: Numbers, m: usize, b: Numbers, n: usize, turns: usize) -> usize;
-    fn bench_merge_union(a: Numbers, m: usize, b: Numbers, n: usize, turns: usize) -> usize;
-    fn bench_merge_intersection(a: Numbers, m: usize, b: Numbers, n: usize, turns: usize) -> usize;
-    fn bench_merge_difference(a: Numbers, m: usize, b: Numbers, n: usize, turns: usize) -> usize;
-    fn bench_merge_symmetric_difference(a: Numbers, m: usize, b: Numbers, n: usize, turns: usize) -> usize;
-    fn bench_change_union(a: Numbers, m: usize, b: Numbers, n: usize, turns: usize) -> usize;
-    fn bench_change_intersection(a: Numbers, m: usize, b: Numbers, n: usize, turns: usize) -> usize;
-    fn bench_change_difference(a: Numbers, m: usize, b: Numbers, n: usize, turns: usize) -> usize;
-    fn bench_change_symmetric_difference(a: Numbers, m: usize, b: Numbers, n: usize, turns: usize) -> usize;
-    fn bench_change_by_difference(a: Numbers, m: usize, b: Numbers, n: usize, turns: usize) -> usize;
-    fn bench_append(a: Numbers, m: usize, b: Numbers, n: usize, turns: usize) -> usize;
-    fn bench_split_off(members: Numbers, m: usize, turns: usize) -> usize;
-    fn bench_is_disjoint(a: Numbers, m: usize, b: Numbers, n: usize, turns: usize) -> usize;
-    fn bench_is_subset(a: Numbers, m: usize, b: Numbers, n: usize, turns: usize) -> usize;
-}
 
 /// One of this library's calls on two sets.
 struct Here {

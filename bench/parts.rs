@@ -1,6 +1,7 @@
 //! Rows of calls on a part of a set, on its absent numbers and on its bytes, and of sets made from numbers. One number
 //! is removed after each turn, so that no turn can reuse the result of another. For a call that a peer lacks, its side
 //! is what its user would write.
+use crate::calls::*;
 use crate::inputs::Density;
 use crate::peers::{Set, sum, total};
 use crate::table::{Table, Work};
@@ -8,15 +9,6 @@ use bit_set::BitSet;
 use fixedbitset::FixedBitSet;
 use std::hint::black_box;
 use std::ops::Range;
-
-unsafe extern "C" {
-    fn bench_range(members: *const usize, m: usize, start: usize, end: usize, turns: usize) -> usize;
-    fn bench_missing(members: *const usize, m: usize, start: usize, end: usize, turns: usize) -> usize;
-    fn bench_retain(members: *const usize, m: usize, turns: usize) -> usize;
-    fn bench_to_bytes(members: *const usize, m: usize, turns: usize) -> usize;
-    fn bench_from_iter(numbers: *const usize, n: usize, turns: usize) -> usize;
-    fn bench_with_capacity(len: usize, numbers: *const usize, n: usize, turns: usize) -> usize;
-}
 
 fn walk_range<S: Set>(mut set: S, part: &Range<usize>, turns: usize) -> usize {
     total(turns, |turn| {
@@ -53,7 +45,7 @@ fn rows_of_parts(table: &mut Table, density: &Density) {
     let within = set().iter().filter(|number| part.contains(number)).count();
     let work = |unit, units| Work { unit, units, turns: 4, numbers: &[] };
     table.row(&format!("walk of a quarter by `range`, {label}"), work("item", within), &[
-        &|_, turns| unsafe { bench_range(ms, m, part.start, part.end, turns) },
+        &|_, turns| unsafe { bench_range_of(ms, m, part.start, part.end, turns) },
         &|_, turns| walk_range(set(), &part, turns),
         &|_, turns| walk_range(fixed(), &part, turns),
     ]);

@@ -14,6 +14,7 @@
 //! no such table.
 mod automata;
 mod callgrind;
+mod calls;
 #[path = "../diff/roaring/croaring.rs"]
 mod croaring;
 mod growing;
@@ -31,6 +32,7 @@ mod sparse;
 mod sparse_peers;
 mod sparse_sets;
 mod table;
+mod user_calls;
 mod users;
 mod whole;
 mod widths;

@@ -2,6 +2,7 @@
 //! numbers, each beside another way to the same result: removing the least element until none is left, iteration from
 //! the back, iteration over a row of a matrix, and `nth`.
 use crate::callgrind;
+use crate::calls::*;
 use crate::inputs::Random;
 use crate::peers::total;
 use fixedbitset::FixedBitSet;
@@ -11,17 +12,7 @@ type OnRange = unsafe extern "C" fn(len: usize, start: usize, end: usize, turns:
 type OnSet = unsafe extern "C" fn(members: *const usize, m: usize, turns: usize) -> usize;
 
 unsafe extern "C" {
-    fn bench_insert_range(len: usize, start: usize, end: usize, turns: usize) -> usize;
-    fn bench_remove_range(len: usize, start: usize, end: usize, turns: usize) -> usize;
-    fn bench_toggle_range(len: usize, start: usize, end: usize, turns: usize) -> usize;
-    fn bench_count_in_range(len: usize, start: usize, end: usize, turns: usize) -> usize;
-    fn bench_pop_first(members: *const usize, m: usize, turns: usize) -> usize;
-    fn bench_walk_and_remove(members: *const usize, m: usize, turns: usize) -> usize;
-    fn bench_walk_u64(members: *const usize, m: usize, turns: usize) -> usize;
     fn bench_walk_row(members: *const usize, m: usize, turns: usize) -> usize;
-    fn bench_walk_back(members: *const usize, m: usize, turns: usize) -> usize;
-    fn bench_nth_of_middle(members: *const usize, m: usize, turns: usize) -> usize;
-    fn bench_walk_to_middle(members: *const usize, m: usize, turns: usize) -> usize;
 }
 
 /// The length of the sets, and where the ranges begin: within a block.

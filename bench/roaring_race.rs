@@ -2,6 +2,7 @@
 //! repository's sets of bits and beside `BTreeSet`, over five inputs; and prints how many bytes each holds. Ends with
 //! status 1 if two sides give different results.
 #[path = "../diff/roaring/croaring.rs"]
+mod calls;
 mod croaring;
 mod inputs;
 mod memory;

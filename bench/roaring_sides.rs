@@ -143,14 +143,9 @@ pub fn bytes_held(input: &Input) -> [Option<usize>; 5] {
 /// This library's sets of bits.
 mod bits {
     use super::{BoxedSide, Input, black_box, memory};
+    use crate::calls::*;
 
     type Numbers = *const usize;
-
-    unsafe extern "C" {
-        fn bench_contains_u64(a: Numbers, m: usize, b: Numbers, n: usize, turns: usize) -> usize;
-        fn bench_insert_with_capacity_u64(len: usize, numbers: Numbers, n: usize, turns: usize) -> usize;
-        fn bench_sparse(work: usize, len: usize, a: Numbers, m: usize, b: Numbers, n: usize, turns: usize) -> usize;
-    }
 
     fn wide(numbers: &[u32]) -> Vec<usize> {
         numbers.iter().map(|number| *number as usize).collect()

@@ -1,37 +1,19 @@
 //! Counts the instructions of work of some size and of four times that size, and prints a table. Work that takes linear
 //! time takes four times as many, or fewer because of each call's constant part.
 use crate::callgrind;
+use crate::calls::*;
 use crate::inputs::Random;
 use crate::live_variables::random_numbers;
+use crate::user_calls::*;
 use std::io;
 
 /// A pointer to numbers; their count is the next argument.
 type Numbers = *const usize;
 
 unsafe extern "C" {
-    fn bench_insert_below_u32(len: usize, numbers: Numbers, n: usize, turns: usize) -> usize;
-    fn bench_insert_in_order(len: usize, turns: usize) -> usize;
-    fn bench_remove_u32(members: Numbers, m: usize, numbers: Numbers, n: usize, turns: usize) -> usize;
-    fn bench_contains_u32(members: Numbers, m: usize, numbers: Numbers, n: usize, turns: usize) -> usize;
-    fn bench_walk(members: Numbers, m: usize, turns: usize) -> usize;
-    fn bench_count(members: Numbers, m: usize, turns: usize) -> usize;
-    fn bench_clone(members: Numbers, m: usize, turns: usize) -> usize;
-    fn bench_eq(members: Numbers, m: usize, turns: usize) -> usize;
-    fn bench_cmp(members: Numbers, m: usize, turns: usize) -> usize;
-    fn bench_merge_union(first: Numbers, m: usize, second: Numbers, n: usize, turns: usize) -> usize;
-    fn bench_walk_union(first: Numbers, m: usize, second: Numbers, n: usize, turns: usize) -> usize;
-    fn bench_count_union(first: Numbers, m: usize, second: Numbers, n: usize, turns: usize) -> usize;
-    fn bench_is_subset(first: Numbers, m: usize, second: Numbers, n: usize, turns: usize) -> usize;
-    fn bench_append(first: Numbers, m: usize, second: Numbers, n: usize, turns: usize) -> usize;
-    fn bench_split_off(members: Numbers, m: usize, turns: usize) -> usize;
     fn bench_with_slots(len: usize, turns: usize) -> usize;
     fn bench_take_each(len: usize, turns: usize) -> usize;
     fn bench_take_each_onward(len: usize, turns: usize) -> usize;
-    fn bench_slots_u32(len: usize, taken: usize, given: Numbers, n: usize, turns: usize) -> usize;
-    fn bench_reachable_u32(nodes: usize, each: usize, ends: Numbers, n: usize, turns: usize) -> usize;
-    fn bench_close_u32(nodes: usize, each: usize, ends: Numbers, n: usize, turns: usize) -> usize;
-    fn bench_live_variables_u32(variables: usize, numbers: Numbers, n: usize, turns: usize) -> usize;
-    fn bench_determinize_u32(states: usize, each: usize, ends: Numbers, n: usize, turns: usize) -> usize;
     fn bench_accepts(states: usize, ends: Numbers, m: usize, word: Numbers, n: usize, turns: usize) -> usize;
     fn bench_equivalent(states: usize, ends: Numbers, n: usize, turns: usize) -> usize;
 }

@@ -1,4 +1,5 @@
 //! Rows of the calls on one number.
+use crate::calls::*;
 use crate::inputs::Density;
 use crate::peers::{Set, total};
 use crate::table::{Table, Work};
@@ -9,17 +10,6 @@ use std::hint::black_box;
 
 type OnNumbers = unsafe extern "C" fn(len: usize, *const usize, usize, turns: usize) -> usize;
 type OnMembers = unsafe extern "C" fn(*const usize, usize, *const usize, usize, turns: usize) -> usize;
-
-unsafe extern "C" {
-    fn bench_insert_with_capacity_u32(len: usize, numbers: *const usize, n: usize, turns: usize) -> usize;
-    fn bench_insert_with_capacity_u64(len: usize, numbers: *const usize, n: usize, turns: usize) -> usize;
-    fn bench_insert_below_u32(len: usize, numbers: *const usize, n: usize, turns: usize) -> usize;
-    fn bench_insert_below_u64(len: usize, numbers: *const usize, n: usize, turns: usize) -> usize;
-    fn bench_remove_u32(members: *const usize, m: usize, numbers: *const usize, n: usize, turns: usize) -> usize;
-    fn bench_remove_u64(members: *const usize, m: usize, numbers: *const usize, n: usize, turns: usize) -> usize;
-    fn bench_contains_u32(members: *const usize, m: usize, numbers: *const usize, n: usize, turns: usize) -> usize;
-    fn bench_contains_u64(members: *const usize, m: usize, numbers: *const usize, n: usize, turns: usize) -> usize;
-}
 
 /// This library's side, over blocks of one type.
 struct Calls {

@@ -1,6 +1,7 @@
 //! Calls on sets of a few blocks, for counts of their instructions.
 //!
 //! Turns alternate between two equal sets, so that no turn can reuse the result of another.
+use crate::calls::*;
 use crate::inputs::Random;
 use crate::peers::{Set, sum, total};
 use bit_set::BitSet;
@@ -13,45 +14,7 @@ type Numbers = *const usize;
 type OnSmall = unsafe extern "C" fn(len: usize, Numbers, usize, Numbers, usize, turns: usize) -> usize;
 
 unsafe extern "C" {
-    fn bench_small_union_with(len: usize, a: Numbers, m: usize, b: Numbers, n: usize, turns: usize) -> usize;
-    fn bench_small_intersect_with(len: usize, a: Numbers, m: usize, b: Numbers, n: usize, turns: usize) -> usize;
-    fn bench_small_difference_with(len: usize, a: Numbers, m: usize, b: Numbers, n: usize, turns: usize) -> usize;
-    fn bench_small_symmetric_difference_with(
-        len: usize,
-        a: Numbers,
-        m: usize,
-        b: Numbers,
-        n: usize,
-        turns: usize,
-    ) -> usize;
-    fn bench_small_union_changes(len: usize, a: Numbers, m: usize, b: Numbers, n: usize, turns: usize) -> usize;
-    fn bench_small_intersection_changes(len: usize, a: Numbers, m: usize, b: Numbers, n: usize, turns: usize) -> usize;
-    fn bench_small_difference_changes(len: usize, a: Numbers, m: usize, b: Numbers, n: usize, turns: usize) -> usize;
-    fn bench_small_symmetric_difference_changes(
-        len: usize,
-        a: Numbers,
-        m: usize,
-        b: Numbers,
-        n: usize,
-        turns: usize,
-    ) -> usize;
     fn bench_small_union_rows(len: usize, a: Numbers, m: usize, b: Numbers, n: usize, turns: usize) -> usize;
-    fn bench_small_union_with_difference(len: usize, a: Numbers, m: usize, b: Numbers, n: usize, turns: usize) -> usize;
-    fn bench_small_difference_of_a_copy(len: usize, a: Numbers, m: usize, b: Numbers, n: usize, turns: usize) -> usize;
-    fn bench_small_clone(len: usize, a: Numbers, m: usize, b: Numbers, n: usize, turns: usize) -> usize;
-    fn bench_small_clone_from(len: usize, a: Numbers, m: usize, b: Numbers, n: usize, turns: usize) -> usize;
-    fn bench_small_with_capacity(len: usize, a: Numbers, m: usize, b: Numbers, n: usize, turns: usize) -> usize;
-    fn bench_small_make_empty(len: usize, a: Numbers, m: usize, b: Numbers, n: usize, turns: usize) -> usize;
-    fn bench_small_eq(len: usize, a: Numbers, m: usize, b: Numbers, n: usize, turns: usize) -> usize;
-    fn bench_small_cmp(len: usize, a: Numbers, m: usize, b: Numbers, n: usize, turns: usize) -> usize;
-    fn bench_small_is_subset(len: usize, a: Numbers, m: usize, b: Numbers, n: usize, turns: usize) -> usize;
-    fn bench_small_is_disjoint(len: usize, a: Numbers, m: usize, b: Numbers, n: usize, turns: usize) -> usize;
-    fn bench_small_count(len: usize, a: Numbers, m: usize, b: Numbers, n: usize, turns: usize) -> usize;
-    fn bench_small_walk(len: usize, a: Numbers, m: usize, b: Numbers, n: usize, turns: usize) -> usize;
-    fn bench_small_insert(len: usize, a: Numbers, m: usize, b: Numbers, n: usize, turns: usize) -> usize;
-    fn bench_small_insert_and_remove(len: usize, a: Numbers, m: usize, b: Numbers, n: usize, turns: usize) -> usize;
-    fn bench_small_remove(len: usize, a: Numbers, m: usize, b: Numbers, n: usize, turns: usize) -> usize;
-    fn bench_small_contains(len: usize, a: Numbers, m: usize, b: Numbers, n: usize, turns: usize) -> usize;
 }
 
 /// Numbers below `len`: twice an eighth of it at random, and each time also the last.

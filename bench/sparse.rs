@@ -1,4 +1,5 @@
 //! Rows of the calls on a set whose two numbers are far apart.
+use crate::calls::*;
 use crate::peers::{Set, total};
 use crate::table::{Table, Work};
 use crate::whole::{count, walk};
@@ -9,17 +10,6 @@ use std::hint::black_box;
 
 type OnWhole = unsafe extern "C" fn(*const usize, usize, turns: usize) -> usize;
 type OnFar = unsafe extern "C" fn(number: usize, shrinks: usize, turns: usize) -> usize;
-
-unsafe extern "C" {
-    fn bench_walk(members: *const usize, m: usize, turns: usize) -> usize;
-    fn bench_walk_u64(members: *const usize, m: usize, turns: usize) -> usize;
-    fn bench_count(members: *const usize, m: usize, turns: usize) -> usize;
-    fn bench_count_u64(members: *const usize, m: usize, turns: usize) -> usize;
-    fn bench_is_empty_u32(members: *const usize, m: usize, turns: usize) -> usize;
-    fn bench_is_empty_u64(members: *const usize, m: usize, turns: usize) -> usize;
-    fn bench_shrink_emptied_u32(number: usize, shrinks: usize, turns: usize) -> usize;
-    fn bench_shrink_emptied_u64(number: usize, shrinks: usize, turns: usize) -> usize;
-}
 
 /// This library's side, over blocks of one type.
 struct Calls {

@@ -1,5 +1,6 @@
 //! Rows of sets of few numbers in a wide range, of runs, and of half of all numbers, beside sets that take memory by
 //! their members. Turns alternate between two equal sets, so that none can reuse the result of another.
+use crate::calls::*;
 use crate::croaring::Merge;
 use crate::inputs::{Random, overlapping};
 use crate::live_variables;
@@ -8,18 +9,6 @@ use crate::sparse_peers::{Peer, Roaring, SparseBits, open_croaring};
 use crate::table::{Side, Table, Work};
 use fixedbitset::FixedBitSet;
 use std::collections::BTreeSet;
-
-unsafe extern "C" {
-    fn bench_sparse(
-        work: usize,
-        len: usize,
-        first: *const usize,
-        m: usize,
-        second: *const usize,
-        n: usize,
-        turns: usize,
-    ) -> usize;
-}
 
 /// The work of each turn, in the order of `crates/bench_calls/src/sparse.rt`.
 #[derive(Clone, Copy)]

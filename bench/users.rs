@@ -5,23 +5,13 @@ use crate::inputs::Density;
 use crate::live_variables;
 use crate::peers::{Set, total};
 use crate::table::{Table, Work};
+use crate::user_calls::*;
 use bit_set::BitSet;
 use bit_vec::BitBlock;
 use fixedbitset::FixedBitSet;
 
 type OnSlots = unsafe extern "C" fn(len: usize, taken: usize, *const usize, usize, turns: usize) -> usize;
 type OnGraph = unsafe extern "C" fn(nodes: usize, each: usize, *const usize, usize, turns: usize) -> usize;
-
-unsafe extern "C" {
-    fn bench_slots_u32(len: usize, taken: usize, given: *const usize, n: usize, turns: usize) -> usize;
-    fn bench_slots_u64(len: usize, taken: usize, given: *const usize, n: usize, turns: usize) -> usize;
-    fn bench_reachable_u32(nodes: usize, each: usize, ends: *const usize, n: usize, turns: usize) -> usize;
-    fn bench_reachable_u64(nodes: usize, each: usize, ends: *const usize, n: usize, turns: usize) -> usize;
-    fn bench_close_u32(nodes: usize, each: usize, ends: *const usize, n: usize, turns: usize) -> usize;
-    fn bench_close_u64(nodes: usize, each: usize, ends: *const usize, n: usize, turns: usize) -> usize;
-    fn bench_close_matrix_u32(nodes: usize, each: usize, ends: *const usize, n: usize, turns: usize) -> usize;
-    fn bench_close_matrix_u64(nodes: usize, each: usize, ends: *const usize, n: usize, turns: usize) -> usize;
-}
 
 /// Adds up the lowest free slots that are taken after each of these slots is given back.
 fn slots<S: Set>(len: usize, taken: usize, given: &[usize], turns: usize) -> usize {

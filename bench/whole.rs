@@ -1,19 +1,12 @@
 //! Rows of the calls on a whole set. One number is removed after each turn, so that no turn can reuse the result of
 //! another.
+use crate::calls::*;
 use crate::inputs::Density;
 use crate::peers::{Set, sum, total};
 use crate::table::{Table, Work};
 use bit_set::BitSet;
 use fixedbitset::FixedBitSet;
 use std::hint::black_box;
-
-unsafe extern "C" {
-    fn bench_walk(members: *const usize, m: usize, turns: usize) -> usize;
-    fn bench_count(members: *const usize, m: usize, turns: usize) -> usize;
-    fn bench_clone(members: *const usize, m: usize, turns: usize) -> usize;
-    fn bench_eq(members: *const usize, m: usize, turns: usize) -> usize;
-    fn bench_cmp(members: *const usize, m: usize, turns: usize) -> usize;
-}
 
 pub fn walk<S: Set>(mut set: S, turns: usize) -> usize {
     total(turns, |turn| {

@@ -1,4 +1,5 @@
 //! Times this library over blocks of 32, 64 and 128 bits, and prints a table.
+use crate::calls::*;
 use crate::inputs::Density;
 use crate::peers::Set;
 use crate::table::{Table, Work};
@@ -6,29 +7,6 @@ use bit_set::BitSet;
 
 /// A pointer to numbers; their count is the next argument.
 type Numbers = *const usize;
-
-unsafe extern "C" {
-    fn bench_insert_in_order_at_width(bits: usize, len: usize, turns: usize) -> usize;
-    fn bench_insert_below_at_width(bits: usize, len: usize, numbers: Numbers, n: usize, turns: usize) -> usize;
-    fn bench_remove_at_width(bits: usize, a: Numbers, m: usize, b: Numbers, n: usize, turns: usize) -> usize;
-    fn bench_contains_at_width(bits: usize, a: Numbers, m: usize, b: Numbers, n: usize, turns: usize) -> usize;
-    fn bench_walk_at_width(bits: usize, members: Numbers, m: usize, turns: usize) -> usize;
-    fn bench_count_at_width(bits: usize, members: Numbers, m: usize, turns: usize) -> usize;
-    fn bench_clone_at_width(bits: usize, members: Numbers, m: usize, turns: usize) -> usize;
-    fn bench_eq_at_width(bits: usize, members: Numbers, m: usize, turns: usize) -> usize;
-    fn bench_small_sets_at_width(bits: usize, numbers: Numbers, n: usize, turns: usize) -> usize;
-    fn bench_walk_union_at_width(bits: usize, a: Numbers, m: usize, b: Numbers, n: usize, turns: usize) -> usize;
-    fn bench_count_union_at_width(bits: usize, a: Numbers, m: usize, b: Numbers, n: usize, turns: usize) -> usize;
-    fn bench_merge_union_at_width(bits: usize, a: Numbers, m: usize, b: Numbers, n: usize, turns: usize) -> usize;
-    fn bench_merge_intersection_at_width(
-        bits: usize,
-        a: Numbers,
-        m: usize,
-        b: Numbers,
-        n: usize,
-        turns: usize,
-    ) -> usize;
-}
 
 const WIDTHS: [usize; 3] = [32, 64, 128];
 

@@ -1,8 +1,36 @@
 // Sets to work on.
+use crate::turns::sum_of_turns;
 use bit_set::{BitBlock, BitSet, SetError};
 use std::alloc::Global;
 
-// The set of the numbers, as long as `len` or longer.
+// What a call works on, of which some calls leave out a part, and how many turns it takes. Sets are as long as `len` or
+// longer.
+#[derive(Clone, Copy)]
+pub(crate) struct Input<'a> {
+    pub(crate) alloc: Global,
+    pub(crate) len: usize,
+    pub(crate) first: &'a [usize],
+    pub(crate) second: &'a [usize],
+    pub(crate) turns: usize,
+}
+
+// What all turns give, added up.
+pub(crate) type Sum = Result<usize, SetError>;
+
+impl Input<'_> {
+    // The set of the first numbers.
+    #[inline(always)]
+    pub(crate) fn one<B: BitBlock>(self) -> Result<BitSet<B>, SetError> {
+        set_of(self.alloc, self.len, self.first)
+    }
+
+    // The set of the second numbers.
+    #[inline(always)]
+    pub(crate) fn other<B: BitBlock>(self) -> Result<BitSet<B>, SetError> {
+        set_of(self.alloc, self.len, self.second)
+    }
+}
+
 pub(crate) fn set_of<B: BitBlock>(
     alloc: Global,
     len: usize,
@@ -15,7 +43,7 @@ pub(crate) fn set_of<B: BitBlock>(
     Ok(set)
 }
 
-// Two sets of the numbers, as long as `len` or longer.
+// Two sets of the numbers.
 pub(crate) fn two_of(
     alloc: Global,
     len: usize,
@@ -28,33 +56,23 @@ pub(crate) fn two_of(
     Ok(sets)
 }
 
-// Two sets of some numbers, and one of others.
+// Two sets of the first numbers, and one of the second.
 #[derive(Drop)]
 pub(crate) struct SetsAndOther {
     pub(crate) sets: Vec<BitSet<u32>>,
     pub(crate) other: BitSet<u32>,
 }
 
-pub(crate) fn two_and_other(
-    alloc: Global,
-    len: usize,
-    first: &[usize],
-    second: &[usize],
-) -> Result<SetsAndOther, SetError> {
-    let sets = two_of(alloc, len, first)?;
-    let other = set_of(alloc, len, second)?;
+pub(crate) fn two_and_other(input: Input<'_>) -> Result<SetsAndOther, SetError> {
+    let sets = two_of(input.alloc, input.len, input.first)?;
+    let other = input.other()?;
     Ok(SetsAndOther { sets, other })
 }
 
 // The set of the first numbers without the second.
-pub(crate) fn without(
-    alloc: Global,
-    len: usize,
-    first: &[usize],
-    second: &[usize],
-) -> Result<BitSet<u32>, SetError> {
-    let mut set = set_of(alloc, len, first)?;
-    for number in second {
+pub(crate) fn without(input: Input<'_>) -> Result<BitSet<u32>, SetError> {
+    let mut set = input.one()?;
+    for number in input.second {
         let _was = set.remove(*number);
     }
     Ok(set)
@@ -74,35 +92,15 @@ pub(crate) fn count_all(sets: &[BitSet<u32>]) -> usize {
     sum
 }
 
-pub(crate) fn copies<B: BitBlock>(
-    alloc: Global,
-    numbers: &[usize],
-    turns: usize,
-) -> Result<usize, SetError> {
-    let set = set_of::<B>(alloc, 0, numbers)?;
-    let mut found = 0usize;
-    for turn in 0..turns {
-        let copy = set.clone(alloc)?;
-        found = found.wrapping_add(usize::from(copy.contains(turn)));
-    }
-    Ok(found)
+pub(crate) fn copies<B: BitBlock>(input: Input<'_>) -> Sum {
+    let set = input.one::<B>()?;
+    Ok(sum_of_turns!(input.turns, |turn| {
+        usize::from(set.clone(input.alloc)?.contains(turn))
+    }))
 }
 
-#[unsafe(no_mangle)]
-pub extern "C" fn bench_clone(alloc: Global, numbers: &[usize], turns: usize) -> usize {
-    copies::<u32>(alloc, numbers, turns).unwrap_or(usize::MAX)
-}
-
-fn sets_of_bytes(alloc: Global, bytes: &[u8], turns: usize) -> Result<usize, SetError> {
-    let mut found = 0usize;
-    for turn in 0..turns {
-        let set = BitSet::from_bytes(alloc, bytes)?;
-        found = found.wrapping_add(usize::from(set.contains(turn)));
-    }
-    Ok(found)
-}
-
-#[unsafe(no_mangle)]
-pub extern "C" fn bench_from_bytes(alloc: Global, bytes: &[u8], turns: usize) -> usize {
-    sets_of_bytes(alloc, bytes, turns).unwrap_or(usize::MAX)
+pub(crate) fn sets_of_bytes(alloc: Global, bytes: &[u8], turns: usize) -> Sum {
+    Ok(sum_of_turns!(turns, |turn| {
+        usize::from(BitSet::from_bytes(alloc, bytes)?.contains(turn))
+    }))
 }

@@ -3,8 +3,8 @@
 //! memory runs out.
 #![tactic(auto)]
 
-mod capacity;
-mod filling;
+mod calls;
+mod growing;
 mod input_sets;
 mod inserting;
 mod parts;
@@ -14,7 +14,5 @@ mod small_changes;
 mod small_merges;
 mod small_reads;
 mod sparse;
-mod splits;
+mod turns;
 mod two_sets;
-mod walking;
-mod widths;

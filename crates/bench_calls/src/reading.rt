@@ -1,46 +1,22 @@
-// Sets that are read.
-use crate::input_sets::set_of;
-use bit_set::{BitBlock, BitSet, SetError};
+// Sets that are read. One number leaves after each turn, so that no turn can be the result of another.
+use crate::input_sets::{Input, Sum};
+use crate::turns::sum_of_turns;
+use bit_set::{BitBlock, BitSet};
 use std::alloc::Global;
 
-pub(crate) fn contains<B: BitBlock>(
-    alloc: Global,
-    members: &[usize],
-    numbers: &[usize],
-    turns: usize,
-) -> Result<usize, SetError> {
-    let set = set_of::<B>(alloc, 0, members)?;
+pub(crate) fn contains<B: BitBlock>(input: Input<'_>) -> Sum {
+    let set = input.one::<B>()?;
     let mut found = 0usize;
-    for _ in 0..turns {
-        for number in numbers {
+    for _ in 0..input.turns {
+        for number in input.second {
             found = found.wrapping_add(usize::from(set.contains(*number)));
         }
     }
     Ok(found)
 }
 
-#[unsafe(no_mangle)]
-pub extern "C" fn bench_contains_u32(
-    alloc: Global,
-    members: &[usize],
-    numbers: &[usize],
-    turns: usize,
-) -> usize {
-    contains::<u32>(alloc, members, numbers, turns).unwrap_or(usize::MAX)
-}
-
-#[unsafe(no_mangle)]
-pub extern "C" fn bench_contains_u64(
-    alloc: Global,
-    members: &[usize],
-    numbers: &[usize],
-    turns: usize,
-) -> usize {
-    contains::<u64>(alloc, members, numbers, turns).unwrap_or(usize::MAX)
-}
-
 #[inline(always)]
-pub(crate) fn sum_of_set<B: BitBlock>(set: &BitSet<B>) -> usize {
+fn sum_of_set<B: BitBlock>(set: &BitSet<B>) -> usize {
     let mut sum = 0usize;
     for item in set {
         sum = sum.wrapping_add(item);
@@ -48,79 +24,90 @@ pub(crate) fn sum_of_set<B: BitBlock>(set: &BitSet<B>) -> usize {
     sum
 }
 
-// One number leaves after each turn, so that no turn can be the result of another.
-pub(crate) fn walk<B: BitBlock>(
-    alloc: Global,
-    members: &[usize],
-    turns: usize,
-) -> Result<usize, SetError> {
-    let mut set = set_of::<B>(alloc, 0, members)?;
+fn sum_from_the_back(set: &BitSet<u64>) -> usize {
     let mut sum = 0usize;
-    for turn in 0..turns {
-        sum = sum.wrapping_add(sum_of_set(&set));
-        let _was = set.remove(turn);
+    for item in set.iter().rev() {
+        sum = sum.wrapping_add(item);
     }
-    Ok(sum)
+    sum
 }
 
-#[unsafe(no_mangle)]
-pub extern "C" fn bench_walk(alloc: Global, members: &[usize], turns: usize) -> usize {
-    walk::<u32>(alloc, members, turns).unwrap_or(usize::MAX)
-}
-
-#[unsafe(no_mangle)]
-pub extern "C" fn bench_walk_u64(alloc: Global, members: &[usize], turns: usize) -> usize {
-    walk::<u64>(alloc, members, turns).unwrap_or(usize::MAX)
-}
-
-pub(crate) fn count<B: BitBlock>(
-    alloc: Global,
-    members: &[usize],
-    turns: usize,
-) -> Result<usize, SetError> {
-    let mut set = set_of::<B>(alloc, 0, members)?;
-    let mut sum = 0usize;
-    for turn in 0..turns {
-        sum = sum.wrapping_add(set.count());
-        let _was = set.remove(turn);
+// The element that half of the members come before, by a walk to there.
+fn walk_to(set: &BitSet<u64>, n: usize) -> Option<usize> {
+    let mut walk = set.iter();
+    for _ in 0..n {
+        walk.next()?;
     }
-    Ok(sum)
+    walk.next()
 }
 
-#[unsafe(no_mangle)]
-pub extern "C" fn bench_count(alloc: Global, members: &[usize], turns: usize) -> usize {
-    count::<u32>(alloc, members, turns).unwrap_or(usize::MAX)
+// What each turn reads in a set, of which a number leaves then.
+macro_rules! reads {
+    ($set:ident, $turns:expr, $number:expr) => {
+        Ok(sum_of_turns!($turns, |turn| {
+            let number = $number;
+            let _was = $set.remove(turn);
+            number
+        }))
+    };
 }
 
-#[unsafe(no_mangle)]
-pub extern "C" fn bench_count_u64(alloc: Global, members: &[usize], turns: usize) -> usize {
-    count::<u64>(alloc, members, turns).unwrap_or(usize::MAX)
+pub(crate) fn walk<B: BitBlock>(input: Input<'_>) -> Sum {
+    let mut set = input.one::<B>()?;
+    reads!(set, input.turns, sum_of_set(&set))
+}
+
+pub(crate) fn count<B: BitBlock>(input: Input<'_>) -> Sum {
+    let mut set = input.one::<B>()?;
+    reads!(set, input.turns, set.count())
 }
 
 // Asks a set whether it is empty that has these numbers no more.
-fn is_empty<B: BitBlock>(
-    alloc: Global,
-    members: &[usize],
-    turns: usize,
-) -> Result<usize, SetError> {
-    let mut set = set_of::<B>(alloc, 0, members)?;
-    for number in members {
+pub(crate) fn is_empty<B: BitBlock>(input: Input<'_>) -> Sum {
+    let mut set = input.one::<B>()?;
+    for number in input.first {
         let _was = set.remove(*number);
     }
-    let mut found = 0usize;
-    for turn in 0..turns {
-        found = found.wrapping_add(usize::from(set.is_empty()));
-        let _was = set.remove(turn);
+    reads!(set, input.turns, usize::from(set.is_empty()))
+}
+
+pub(crate) fn walk_back(input: Input<'_>) -> Sum {
+    let mut set = input.one::<u64>()?;
+    reads!(set, input.turns, sum_from_the_back(&set))
+}
+
+pub(crate) fn nth_by_walks(input: Input<'_>) -> Sum {
+    let mut set = input.one::<u64>()?;
+    reads!(
+        set,
+        input.turns,
+        walk_to(&set, input.first.len() / 2).unwrap_or(0)
+    )
+}
+
+pub(crate) fn nths(input: Input<'_>) -> Sum {
+    let mut set = input.one::<u64>()?;
+    reads!(
+        set,
+        input.turns,
+        set.iter().nth(input.first.len() / 2).unwrap_or(0)
+    )
+}
+
+// The sum of a set of the numbers, which is made, walked over and dropped.
+#[inline(always)]
+fn small_set<B: BitBlock>(alloc: Global, numbers: &[usize]) -> Sum {
+    let set = BitSet::<B>::from_iter(alloc, numbers.iter().copied())?;
+    Ok(sum_of_set(&set))
+}
+
+// A set of eight of the numbers after another.
+pub(crate) fn small_sets<B: BitBlock>(input: Input<'_>) -> Sum {
+    let mut sum = 0usize;
+    for _ in 0..input.turns {
+        for eight in input.first.chunks(8) {
+            sum = sum.wrapping_add(small_set::<B>(input.alloc, eight)?);
+        }
     }
-    Ok(found)
-}
-
-#[unsafe(no_mangle)]
-pub extern "C" fn bench_is_empty_u32(alloc: Global, members: &[usize], turns: usize) -> usize {
-    is_empty::<u32>(alloc, members, turns).unwrap_or(usize::MAX)
-}
-
-#[unsafe(no_mangle)]
-pub extern "C" fn bench_is_empty_u64(alloc: Global, members: &[usize], turns: usize) -> usize {
-    is_empty::<u64>(alloc, members, turns).unwrap_or(usize::MAX)
+    Ok(sum)
 }

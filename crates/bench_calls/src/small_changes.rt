@@ -1,32 +1,22 @@
 // Calls that change or make a set of a few blocks. Turns take one of two sets in turn, so that no turn can be the result
 // of another.
-use crate::input_sets::{count_all, number_at, set_of, two_and_other, two_of, without};
-use bit_set::{BitSet, SetError};
-use std::alloc::Global;
+use crate::input_sets::{Input, Sum, count_all, number_at, two_and_other, two_of, without};
+use crate::turns::sum_of_turns;
+use bit_set::BitSet;
 
-fn clone_turns(
-    alloc: Global,
-    len: usize,
-    numbers: &[usize],
-    turns: usize,
-) -> Result<usize, SetError> {
-    let sets = two_of(alloc, len, numbers)?;
-    let mut found = 0usize;
-    for turn in 0..turns {
-        if let Some(set) = sets.get(turn % 2) {
-            let copy = set.clone(alloc)?;
-            found = found.wrapping_add(usize::from(copy.contains(number_at(numbers, turn))));
-        }
-    }
-    Ok(found)
+pub(crate) fn clone_turns(input: Input<'_>) -> Sum {
+    let sets = two_of(input.alloc, input.len, input.first)?;
+    Ok(sum_of_turns!(input.turns, |turn| match sets.get(turn % 2) {
+        Some(set) => usize::from(
+            set.clone(input.alloc)?
+                .contains(number_at(input.first, turn))
+        ),
+        None => 0,
+    }))
 }
 
 #[inline(always)]
-fn clone_into_each(
-    sets: &mut [BitSet<u32>],
-    other: &BitSet<u32>,
-    turns: usize,
-) -> Result<usize, SetError> {
+fn clone_into_each(sets: &mut [BitSet<u32>], other: &BitSet<u32>, turns: usize) -> Sum {
     for turn in 0..turns {
         if let Some(set) = sets.get_mut(turn % 2) {
             set.clone_from(other)?;
@@ -35,39 +25,21 @@ fn clone_into_each(
     Ok(count_all(sets))
 }
 
-fn clone_from_turns(
-    alloc: Global,
-    len: usize,
-    first: &[usize],
-    second: &[usize],
-    turns: usize,
-) -> Result<usize, SetError> {
-    let mut made = two_and_other(alloc, len, first, second)?;
-    clone_into_each(made.sets.as_mut_slice(), &made.other, turns)
+pub(crate) fn clone_from_turns(input: Input<'_>) -> Sum {
+    let mut made = two_and_other(input)?;
+    clone_into_each(made.sets.as_mut_slice(), &made.other, input.turns)
 }
 
-fn with_capacity_turns(
-    alloc: Global,
-    len: usize,
-    numbers: &[usize],
-    turns: usize,
-) -> Result<usize, SetError> {
-    let mut new = 0usize;
-    for turn in 0..turns {
-        let mut set = BitSet::with_capacity(alloc, len)?;
-        new = new.wrapping_add(usize::from(set.insert(number_at(numbers, turn))?));
-    }
-    Ok(new)
+pub(crate) fn with_capacity_turns(input: Input<'_>) -> Sum {
+    Ok(sum_of_turns!(input.turns, |turn| {
+        let mut set = BitSet::with_capacity(input.alloc, input.len)?;
+        usize::from(set.insert(number_at(input.second, turn))?)
+    }))
 }
 
-fn make_empty_turns(
-    alloc: Global,
-    len: usize,
-    numbers: &[usize],
-    turns: usize,
-) -> Result<usize, SetError> {
-    let mut sets = two_of(alloc, len, numbers)?;
-    for turn in 0..turns {
+pub(crate) fn make_empty_turns(input: Input<'_>) -> Sum {
+    let mut sets = two_of(input.alloc, input.len, input.first)?;
+    for turn in 0..input.turns {
         if let Some(set) = sets.get_mut(turn % 2) {
             set.make_empty();
         }
@@ -76,127 +48,29 @@ fn make_empty_turns(
 }
 
 // Each turn a number goes in that is not in, and out again.
-fn insert_and_remove_turns(
-    alloc: Global,
-    len: usize,
-    first: &[usize],
-    second: &[usize],
-    turns: usize,
-) -> Result<usize, SetError> {
-    let mut set = without(alloc, len, first, second)?;
-    let mut changes = 0usize;
-    for turn in 0..turns {
-        let number = number_at(second, turn);
-        changes = changes.wrapping_add(usize::from(set.insert(number)?));
-        changes = changes.wrapping_add(usize::from(set.remove(number)));
-    }
-    Ok(changes)
+pub(crate) fn insert_and_remove_turns(input: Input<'_>) -> Sum {
+    let mut set = without(input)?;
+    Ok(sum_of_turns!(input.turns, |turn| {
+        let number = number_at(input.second, turn);
+        let is_new = set.insert(number)?;
+        usize::from(is_new) + usize::from(set.remove(number))
+    }))
 }
 
 // Each turn a number goes in that is in.
-fn insert_turns(
-    alloc: Global,
-    len: usize,
-    numbers: &[usize],
-    turns: usize,
-) -> Result<usize, SetError> {
-    let mut set = set_of::<u32>(alloc, len, numbers)?;
-    let mut new = 0usize;
-    for turn in 0..turns {
-        new = new.wrapping_add(usize::from(set.insert(number_at(numbers, turn))?));
-    }
-    Ok(new)
+pub(crate) fn insert_turns(input: Input<'_>) -> Sum {
+    let mut set = input.other::<u32>()?;
+    Ok(sum_of_turns!(
+        input.turns,
+        |turn| usize::from(set.insert(number_at(input.second, turn))?)
+    ))
 }
 
 // Each turn a number goes out that is not in.
-fn remove_turns(
-    alloc: Global,
-    len: usize,
-    first: &[usize],
-    second: &[usize],
-    turns: usize,
-) -> Result<usize, SetError> {
-    let mut set = without(alloc, len, first, second)?;
-    let mut were = 0usize;
-    for turn in 0..turns {
-        were = were.wrapping_add(usize::from(set.remove(number_at(second, turn))));
-    }
-    Ok(were)
-}
-
-#[unsafe(no_mangle)]
-pub extern "C" fn bench_small_clone(
-    alloc: Global,
-    len: usize,
-    first: &[usize],
-    second: &[usize],
-    turns: usize,
-) -> usize {
-    clone_turns(alloc, len, first, turns).unwrap_or(usize::MAX)
-}
-
-#[unsafe(no_mangle)]
-pub extern "C" fn bench_small_clone_from(
-    alloc: Global,
-    len: usize,
-    first: &[usize],
-    second: &[usize],
-    turns: usize,
-) -> usize {
-    clone_from_turns(alloc, len, first, second, turns).unwrap_or(usize::MAX)
-}
-
-#[unsafe(no_mangle)]
-pub extern "C" fn bench_small_with_capacity(
-    alloc: Global,
-    len: usize,
-    first: &[usize],
-    second: &[usize],
-    turns: usize,
-) -> usize {
-    with_capacity_turns(alloc, len, second, turns).unwrap_or(usize::MAX)
-}
-
-#[unsafe(no_mangle)]
-pub extern "C" fn bench_small_make_empty(
-    alloc: Global,
-    len: usize,
-    first: &[usize],
-    second: &[usize],
-    turns: usize,
-) -> usize {
-    make_empty_turns(alloc, len, first, turns).unwrap_or(usize::MAX)
-}
-
-#[unsafe(no_mangle)]
-pub extern "C" fn bench_small_insert_and_remove(
-    alloc: Global,
-    len: usize,
-    first: &[usize],
-    second: &[usize],
-    turns: usize,
-) -> usize {
-    insert_and_remove_turns(alloc, len, first, second, turns).unwrap_or(usize::MAX)
-}
-
-#[unsafe(no_mangle)]
-pub extern "C" fn bench_small_insert(
-    alloc: Global,
-    len: usize,
-    first: &[usize],
-    second: &[usize],
-    turns: usize,
-) -> usize {
-    insert_turns(alloc, len, second, turns).unwrap_or(usize::MAX)
-}
-
-#[unsafe(no_mangle)]
-pub extern "C" fn bench_small_remove(
-    alloc: Global,
-    len: usize,
-    first: &[usize],
-    second: &[usize],
-    turns: usize,
-) -> usize {
-    remove_turns(alloc, len, first, second, turns).unwrap_or(usize::MAX)
+pub(crate) fn remove_turns(input: Input<'_>) -> Sum {
+    let mut set = without(input)?;
+    Ok(sum_of_turns!(
+        input.turns,
+        |turn| usize::from(set.remove(number_at(input.second, turn)))
+    ))
 }

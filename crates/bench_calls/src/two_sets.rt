@@ -1,7 +1,8 @@
 // Two sets at once.
 ghost use Rattle.std.specs.Iterator.{IsFinite};
 
-use crate::input_sets::set_of;
+use crate::input_sets::{Input, Sum};
+use crate::turns::sum_of_turns;
 use bit_set::bit_vec::Merge;
 use bit_set::{BitBlock, BitSet, SetError};
 use std::alloc::{AllocError, Global};
@@ -72,49 +73,33 @@ struct TwoSets<B: BitBlock> {
     other: BitSet<B>,
 }
 
-fn one_and_other<B: BitBlock>(
-    alloc: Global,
-    first: &[usize],
-    second: &[usize],
-) -> Result<TwoSets<B>, SetError> {
-    let one = set_of(alloc, 0, first)?;
-    let other = set_of(alloc, 0, second)?;
+fn one_and_other<B: BitBlock>(input: Input<'_>) -> Result<TwoSets<B>, SetError> {
+    let one = input.one()?;
+    let other = input.other()?;
     Ok(TwoSets { one, other })
 }
 
-// One number leaves after each turn, so that no turn can be the result of another.
-pub(crate) fn walk_merged<B: BitBlock>(
-    alloc: Global,
-    merge: Merge,
-    first: &[usize],
-    second: &[usize],
-    turns: usize,
-) -> Result<usize, SetError> {
-    let mut one = set_of::<B>(alloc, 0, first)?;
-    let other = set_of::<B>(alloc, 0, second)?;
-    let mut sum = 0usize;
-    for turn in 0..turns {
-        sum = sum.wrapping_add(sum_of_merged(merge, &one, &other));
-        let _was = one.remove(turn);
-    }
-    Ok(sum)
+// What each turn finds in a set, of which a number leaves then, so that no turn can be the result of another.
+macro_rules! found {
+    ($one:ident, $turns:expr, $number:expr) => {
+        Ok(sum_of_turns!($turns, |turn| {
+            let number = $number;
+            let _was = $one.remove(turn);
+            number
+        }))
+    };
 }
 
-pub(crate) fn count_merged<B: BitBlock>(
-    alloc: Global,
-    merge: Merge,
-    first: &[usize],
-    second: &[usize],
-    turns: usize,
-) -> Result<usize, SetError> {
-    let mut one = set_of::<B>(alloc, 0, first)?;
-    let other = set_of::<B>(alloc, 0, second)?;
-    let mut sum = 0usize;
-    for turn in 0..turns {
-        sum = sum.wrapping_add(count_of_merged(merge, &one, &other));
-        let _was = one.remove(turn);
-    }
-    Ok(sum)
+pub(crate) fn walk_merged<B: BitBlock>(merge: Merge, input: Input<'_>) -> Sum {
+    let mut one = input.one::<B>()?;
+    let other = input.other::<B>()?;
+    found!(one, input.turns, sum_of_merged(merge, &one, &other))
+}
+
+pub(crate) fn count_merged<B: BitBlock>(merge: Merge, input: Input<'_>) -> Sum {
+    let mut one = input.one::<B>()?;
+    let other = input.other::<B>()?;
+    found!(one, input.turns, count_of_merged(merge, &one, &other))
 }
 
 #[inline(always)]
@@ -123,60 +108,35 @@ fn merge_each_turn<B: BitBlock>(
     one: &mut BitSet<B>,
     other: &BitSet<B>,
     turns: usize,
-) -> Result<usize, SetError> {
-    let mut were = 0usize;
-    for turn in 0..turns {
+) -> Sum {
+    Ok(sum_of_turns!(turns, |turn| {
         merge_into(merge, one, other)?;
-        were = were.wrapping_add(usize::from(one.remove(turn)));
-    }
-    Ok(were)
+        usize::from(one.remove(turn))
+    }))
 }
 
-pub(crate) fn merge_in_place<B: BitBlock>(
-    alloc: Global,
-    merge: Merge,
-    first: &[usize],
-    second: &[usize],
-    turns: usize,
-) -> Result<usize, SetError> {
-    let mut sets = one_and_other::<B>(alloc, first, second)?;
-    merge_each_turn(merge, &mut sets.one, &sets.other, turns)
+pub(crate) fn merge_in_place<B: BitBlock>(merge: Merge, input: Input<'_>) -> Sum {
+    let mut sets = one_and_other::<B>(input)?;
+    merge_each_turn(merge, &mut sets.one, &sets.other, input.turns)
 }
 
 #[inline(always)]
-fn change_each_turn(
-    merge: Merge,
-    one: &mut BitSet<u32>,
-    other: &BitSet<u32>,
-    turns: usize,
-) -> Result<usize, SetError> {
-    let mut were = 0usize;
-    for turn in 0..turns {
+fn change_each_turn(merge: Merge, one: &mut BitSet<u32>, other: &BitSet<u32>, turns: usize) -> Sum {
+    Ok(sum_of_turns!(turns, |turn| {
         let changes = change_by(merge, one, other)?;
-        were = were.wrapping_add(usize::from(one.remove(turn)) + usize::from(changes));
-    }
-    Ok(were)
+        usize::from(one.remove(turn)) + usize::from(changes)
+    }))
 }
 
 // The same by the calls that tell whether the set changed.
-fn change_in_place(
-    alloc: Global,
-    merge: Merge,
-    first: &[usize],
-    second: &[usize],
-    turns: usize,
-) -> Result<usize, SetError> {
-    let mut sets = one_and_other(alloc, first, second)?;
-    change_each_turn(merge, &mut sets.one, &sets.other, turns)
+pub(crate) fn change_in_place(merge: Merge, input: Input<'_>) -> Sum {
+    let mut sets = one_and_other(input)?;
+    change_each_turn(merge, &mut sets.one, &sets.other, input.turns)
 }
 
 // The set of the first numbers without another.
-fn set_without(
-    alloc: Global,
-    numbers: &[usize],
-    other: &BitSet<u32>,
-) -> Result<BitSet<u32>, SetError> {
-    let mut set = set_of(alloc, 0, numbers)?;
+fn set_without(input: Input<'_>, other: &BitSet<u32>) -> Result<BitSet<u32>, SetError> {
+    let mut set = input.one()?;
     set.difference_with(other)?;
     Ok(set)
 }
@@ -187,295 +147,113 @@ fn unite_each_turn(
     other: &BitSet<u32>,
     except: &BitSet<u32>,
     turns: usize,
-) -> Result<usize, SetError> {
-    let mut were = 0usize;
-    for turn in 0..turns {
+) -> Sum {
+    Ok(sum_of_turns!(turns, |turn| {
         let changes = one.union_with_difference(other, except)?;
-        were = were.wrapping_add(usize::from(one.remove(turn)) + usize::from(changes));
-    }
-    Ok(were)
+        usize::from(one.remove(turn)) + usize::from(changes)
+    }))
 }
 
 #[inline(always)]
-fn unite_with_rest(
-    alloc: Global,
-    first: &[usize],
-    one: &mut BitSet<u32>,
-    other: &BitSet<u32>,
-    turns: usize,
-) -> Result<usize, SetError> {
-    let except = set_without(alloc, first, other)?;
-    unite_each_turn(one, other, &except, turns)
+fn unite_with_rest(input: Input<'_>, one: &mut BitSet<u32>, other: &BitSet<u32>) -> Sum {
+    let except = set_without(input, other)?;
+    unite_each_turn(one, other, &except, input.turns)
 }
 
 // What the second numbers have and the first have not goes in.
-fn unite_in_place(
-    alloc: Global,
-    first: &[usize],
-    second: &[usize],
-    turns: usize,
-) -> Result<usize, SetError> {
-    let mut sets = one_and_other(alloc, first, second)?;
-    unite_with_rest(alloc, first, &mut sets.one, &sets.other, turns)
+pub(crate) fn unite_in_place(input: Input<'_>) -> Sum {
+    let mut sets = one_and_other(input)?;
+    unite_with_rest(input, &mut sets.one, &sets.other)
 }
 
 // The first set without the second, which has nothing in common with it.
-fn find_apart(
-    alloc: Global,
-    first: &[usize],
-    second: &[usize],
-    turns: usize,
-) -> Result<usize, SetError> {
-    let other = set_of(alloc, 0, second)?;
-    let mut one = set_without(alloc, first, &other)?;
-    let mut found = 0usize;
-    for turn in 0..turns {
-        found = found.wrapping_add(usize::from(one.is_disjoint(&other)));
-        let _was = one.remove(turn);
-    }
-    Ok(found)
-}
-
-#[unsafe(no_mangle)]
-pub extern "C" fn bench_is_disjoint(
-    alloc: Global,
-    first: &[usize],
-    second: &[usize],
-    turns: usize,
-) -> usize {
-    find_apart(alloc, first, second, turns).unwrap_or(usize::MAX)
+pub(crate) fn find_apart(input: Input<'_>) -> Sum {
+    let other = input.other()?;
+    let mut one = set_without(input, &other)?;
+    found!(one, input.turns, usize::from(one.is_disjoint(&other)))
 }
 
 // The second set and the first with it, which has all of it.
-fn find_within(
-    alloc: Global,
-    first: &[usize],
-    second: &[usize],
-    turns: usize,
-) -> Result<usize, SetError> {
-    let mut one = set_of::<u32>(alloc, 0, second)?;
-    let mut other = set_of(alloc, 0, first)?;
+pub(crate) fn find_within(input: Input<'_>) -> Sum {
+    let mut one = input.other::<u32>()?;
+    let mut other = input.one()?;
     other.union_with(&one)?;
-    let mut found = 0usize;
-    for turn in 0..turns {
-        found = found.wrapping_add(usize::from(one.is_subset(&other)));
-        let _was = one.remove(turn);
-    }
+    found!(one, input.turns, usize::from(one.is_subset(&other)))
+}
+
+pub(crate) fn compare<B: BitBlock>(input: Input<'_>) -> Sum {
+    let mut one = input.one::<B>()?;
+    let mut other = one.clone(input.alloc)?;
+    Ok(sum_of_turns!(input.turns, |turn| {
+        let same = usize::from(one == other);
+        let _was = one.remove(turn) | other.remove(turn);
+        same
+    }))
+}
+
+pub(crate) fn order(input: Input<'_>) -> Sum {
+    let mut one = input.one::<u32>()?;
+    let mut other = one.clone(input.alloc)?;
+    Ok(sum_of_turns!(input.turns, |turn| {
+        let same = usize::from(one.cmp(&other) == Ordering::Equal);
+        let _was = one.remove(turn) | other.remove(turn);
+        same
+    }))
+}
+
+#[inline(always)]
+fn append_copy(
+    one: &mut BitSet<u32>,
+    other: &BitSet<u32>,
+    copy: &mut BitSet<u32>,
+) -> Result<(), AllocError> {
+    copy.clone_from(other)?;
+    one.append(copy)
+}
+
+#[inline(always)]
+fn append_each(
+    one: &mut BitSet<u32>,
+    other: &BitSet<u32>,
+    copy: &mut BitSet<u32>,
+    turns: usize,
+) -> Sum {
+    Ok(sum_of_turns!(turns, |turn| {
+        append_copy(one, other, copy)?;
+        usize::from(one.remove(turn))
+    }))
+}
+
+// Each turn copies the second set, and moves the copy into the first. One number leaves after each turn.
+pub(crate) fn append_copies(input: Input<'_>) -> Sum {
+    let mut sets = one_and_other(input)?;
+    let mut copy = BitSet::new(input.alloc);
+    append_each(&mut sets.one, &sets.other, &mut copy, input.turns)
+}
+
+#[inline(always)]
+fn part_once(
+    alloc: Global,
+    set: &mut BitSet<u32>,
+    middle: usize,
+    number: usize,
+) -> Result<bool, AllocError> {
+    let mut part = set.split_off(alloc, middle)?;
+    let found = part.contains(number);
+    set.append(&mut part)?;
     Ok(found)
 }
 
-#[unsafe(no_mangle)]
-pub extern "C" fn bench_is_subset(
-    alloc: Global,
-    first: &[usize],
-    second: &[usize],
-    turns: usize,
-) -> usize {
-    find_within(alloc, first, second, turns).unwrap_or(usize::MAX)
+#[inline(always)]
+fn part_each(alloc: Global, set: &mut BitSet<u32>, middle: usize, turns: usize) -> Sum {
+    Ok(sum_of_turns!(turns, |turn| {
+        usize::from(part_once(alloc, set, middle, middle.saturating_add(turn))?)
+    }))
 }
 
-pub(crate) fn compare<B: BitBlock>(
-    alloc: Global,
-    members: &[usize],
-    turns: usize,
-) -> Result<usize, SetError> {
-    let mut one = set_of::<B>(alloc, 0, members)?;
-    let mut other = one.clone(alloc)?;
-    let mut equal = 0usize;
-    for turn in 0..turns {
-        equal = equal.wrapping_add(usize::from(one == other));
-        let _was = one.remove(turn) | other.remove(turn);
-    }
-    Ok(equal)
-}
-
-#[unsafe(no_mangle)]
-pub extern "C" fn bench_eq(alloc: Global, members: &[usize], turns: usize) -> usize {
-    compare::<u32>(alloc, members, turns).unwrap_or(usize::MAX)
-}
-
-fn order(alloc: Global, members: &[usize], turns: usize) -> Result<usize, SetError> {
-    let mut one = set_of::<u32>(alloc, 0, members)?;
-    let mut other = one.clone(alloc)?;
-    let mut equal = 0usize;
-    for turn in 0..turns {
-        equal = equal.wrapping_add(usize::from(one.cmp(&other) == Ordering::Equal));
-        let _was = one.remove(turn) | other.remove(turn);
-    }
-    Ok(equal)
-}
-
-#[unsafe(no_mangle)]
-pub extern "C" fn bench_cmp(alloc: Global, members: &[usize], turns: usize) -> usize {
-    order(alloc, members, turns).unwrap_or(usize::MAX)
-}
-
-#[unsafe(no_mangle)]
-pub extern "C" fn bench_walk_union(
-    alloc: Global,
-    first: &[usize],
-    second: &[usize],
-    turns: usize,
-) -> usize {
-    walk_merged::<u32>(alloc, Merge::Union, first, second, turns).unwrap_or(usize::MAX)
-}
-
-#[unsafe(no_mangle)]
-pub extern "C" fn bench_walk_intersection(
-    alloc: Global,
-    first: &[usize],
-    second: &[usize],
-    turns: usize,
-) -> usize {
-    walk_merged::<u32>(alloc, Merge::Intersection, first, second, turns).unwrap_or(usize::MAX)
-}
-
-#[unsafe(no_mangle)]
-pub extern "C" fn bench_walk_difference(
-    alloc: Global,
-    first: &[usize],
-    second: &[usize],
-    turns: usize,
-) -> usize {
-    walk_merged::<u32>(alloc, Merge::Difference, first, second, turns).unwrap_or(usize::MAX)
-}
-
-#[unsafe(no_mangle)]
-pub extern "C" fn bench_walk_symmetric_difference(
-    alloc: Global,
-    first: &[usize],
-    second: &[usize],
-    turns: usize,
-) -> usize {
-    walk_merged::<u32>(alloc, Merge::Symmetric, first, second, turns).unwrap_or(usize::MAX)
-}
-
-#[unsafe(no_mangle)]
-pub extern "C" fn bench_count_union(
-    alloc: Global,
-    first: &[usize],
-    second: &[usize],
-    turns: usize,
-) -> usize {
-    count_merged::<u32>(alloc, Merge::Union, first, second, turns).unwrap_or(usize::MAX)
-}
-
-#[unsafe(no_mangle)]
-pub extern "C" fn bench_count_intersection(
-    alloc: Global,
-    first: &[usize],
-    second: &[usize],
-    turns: usize,
-) -> usize {
-    count_merged::<u32>(alloc, Merge::Intersection, first, second, turns).unwrap_or(usize::MAX)
-}
-
-#[unsafe(no_mangle)]
-pub extern "C" fn bench_count_difference(
-    alloc: Global,
-    first: &[usize],
-    second: &[usize],
-    turns: usize,
-) -> usize {
-    count_merged::<u32>(alloc, Merge::Difference, first, second, turns).unwrap_or(usize::MAX)
-}
-
-#[unsafe(no_mangle)]
-pub extern "C" fn bench_count_symmetric_difference(
-    alloc: Global,
-    first: &[usize],
-    second: &[usize],
-    turns: usize,
-) -> usize {
-    count_merged::<u32>(alloc, Merge::Symmetric, first, second, turns).unwrap_or(usize::MAX)
-}
-
-#[unsafe(no_mangle)]
-pub extern "C" fn bench_merge_union(
-    alloc: Global,
-    first: &[usize],
-    second: &[usize],
-    turns: usize,
-) -> usize {
-    merge_in_place::<u32>(alloc, Merge::Union, first, second, turns).unwrap_or(usize::MAX)
-}
-
-#[unsafe(no_mangle)]
-pub extern "C" fn bench_merge_intersection(
-    alloc: Global,
-    first: &[usize],
-    second: &[usize],
-    turns: usize,
-) -> usize {
-    merge_in_place::<u32>(alloc, Merge::Intersection, first, second, turns).unwrap_or(usize::MAX)
-}
-
-#[unsafe(no_mangle)]
-pub extern "C" fn bench_merge_difference(
-    alloc: Global,
-    first: &[usize],
-    second: &[usize],
-    turns: usize,
-) -> usize {
-    merge_in_place::<u32>(alloc, Merge::Difference, first, second, turns).unwrap_or(usize::MAX)
-}
-
-#[unsafe(no_mangle)]
-pub extern "C" fn bench_merge_symmetric_difference(
-    alloc: Global,
-    first: &[usize],
-    second: &[usize],
-    turns: usize,
-) -> usize {
-    merge_in_place::<u32>(alloc, Merge::Symmetric, first, second, turns).unwrap_or(usize::MAX)
-}
-
-#[unsafe(no_mangle)]
-pub extern "C" fn bench_change_union(
-    alloc: Global,
-    first: &[usize],
-    second: &[usize],
-    turns: usize,
-) -> usize {
-    change_in_place(alloc, Merge::Union, first, second, turns).unwrap_or(usize::MAX)
-}
-
-#[unsafe(no_mangle)]
-pub extern "C" fn bench_change_intersection(
-    alloc: Global,
-    first: &[usize],
-    second: &[usize],
-    turns: usize,
-) -> usize {
-    change_in_place(alloc, Merge::Intersection, first, second, turns).unwrap_or(usize::MAX)
-}
-
-#[unsafe(no_mangle)]
-pub extern "C" fn bench_change_difference(
-    alloc: Global,
-    first: &[usize],
-    second: &[usize],
-    turns: usize,
-) -> usize {
-    change_in_place(alloc, Merge::Difference, first, second, turns).unwrap_or(usize::MAX)
-}
-
-#[unsafe(no_mangle)]
-pub extern "C" fn bench_change_symmetric_difference(
-    alloc: Global,
-    first: &[usize],
-    second: &[usize],
-    turns: usize,
-) -> usize {
-    change_in_place(alloc, Merge::Symmetric, first, second, turns).unwrap_or(usize::MAX)
-}
-
-#[unsafe(no_mangle)]
-pub extern "C" fn bench_change_by_difference(
-    alloc: Global,
-    first: &[usize],
-    second: &[usize],
-    turns: usize,
-) -> usize {
-    unite_in_place(alloc, first, second, turns).unwrap_or(usize::MAX)
+// Each turn parts the set in the middle, and puts it together again.
+pub(crate) fn part_and_join(input: Input<'_>) -> Sum {
+    let mut set = input.one::<u32>()?;
+    let middle = set.get_ref().len() / 2;
+    part_each(input.alloc, &mut set, middle, input.turns)
 }

@@ -33,7 +33,7 @@ fn dfa_of<B: BitBlock>(alloc: Global, nfa: &Nfa<B>) -> Result<Dfa<B>, SetError> 
 }
 
 // Adds up how many states the deterministic automata have.
-fn count_states<B: BitBlock>(
+pub(crate) fn count_states<B: BitBlock>(
     alloc: Global,
     states: usize,
     each: usize,
@@ -46,28 +46,6 @@ fn count_states<B: BitBlock>(
         sum = sum.wrapping_add(dfa_of(alloc, &nfa)?.states());
     }
     Ok(sum)
-}
-
-#[unsafe(no_mangle)]
-pub extern "C" fn bench_determinize_u32(
-    alloc: Global,
-    states: usize,
-    each: usize,
-    ends: &[usize],
-    turns: usize,
-) -> usize {
-    count_states::<u32>(alloc, states, each, ends, turns).unwrap_or(usize::MAX)
-}
-
-#[unsafe(no_mangle)]
-pub extern "C" fn bench_determinize_u64(
-    alloc: Global,
-    states: usize,
-    each: usize,
-    ends: &[usize],
-    turns: usize,
-) -> usize {
-    count_states::<u64>(alloc, states, each, ends, turns).unwrap_or(usize::MAX)
 }
 
 // Adds up how often the word is accepted. From each state each symbol leads to two.

@@ -46,7 +46,7 @@ pub(crate) fn sets<B: BitBlock>(
 }
 
 // Adds up how many nodes are reached from the first one.
-fn reach<B: BitBlock>(
+pub(crate) fn reach<B: BitBlock>(
     alloc: Global,
     nodes: usize,
     each: usize,
@@ -82,7 +82,7 @@ fn close_copies<B: BitBlock>(
     Ok(sum)
 }
 
-fn close_all<B: BitBlock>(
+pub(crate) fn close_all<B: BitBlock>(
     alloc: Global,
     nodes: usize,
     each: usize,
@@ -91,48 +91,4 @@ fn close_all<B: BitBlock>(
 ) -> Result<usize, SetError> {
     let rows = sets::<B>(alloc, nodes, each, ends)?;
     Ok(close_copies(alloc, rows.as_slice(), turns)?)
-}
-
-#[unsafe(no_mangle)]
-pub extern "C" fn bench_reachable_u32(
-    alloc: Global,
-    nodes: usize,
-    each: usize,
-    ends: &[usize],
-    turns: usize,
-) -> usize {
-    reach::<u32>(alloc, nodes, each, ends, turns).unwrap_or(usize::MAX)
-}
-
-#[unsafe(no_mangle)]
-pub extern "C" fn bench_reachable_u64(
-    alloc: Global,
-    nodes: usize,
-    each: usize,
-    ends: &[usize],
-    turns: usize,
-) -> usize {
-    reach::<u64>(alloc, nodes, each, ends, turns).unwrap_or(usize::MAX)
-}
-
-#[unsafe(no_mangle)]
-pub extern "C" fn bench_close_u32(
-    alloc: Global,
-    nodes: usize,
-    each: usize,
-    ends: &[usize],
-    turns: usize,
-) -> usize {
-    close_all::<u32>(alloc, nodes, each, ends, turns).unwrap_or(usize::MAX)
-}
-
-#[unsafe(no_mangle)]
-pub extern "C" fn bench_close_u64(
-    alloc: Global,
-    nodes: usize,
-    each: usize,
-    ends: &[usize],
-    turns: usize,
-) -> usize {
-    close_all::<u64>(alloc, nodes, each, ends, turns).unwrap_or(usize::MAX)
 }

@@ -3,6 +3,7 @@
 //! sides agree on, or `usize::MAX` where memory runs out.
 #![tactic(auto)]
 
+mod calls;
 mod determinizing;
 mod graphs;
 mod live_variables;

@@ -35,7 +35,7 @@ fn blocks_of<B: BitBlock>(
 }
 
 // Adds up how many variables are live at the starts of the blocks.
-fn count_live<B: BitBlock>(
+pub(crate) fn count_live<B: BitBlock>(
     alloc: Global,
     variables: usize,
     numbers: &[usize],
@@ -50,24 +50,4 @@ fn count_live<B: BitBlock>(
         }
     }
     Ok(sum)
-}
-
-#[unsafe(no_mangle)]
-pub extern "C" fn bench_live_variables_u32(
-    alloc: Global,
-    variables: usize,
-    numbers: &[usize],
-    turns: usize,
-) -> usize {
-    count_live::<u32>(alloc, variables, numbers, turns).unwrap_or(usize::MAX)
-}
-
-#[unsafe(no_mangle)]
-pub extern "C" fn bench_live_variables_u64(
-    alloc: Global,
-    variables: usize,
-    numbers: &[usize],
-    turns: usize,
-) -> usize {
-    count_live::<u64>(alloc, variables, numbers, turns).unwrap_or(usize::MAX)
 }

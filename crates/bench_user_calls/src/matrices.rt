@@ -56,7 +56,7 @@ fn close_copies<B: BitBlock>(
     Ok(sum)
 }
 
-fn close_matrix<B: BitBlock>(
+pub(crate) fn close_matrix<B: BitBlock>(
     alloc: Global,
     nodes: usize,
     each: usize,
@@ -65,28 +65,6 @@ fn close_matrix<B: BitBlock>(
 ) -> Result<usize, MatrixError> {
     let matrix = edges::<B>(alloc, nodes, each, ends)?;
     Ok(close_copies(alloc, &matrix, turns)?)
-}
-
-#[unsafe(no_mangle)]
-pub extern "C" fn bench_close_matrix_u32(
-    alloc: Global,
-    nodes: usize,
-    each: usize,
-    ends: &[usize],
-    turns: usize,
-) -> usize {
-    close_matrix::<u32>(alloc, nodes, each, ends, turns).unwrap_or(usize::MAX)
-}
-
-#[unsafe(no_mangle)]
-pub extern "C" fn bench_close_matrix_u64(
-    alloc: Global,
-    nodes: usize,
-    each: usize,
-    ends: &[usize],
-    turns: usize,
-) -> usize {
-    close_matrix::<u64>(alloc, nodes, each, ends, turns).unwrap_or(usize::MAX)
 }
 
 // Each turn puts what is in the last row into one of the two others.

@@ -4,7 +4,7 @@ use free_slots::Slots;
 use std::alloc::{AllocError, Global};
 
 // Adds up the lowest free slots that are taken after each of some slots is given back.
-fn take_and_give_back<B: BitBlock>(
+pub(crate) fn take_and_give_back<B: BitBlock>(
     alloc: Global,
     len: usize,
     taken: usize,
@@ -27,38 +27,23 @@ fn take_and_give_back<B: BitBlock>(
     Ok(sum)
 }
 
-#[unsafe(no_mangle)]
-pub extern "C" fn bench_slots_u32(
-    alloc: Global,
-    len: usize,
-    taken: usize,
-    given: &[usize],
-    turns: usize,
-) -> usize {
-    take_and_give_back::<u32>(alloc, len, taken, given, turns).unwrap_or(usize::MAX)
-}
-
-#[unsafe(no_mangle)]
-pub extern "C" fn bench_slots_u64(
-    alloc: Global,
-    len: usize,
-    taken: usize,
-    given: &[usize],
-    turns: usize,
-) -> usize {
-    take_and_give_back::<u64>(alloc, len, taken, given, turns).unwrap_or(usize::MAX)
+// What each turn gives of new slots, added up.
+macro_rules! sum_of_turns {
+    ($alloc:expr, $len:expr, $turns:expr, |$slots:ident| $number:expr) => {{
+        let mut sum = 0usize;
+        for _turn in 0..$turns {
+            let Ok(mut $slots) = Slots::<u32>::with_slots($alloc, $len) else {
+                return usize::MAX;
+            };
+            sum = sum.wrapping_add($number);
+        }
+        sum
+    }};
 }
 
 #[unsafe(no_mangle)]
 pub extern "C" fn bench_with_slots(alloc: Global, len: usize, turns: usize) -> usize {
-    let mut sum = 0usize;
-    for _turn in 0..turns {
-        let Ok(slots) = Slots::<u32>::with_slots(alloc, len) else {
-            return usize::MAX;
-        };
-        sum = sum.wrapping_add(slots.len());
-    }
-    sum
+    sum_of_turns!(alloc, len, turns, |slots| slots.len())
 }
 
 // Takes each slot, the lowest first, and adds them up.
@@ -72,14 +57,7 @@ fn take_each<B: BitBlock>(slots: &mut Slots<B>) -> usize {
 
 #[unsafe(no_mangle)]
 pub extern "C" fn bench_take_each(alloc: Global, len: usize, turns: usize) -> usize {
-    let mut sum = 0usize;
-    for _turn in 0..turns {
-        let Ok(mut slots) = Slots::<u32>::with_slots(alloc, len) else {
-            return usize::MAX;
-        };
-        sum = sum.wrapping_add(take_each(&mut slots));
-    }
-    sum
+    sum_of_turns!(alloc, len, turns, |slots| take_each(&mut slots))
 }
 
 // Takes each slot, at or above the one past the slot before.
@@ -106,13 +84,8 @@ fn give_back_and_take<B: BitBlock>(slots: &mut Slots<B>) -> usize {
 
 #[unsafe(no_mangle)]
 pub extern "C" fn bench_take_each_onward(alloc: Global, len: usize, turns: usize) -> usize {
-    let mut sum = 0usize;
-    for _turn in 0..turns {
-        let Ok(mut slots) = Slots::<u32>::with_slots(alloc, len) else {
-            return usize::MAX;
-        };
-        sum = sum.wrapping_add(take_onward(&mut slots));
-        sum = sum.wrapping_add(give_back_and_take(&mut slots));
-    }
-    sum
+    sum_of_turns!(alloc, len, turns, |slots| {
+        let from = take_onward(&mut slots);
+        from.wrapping_add(give_back_and_take(&mut slots))
+    })
 }
