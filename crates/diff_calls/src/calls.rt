@@ -229,20 +229,26 @@ pub(crate) enum Looking {
     ZerosInBlock,
 }
 
+// What is of no such kind.
+#[derive(Clone, Copy)]
+pub(crate) enum Alone {
+    FromIter,
+    IntoBitVec,
+    Get,
+}
+
 // A call. Those that are named as `..General` are over blocks of any type, and those without that over blocks of 32 bits
 // alone; those named as `..AndTell` say whether they changed anything.
 #[derive(Clone, Copy)]
 pub(crate) enum Call {
     Make(Making),
     MakeGeneral(Making),
-    FromIter,
     Gather(Gathering),
     List(Listing),
     ListGeneral(Listing),
     Change(Changing),
     Lessen(Lessening),
     Pop(Popping),
-    IntoBitVec,
     Combine(Merge),
     CombineAndTell(Merge),
     Fuse(Fusing),
@@ -261,165 +267,52 @@ pub(crate) enum Call {
     CountBits(BitCounting),
     AskBits(BitAsking),
     FindBit(BitFinding),
-    Get,
+    Alone(Alone),
     TellBits(BitTelling),
     Look(Looking),
 }
 
-const CALLS: &[Call] = &[
-    Call::Make(Making::New),
-    Call::MakeGeneral(Making::New),
-    Call::Make(Making::WithCapacity),
-    Call::MakeGeneral(Making::WithCapacity),
-    Call::Make(Making::FromBytes),
-    Call::MakeGeneral(Making::FromBytes),
-    Call::Make(Making::FromBytesLsb),
-    Call::MakeGeneral(Making::FromBytesLsb),
-    Call::FromIter,
-    Call::List(Listing::New),
-    Call::ListGeneral(Listing::New),
-    Call::List(Listing::FromElem),
-    Call::ListGeneral(Listing::FromElem),
-    Call::List(Listing::FromBytes),
-    Call::ListGeneral(Listing::FromBytes),
-    Call::Gather(Gathering::UnionOf),
-    Call::Gather(Gathering::IntersectionOf),
-    Call::Change(Changing::Insert),
-    Call::Change(Changing::Remove),
-    Call::Change(Changing::Extend),
-    Call::Lessen(Lessening::Truncate),
-    Call::Lessen(Lessening::MakeEmpty),
-    Call::Lessen(Lessening::Clear),
-    Call::Lessen(Lessening::Reset),
-    Call::Change(Changing::ReserveLen),
-    Call::Change(Changing::ReserveLenExact),
-    Call::Change(Changing::ShrinkToFit),
-    Call::IntoBitVec,
-    Call::Move(Moving::CloneFrom),
-    Call::Combine(Merge::Union),
-    Call::Combine(Merge::Intersection),
-    Call::Combine(Merge::Difference),
-    Call::Combine(Merge::Symmetric),
-    Call::CombineAndTell(Merge::Union),
-    Call::CombineAndTell(Merge::Intersection),
-    Call::CombineAndTell(Merge::Difference),
-    Call::CombineAndTell(Merge::Symmetric),
-    Call::Fuse(Fusing::UnionWithDifference),
-    Call::Fuse(Fusing::UnionWithIntersection),
-    Call::Fuse(Fusing::CopyDifference),
-    Call::Change(Changing::InsertRange),
-    Call::Lessen(Lessening::RemoveRange),
-    Call::Change(Changing::ToggleRange),
-    Call::Change(Changing::Toggle),
-    Call::Change(Changing::Set),
-    Call::Pop(Popping::First),
-    Call::Pop(Popping::Last),
-    Call::Lessen(Lessening::Retain),
-    Call::Change(Changing::ShiftUp),
-    Call::Lessen(Lessening::ShiftDown),
-    Call::Move(Moving::Clone),
-    Call::Move(Moving::Append),
-    Call::Move(Moving::SplitOff),
-    Call::Move(Moving::BitsClone),
-    Call::Move(Moving::BitsCloneTail),
-    Call::Move(Moving::CopyRange),
-    Call::Ask(Asking::Contains),
-    Call::Count(Counting::Count),
-    Call::Count(Counting::Len),
-    Call::Ask(Asking::IsEmpty),
-    Call::Ask(Asking::Capacity),
-    Call::Ask(Asking::IsSubset),
-    Call::Ask(Asking::IsSuperset),
-    Call::Ask(Asking::IsDisjoint),
-    Call::Ask(Asking::Eq),
-    Call::Tell(Telling::Cmp),
-    Call::Tell(Telling::Hash),
-    Call::Tell(Telling::Display),
-    Call::Tell(Telling::Debug),
-    Call::Tell(Telling::Json),
-    Call::Ask(Asking::ContainsAllInRange),
-    Call::Ask(Asking::ContainsAnyInRange),
-    Call::Count(Counting::CountInRange),
-    Call::Find(Finding::First),
-    Call::Find(Finding::Last),
-    Call::Find(Finding::Next),
-    Call::Find(Finding::Previous),
-    Call::Count(Counting::NextMissing),
-    Call::Tell(Telling::ToBytes),
-    Call::Tell(Telling::ToBytesLsb),
-    Call::Find(Finding::FirstGap),
-    Call::Ask(Asking::IsProperSubset),
-    Call::Tell(Telling::Ranges),
-    Call::Count(Counting::Union),
-    Call::Count(Counting::Intersection),
-    Call::Count(Counting::Difference),
-    Call::Count(Counting::SymmetricDifference),
-    Call::Walk(Walking::Iter),
-    Call::Walk(Walking::IntoIter),
-    Call::Walk(Walking::IterFrom),
-    Call::Walk(Walking::IterEnds),
-    Call::Walk(Walking::Range),
-    Call::Walk(Walking::Nth),
-    Call::Walk(Walking::Missing),
-    Call::Walk(Walking::Runs),
-    Call::Walk(Walking::Union),
-    Call::Walk(Walking::Intersection),
-    Call::Walk(Walking::Difference),
-    Call::Walk(Walking::SymmetricDifference),
-    Call::Write(Writing::Set),
-    Call::Write(Writing::Replace),
-    Call::Write(Writing::Fill),
-    Call::Write(Writing::Truncate),
-    Call::Write(Writing::RemoveAll),
-    Call::Lengthen(Lengthening::Grow),
-    Call::Lengthen(Lengthening::Reserve),
-    Call::Lengthen(Lengthening::ReserveExact),
-    Call::Write(Writing::ShrinkToFit),
-    Call::Write(Writing::CutZeroBlocks),
-    Call::Write(Writing::CloneFrom),
-    Call::MergeBlocks(Merge::Union),
-    Call::MergeBlocks(Merge::Intersection),
-    Call::MergeBlocks(Merge::Difference),
-    Call::MergeBlocks(Merge::Symmetric),
-    Call::MergeAndTell(Merge::Union),
-    Call::MergeAndTell(Merge::Intersection),
-    Call::MergeAndTell(Merge::Difference),
-    Call::MergeAndTell(Merge::Symmetric),
-    Call::FuseBits(Fusing::UnionWithDifference),
-    Call::FuseBits(Fusing::UnionWithIntersection),
-    Call::FuseBits(Fusing::CopyDifference),
-    Call::WriteRange(Ranged::Set),
-    Call::WriteRange(Ranged::Clear),
-    Call::WriteRange(Ranged::Negate),
-    Call::Write(Writing::KeepInBlock),
-    Call::CountBits(BitCounting::Len),
-    Call::Get,
-    Call::AskBits(BitAsking::None),
-    Call::CountBits(BitCounting::CountOnes),
-    Call::AskBits(BitAsking::Capacity),
-    Call::Look(Looking::Storage),
-    Call::Look(Looking::Blocks),
-    Call::Look(Looking::NextIf),
-    Call::Look(Looking::Nonzero),
-    Call::Look(Looking::NonzeroPastFirst),
-    Call::Look(Looking::NonzeroPast),
-    Call::Look(Looking::NonzeroEnds),
-    Call::Look(Looking::Refill),
-    Call::Look(Looking::RefillEnds),
-    Call::Look(Looking::Mismatch),
-    Call::Look(Looking::Block),
-    Call::AskBits(BitAsking::IsSubsetOf),
-    Call::AskBits(BitAsking::IsDisjointFrom),
-    Call::TellBits(BitTelling::Debug),
-    Call::CountBits(BitCounting::CountOnesInRange),
-    Call::AskBits(BitAsking::AllInRange),
-    Call::AskBits(BitAsking::AnyInRange),
-    Call::FindBit(BitFinding::FirstOneFrom),
-    Call::FindBit(BitFinding::LastOneBefore),
-    Call::CountBits(BitCounting::FirstZeroFrom),
-    Call::Look(Looking::ZerosInBlock),
-    Call::TellBits(BitTelling::ToBytes),
-];
+// The calls of some kinds, one kind after another.
+macro_rules! calls {
+    ($($call:ident($of:ident): $($name:ident)*;)*) => { &[$($(Call::$call($of::$name),)*)*] };
+}
+
+const CALLS: &[Call] = calls! {
+    Make(Making): New; MakeGeneral(Making): New; Make(Making): WithCapacity;
+    MakeGeneral(Making): WithCapacity; Make(Making): FromBytes; MakeGeneral(Making): FromBytes;
+    Make(Making): FromBytesLsb; MakeGeneral(Making): FromBytesLsb; Alone(Alone): FromIter; List(Listing): New;
+    ListGeneral(Listing): New; List(Listing): FromElem; ListGeneral(Listing): FromElem;
+    List(Listing): FromBytes; ListGeneral(Listing): FromBytes; Gather(Gathering): UnionOf IntersectionOf;
+    Change(Changing): Insert Remove Extend; Lessen(Lessening): Truncate MakeEmpty Clear Reset;
+    Change(Changing): ReserveLen ReserveLenExact ShrinkToFit; Alone(Alone): IntoBitVec;
+    Move(Moving): CloneFrom; Combine(Merge): Union Intersection Difference Symmetric;
+    CombineAndTell(Merge): Union Intersection Difference Symmetric;
+    Fuse(Fusing): UnionWithDifference UnionWithIntersection CopyDifference; Change(Changing): InsertRange;
+    Lessen(Lessening): RemoveRange; Change(Changing): ToggleRange Toggle Set; Pop(Popping): First Last;
+    Lessen(Lessening): Retain; Change(Changing): ShiftUp; Lessen(Lessening): ShiftDown;
+    Move(Moving): Clone Append SplitOff BitsClone BitsCloneTail CopyRange; Ask(Asking): Contains;
+    Count(Counting): Count Len; Ask(Asking): IsEmpty Capacity IsSubset IsSuperset IsDisjoint Eq;
+    Tell(Telling): Cmp Hash Display Debug Json; Ask(Asking): ContainsAllInRange ContainsAnyInRange;
+    Count(Counting): CountInRange; Find(Finding): First Last Next Previous; Count(Counting): NextMissing;
+    Tell(Telling): ToBytes ToBytesLsb; Find(Finding): FirstGap; Ask(Asking): IsProperSubset;
+    Tell(Telling): Ranges; Count(Counting): Union Intersection Difference SymmetricDifference;
+    Walk(Walking): Iter IntoIter IterFrom IterEnds Range Nth Missing Runs Union Intersection Difference
+        SymmetricDifference;
+    Write(Writing): Set Replace Fill Truncate RemoveAll; Lengthen(Lengthening): Grow Reserve ReserveExact;
+    Write(Writing): ShrinkToFit CutZeroBlocks CloneFrom;
+    MergeBlocks(Merge): Union Intersection Difference Symmetric;
+    MergeAndTell(Merge): Union Intersection Difference Symmetric;
+    FuseBits(Fusing): UnionWithDifference UnionWithIntersection CopyDifference;
+    WriteRange(Ranged): Set Clear Negate; Write(Writing): KeepInBlock; CountBits(BitCounting): Len;
+    Alone(Alone): Get; AskBits(BitAsking): None; CountBits(BitCounting): CountOnes;
+    AskBits(BitAsking): Capacity;
+    Look(Looking): Storage Blocks NextIf Nonzero NonzeroPastFirst NonzeroPast NonzeroEnds Refill RefillEnds
+        Mismatch Block;
+    AskBits(BitAsking): IsSubsetOf IsDisjointFrom; TellBits(BitTelling): Debug;
+    CountBits(BitCounting): CountOnesInRange; AskBits(BitAsking): AllInRange AnyInRange;
+    FindBit(BitFinding): FirstOneFrom LastOneBefore; CountBits(BitCounting): FirstZeroFrom;
+    Look(Looking): ZerosInBlock; TellBits(BitTelling): ToBytes;
+};
 
 impl Call {
     // The call of this number, where there is one.

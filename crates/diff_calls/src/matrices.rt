@@ -4,7 +4,7 @@ ghost use Rattle.std.specs.Prelude.{◌<◌, length};
 use crate::answers::Answers;
 use crate::feed::feed_of;
 use crate::matrix_calls::{
-    AtColumn, MatrixCall, MatrixMaking, MatrixTelling, OfRow, OfRows, OfSet,
+    Alone, AtColumn, MatrixCall, MatrixMaking, MatrixTelling, OfRow, OfRows, OfSet,
 };
 use bit_matrix::{BitMatrix, Iter, MatrixError};
 use bit_set::{BitBlock, BitSet};
@@ -211,10 +211,10 @@ fn call<B: BitBlock>(
             let made = made(alloc, making, (first, second), other, set);
             put_made(made, matrix, answers);
         }
-        MatrixCall::Swap => mem::swap(matrix, other),
+        MatrixCall::Alone(Alone::Swap) => mem::swap(matrix, other),
         MatrixCall::Set(changing) => change_set(changing, set, first, answers),
         MatrixCall::At(at) => at_column(at, matrix, first, second, answers),
-        MatrixCall::Get => answers.bit(matrix.get(first, second)),
+        MatrixCall::Alone(Alone::Get) => answers.bit(matrix.get(first, second)),
         MatrixCall::Rows(of) => of_rows(of, matrix, first, second, answers),
         MatrixCall::Row(of) => of_row(alloc, of, matrix, set, line, answers),
         MatrixCall::Tell(telling) => tell(alloc, telling, matrix, other, answers),

@@ -57,48 +57,36 @@ pub(crate) enum MatrixTelling {
     Hash,
 }
 
+// What is of no such kind.
+#[derive(Clone, Copy)]
+pub(crate) enum Alone {
+    Swap,
+    Get,
+}
+
 #[derive(Clone, Copy)]
 pub(crate) enum MatrixCall {
     Make(MatrixMaking),
-    Swap,
+    Alone(Alone),
     Set(OfSet),
     At(AtColumn),
-    Get,
     Rows(OfRows),
     Row(OfRow),
     Tell(MatrixTelling),
 }
 
-const CALLS: [MatrixCall; 28] = [
-    MatrixCall::Make(MatrixMaking::New),
-    MatrixCall::Make(MatrixMaking::FromRow),
-    MatrixCall::Make(MatrixMaking::Clone),
-    MatrixCall::Make(MatrixMaking::Transpose),
-    MatrixCall::Swap,
-    MatrixCall::Set(OfSet::Insert),
-    MatrixCall::Set(OfSet::Remove),
-    MatrixCall::At(AtColumn::Insert),
-    MatrixCall::At(AtColumn::Remove),
-    MatrixCall::At(AtColumn::Contains),
-    MatrixCall::Get,
-    MatrixCall::Rows(OfRows::Union),
-    MatrixCall::Rows(OfRows::Intersect),
-    MatrixCall::Rows(OfRows::Difference),
-    MatrixCall::Rows(OfRows::IsSubset),
-    MatrixCall::Rows(OfRows::IsDisjoint),
-    MatrixCall::Row(OfRow::InsertRange),
-    MatrixCall::Row(OfRow::Fill),
-    MatrixCall::Row(OfRow::Clear),
-    MatrixCall::Row(OfRow::Count),
-    MatrixCall::Row(OfRow::Iter),
-    MatrixCall::Row(OfRow::IterFrom),
-    MatrixCall::Row(OfRow::CloneOfIter),
-    MatrixCall::Row(OfRow::UnionWithSet),
-    MatrixCall::Row(OfRow::ToSet),
-    MatrixCall::Tell(MatrixTelling::Eq),
-    MatrixCall::Tell(MatrixTelling::Display),
-    MatrixCall::Tell(MatrixTelling::Debug),
-];
+// The calls of some kinds, one kind after another.
+macro_rules! calls {
+    ($($call:ident($of:ident): $($name:ident)*;)*) => { &[$($(MatrixCall::$call($of::$name),)*)*] };
+}
+
+const CALLS: &[MatrixCall] = calls! {
+    Make(MatrixMaking): New FromRow Clone Transpose; Alone(Alone): Swap; Set(OfSet): Insert Remove;
+    At(AtColumn): Insert Remove Contains; Alone(Alone): Get;
+    Rows(OfRows): Union Intersect Difference IsSubset IsDisjoint;
+    Row(OfRow): InsertRange Fill Clear Count Iter IterFrom CloneOfIter UnionWithSet ToSet;
+    Tell(MatrixTelling): Eq Display Debug;
+};
 
 impl MatrixCall {
     // The call of a number; past the others the one that hashes.

@@ -2,7 +2,7 @@
 use crate::answers::Answers;
 use crate::bits::{fuse_bits, lengthen, merge_and_tell, merge_blocks, write, write_range};
 use crate::blocks::storage;
-use crate::calls::{Call, Fusing};
+use crate::calls::{Alone, Call, Fusing};
 use crate::changing::{change, combine, combine_and_tell, lessen, move_over, pop, through_bit_vec};
 use crate::lines::Line;
 use crate::looking::{ask_bits, count_bits, find_bit, look, tell_bits};
@@ -55,7 +55,7 @@ fn look_at<B: Width>(
         Call::CountBits(counting) => answers.number(count_bits(counting, bits, first, second)),
         Call::AskBits(asking) => answers.truth(ask_bits(asking, bits, other, (first, second))),
         Call::FindBit(finding) => answers.item(find_bit(finding, bits, first)),
-        Call::Get => answers.bit(bits.get(first)),
+        Call::Alone(Alone::Get) => answers.bit(bits.get(first)),
         Call::TellBits(telling) => tell_bits(alloc, telling, bits, answers),
         Call::Look(looking) => look(looking, bits, other, (first, second), answers),
         _ => {}
@@ -78,14 +78,14 @@ fn change_by<B: Width>(
             answers.truth(true);
         }
         Call::Pop(popping) => answers.item(pop(popping, set)),
-        Call::IntoBitVec => answers.number(through_bit_vec(alloc, set)),
+        Call::Alone(Alone::IntoBitVec) => answers.number(through_bit_vec(alloc, set)),
         Call::Combine(merge) => answers.ended(combine(merge, set, other)),
         Call::CombineAndTell(merge) => answers.told(combine_and_tell(merge, set, other)),
         Call::Move(moving) => move_over(alloc, moving, (set, other), (first, second), answers),
         Call::CountBits(_)
         | Call::AskBits(_)
         | Call::FindBit(_)
-        | Call::Get
+        | Call::Alone(Alone::Get)
         | Call::TellBits(_)
         | Call::Look(_) => look_at(alloc, line, set.get_mut(), other.get_ref(), answers),
         _ => write_to(line, set.get_mut(), other.get_ref(), answers),
@@ -217,7 +217,7 @@ impl<B: Width> Sets<B> {
         match line.call {
             Call::Make(_)
             | Call::MakeGeneral(_)
-            | Call::FromIter
+            | Call::Alone(Alone::FromIter)
             | Call::Gather(_)
             | Call::List(_)
             | Call::ListGeneral(_) => self.make_of_bytes(alloc, line, answers),
@@ -268,11 +268,15 @@ fn run<B: Width>(alloc: Global, script: &[usize], answers: &mut Answers) {
     Sets::<B>::new(alloc).run(alloc, script, answers);
 }
 
-// Writes as many words as find a place.
-fn copy_words(words: &[usize], places: &mut [usize]) {
-    for (place, word) in places.iter_mut().zip(words) {
+// Writes as many words as find a place, and returns how many there are.
+fn written(answers: &Answers, places: &mut [usize]) -> usize {
+    if answers.is_refused() {
+        return usize::MAX;
+    }
+    for (place, word) in places.iter_mut().zip(answers.words()) {
         *place = *word;
     }
+    answers.words().len()
 }
 
 /// Runs a script over blocks of this many bits, or of `usize` if that is 0. Returns how many words its calls
@@ -293,11 +297,7 @@ pub extern "C" fn diff_run(
         128 => run::<u128>(alloc, script, &mut answers),
         _ => run::<usize>(alloc, script, &mut answers),
     }
-    if answers.is_refused() {
-        return usize::MAX;
-    }
-    copy_words(answers.words(), places);
-    answers.words().len()
+    written(&answers, places)
 }
 
 /// The same for a script on matrices.
@@ -315,9 +315,5 @@ pub extern "C" fn diff_run_matrices(
         64 => run_matrices::<u64>(alloc, script, &mut answers),
         _ => run_matrices::<u128>(alloc, script, &mut answers),
     }
-    if answers.is_refused() {
-        return usize::MAX;
-    }
-    copy_words(answers.words(), places);
-    answers.words().len()
+    written(&answers, places)
 }
