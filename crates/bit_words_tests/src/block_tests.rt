@@ -31,11 +31,17 @@ fn bits_move_within_the_width(rt: HostRuntime) {
 #[test]
 fn digits_pass_the_middle_of_a_wide_block(rt: HostRuntime) {
     let middle = u128::from_byte(0b1100_0000).shift_left(57);
-    let shifted = [middle.shift_left(64), middle.shift_right(63)];
-    expect_eq(&rt, &middle, &(3 << 63));
-    expect_eq(&rt, &shifted, &[1 << 127, 3]);
+    // The values are facts for the operations below.
+    assert_eq!(rt;
+        [middle, middle.shift_left(64), middle.shift_right(63)],
+        [
+            27670116110564327424,
+            170141183460469231731687303715884105728,
+            3
+        ]
+    );
     let one = middle & (!middle + u128::one());
-    expect_eq(&rt, &[one, middle - one], &[1 << 63, 1 << 64]);
+    assert_eq!(rt; [one, middle - one], [9223372036854775808, 18446744073709551616]);
     expect_eq(&rt, &BitBlock::count_ones(middle - u128::one()), &64);
 }
 

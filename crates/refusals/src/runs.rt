@@ -134,17 +134,20 @@ fn are<B: BitBlock>(table: &Table<B>, wanted: &Three) -> bool {
     is_right
 }
 
-// Whether the sets may be so where the command of this place fails, or behind them all.
-fn may_stand<B: BitBlock>(table: &Table<B>, place: usize) -> bool {
-    let allowed = match LINES.get(place) {
-        Some(line) => line.failed,
-        None => LAST,
-    };
+fn are_one_of<B: BitBlock>(table: &Table<B>, allowed: &[Three]) -> bool {
     let mut is_one = false;
     for wanted in allowed {
         is_one |= are(table, wanted);
     }
     is_one
+}
+
+// Whether the sets may be so where the command of this place fails, or behind them all.
+fn may_stand<B: BitBlock>(table: &Table<B>, place: usize) -> bool {
+    match LINES.get(place) {
+        Some(line) => are_one_of(table, line.failed),
+        None => are_one_of(table, LAST),
+    }
 }
 
 // Whether this many commands have just their replies.
