@@ -206,17 +206,21 @@ without_stamp() {
 }
 
 try_unproved() {
-    local lib="(cd \"$from/crates/bit_set\" && rt lib)"
+    local lib="(cd \"$from/crates/bit_set\" && rt lib)" again
+    again="$lib"$'\n'"add:     \"$from/add\""
     start unproved
-    expect 'add does not say that rt lib comes first' without_proofs says "$lib"
+    expect 'add does not say that rt lib comes first' without_proofs says "$again"
     expect 'add copies what is proved where nothing is' [ ! -e crates/bit_set/out ]
+    expect 'add does not say to prove an example last' without_proofs says "$again"$'\n''add:     (cd crates/mine && rt check && rt run)' --example crates/mine
     expect 'add does not copy later what is proved then' add
     expect 'a library is not there' is_copy bit_set
     start unstamped
     expect 'add takes a library without a stamp for a proved one' without_stamp bit_set says "$lib"
     expect 'add copies a library without a stamp' [ ! -e crates/bit_set/out ]
     start proved
+    expect 'add does not say that it copied the proved library' says 'crates/bit_set: copied, with its proved library'
     expect 'add asks for rt lib where all is proved' not says 'rt lib'
+    expect 'add does not say how to prove the example' says '(cd crates/mine && rt check && rt run) proves' --example crates/mine
     start changed
     touch -d '1 minute' "$from/crates/bit_set/src/lib.rt"
     expect 'add does not say that a file changed after rt lib' says "$lib"
@@ -226,6 +230,10 @@ try_unproved() {
     expect 'add fails once the library is proved again' add
     expect 'add keeps a library of an older text' cmp crates/bit_set/out/rlib/stamp "$from/crates/bit_set/out/rlib/stamp"
     touch -r "$top/crates/bit_set/src/lib.rt" "$from/crates/bit_set/src/lib.rt"
+    start below
+    touch -d '3 minutes' "$from/crates/bit_blocks/src/lib.rt"
+    expect 'add does not say that a file below changed after rt lib' says "$lib"
+    touch -r "$top/crates/bit_blocks/src/lib.rt" "$from/crates/bit_blocks/src/lib.rt"
 }
 
 # Whether a folder has the example under a name, and crates.txt its line.
