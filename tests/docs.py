@@ -2,8 +2,8 @@
 
     docs.py ROOT
 
-- Each paragraph of a ```rust block of README.md and of a crate's CALLING.md is in one source, line for line but for the
-  indentation, and what it imports is imported there. So a whole block is code that the gate proves.
+- Each paragraph of a ```rust block of README.md, of docs/PROVING.md and of a crate's CALLING.md is in one source, line for
+  line but for the indentation, and what it imports is imported there. So a whole block is code that the gate proves.
 - A ```antt block begins with the name of a file, and the rest of it is in a file of that name. Where a document calls the
   caller's crate `mine`, it is the crate here that has the file.
 - Each clause that a CALLING.md quotes below a line 'fn ..' is a clause of that function.
@@ -328,7 +328,7 @@ def main():
     sources = {path: lines_of(path.read_text(encoding="utf-8")) for path in sorted(root.glob("crates/*/src/**/*.rt"))}
     # A test passes `rt`, by which it prints, to `assert!`; no example does.
     tests = [[as_in_documents(line) for line in in_one_line(lines)] for lines in sources.values() if "#[test]" in lines]
-    documents = [root / "README.md", *sorted(root.glob("crates/*/CALLING.md"))]
+    documents = [root / "README.md", root / "docs/PROVING.md", *sorted(root.glob("crates/*/CALLING.md"))]
     for document in documents:
         check_examples(check, root, document, [*sources.values(), *tests])
         clauses = {}
