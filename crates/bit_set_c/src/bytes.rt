@@ -54,9 +54,11 @@ fn put_range(blocks: &[Block], from: usize, bytes: &mut [u8], count: usize)
     let whole = (count - front) / STEP;
     let next = from.div_ceil(STEP);
     let done = front + STEP * whole;
-    put_bytes(block_or_zero(blocks, from / STEP), from % STEP, bytes, 0, front);
+    let first = block_or_zero(blocks, from / STEP);
+    let last = block_or_zero(blocks, next + whole);
+    put_bytes(first, from % STEP, bytes, 0, front);
     put_whole(&blocks[next..next + whole], bytes, front);
-    put_bytes(block_or_zero(blocks, next + whole), 0, bytes, done, count - done);
+    put_bytes(last, 0, bytes, done, count - done);
 }
 
 fn copy_bytes(set: &BitSet<Block>, from: usize, bytes: &mut [u8]) -> usize

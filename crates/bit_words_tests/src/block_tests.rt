@@ -41,7 +41,10 @@ fn digits_pass_the_middle_of_a_wide_block(rt: HostRuntime) {
         ]
     );
     let one = middle & (!middle + u128::one());
-    assert_eq!(rt; [one, middle - one], [9223372036854775808, 18446744073709551616]);
+    assert_eq!(rt;
+        [one, middle - one],
+        [9223372036854775808, 18446744073709551616]
+    );
     expect_eq(&rt, &BitBlock::count_ones(middle - u128::one()), &64);
 }
 

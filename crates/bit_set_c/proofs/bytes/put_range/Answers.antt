@@ -24,7 +24,7 @@ returns-clause-digits c =
     let here : 0 + q ≡ q = omega arith in
     let block : (from + q) / step ≡ from / step = omega (arith, early, c.min-front.ensures) in
     let byte : (from + q) % step ≡ from % step + q = omega (arith, early, c.min-front.ensures) in
-    let of_number = c.block_or_zero.ensures.of_number ∙ ap (λ ms. get_or ms (from / step) 0) (numbers_are_blocks blocks) in
+    let of_number = c.block_or_zero-first.ensures.of_number ∙ ap (λ ms. get_or ms (from / step) 0) (numbers_are_blocks blocks) in
     rw (block, byte) (ap (λ m. is_one m j) (c.put_whole.ensures.before q early) ∙ (rw here at (c.put_bytes.ensures.digits q j early within)) ∙ ap (λ m. is_one m (8 * (from % step + q) + j)) of_number))
     (λ (reached : front ≤ q).
     let p = q - front in
@@ -40,7 +40,7 @@ returns-clause-digits c =
     let here : front + step * whole + p ≡ q = omega (arith, late) in
     let block : (from + q) / step ≡ next + whole = omega (arith, late, below, c.min-front.ensures, c.div_ceil-next.ensures) in
     let byte : (from + q) % step ≡ 0 + p = omega (arith, late, below, c.min-front.ensures) in
-    let of_number = c.block_or_zero-2.ensures.of_number ∙ ap (λ ms. get_or ms (next + whole) 0) (numbers_are_blocks blocks) in
+    let of_number = c.block_or_zero-last.ensures.of_number ∙ ap (λ ms. get_or ms (next + whole) 0) (numbers_are_blocks blocks) in
     rw (block, byte) ((rw here at (c.put_bytes-2.ensures.digits p j (omega (arith, late, below)) within)) ∙ ap (λ m. is_one m (8 * (0 + p) + j)) of_number))
     (cases_lt q (front + step * whole))
 
