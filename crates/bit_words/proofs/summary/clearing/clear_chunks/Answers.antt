@@ -1,13 +1,19 @@
-use Rattle.std.proofs.Common.{◌/◌, ◌%◌, ◌<◌, ◌∙◌, ap, get_or, map, sym, arith, div-lt_iff_lt-mul}
-use Rattle.bit_blocks.{specs.Digits.is_one, proofs.{StorageLemmas.value_at-is, ZeroLemmas.front_read}}
+use Rattle.std.proofs.Common.{◌*◌, ◌∙◌, map, sym, arith}
+use Rattle.bit_blocks.proofs.{BitsLemmas.whole_before, CompareLemmas.digit_from_zero, UseLemmas.zero_from_unused}
+use Rattle.bit_words.proofs.{BecomingLemmas.cleared, ComparedLemmas.used_within}
 use Rattle.bit_words.proofs.summary.clearing.clear_chunks.Goals as goal
 
-pub clear_runs-requires-clause-says : goal.clear_runs-requires-clause-says
-clear_runs-requires-clause-says g c = λ k within.
+pub become_parts-requires : goal.become_parts-requires
+become_parts-requires g c =
     let w = g.B.BitBlock.width in
     let number = g.B.BitBlock.number in
-    let ss = c.args.summary.now in
-    let below : k / w < c.args.end = omega (arith, (div-lt_iff_lt-mul g.met.B.BitBlock.width_law.positive).1 within, c.split_at.ensures.front_len) in
-    let front = ap (λ xs. get_or (map number xs) (k / w) 0) c.split_at.ensures.front ∙ front_read w number g.B.BitBlock.is_block ss c.args.end (k / w) below in
-    rw c.as_mut_slice.ensures.value
-    (value_at-is w (map number c.split_at.result.0.now) k ∙ ap (λ m. is_one m (k % w)) front ∙ sym (value_at-is w (map number ss) k) ∙ c.requires.summary.digit k)
+    let is = c.requires.summary in
+    rw c.as_mut_slice.ensures.value (record {
+      can = record { fewer = omega (arith, c.len.ensures); each = c.requires.each; others = tt };
+      fits = is.packed.fits;
+      right = is.packed.each;
+      forward = c.requires.forward;
+      fits_chunks = λ q below. omega (arith, whole_before w _ q g.met.B.BitBlock.width_law.positive (omega (arith, below, c.requires.in_summary, is.packed.count)), is.packed.fits);
+      inside = λ k some. omega (arith, used_within number c.args.blocks.now.items k (sym (is.digit k) ∙ some), c.len.ensures);
+      same = λ k j below none index. digit_from_zero _ j (zero_from_unused _ (sym (is.digit k) ∙ none));
+    })
