@@ -144,7 +144,7 @@ in_either ms ns k n own other some =
 
 pub mismatch_from : (n : ℕ) (r : Option ℕ) (ms ns : List ℕ) → length ns ≤ n → ((k : ℕ) → k < n → get_or ms k 0 ≡ get_or ns k 0) → FindsFrom (is_used ms) n r
     → MatchOption r ((k : ℕ) → get_or ms k 0 ≡ get_or ns k 0) (IsFirstBlockMismatch ms ns)
-mismatch_from n None ms ns ended same none k =
+mismatch_from n None ms ns ended same none = λ k.
     ⊎_elim (same k) (λ past. zero_from_unused _ (none k past) ∙ sym (get_or_past ns k 0 (omega (arith, ended, past)))) (cases_lt k n)
 mismatch_from n (Some i) ms ns ended same first = record {
   below = λ j low. ⊎_elim (same j) (λ past. zero_from_unused _ (first.between j past low) ∙ sym (get_or_past ns j 0 (omega (arith, ended, past)))) (cases_lt j n);
@@ -159,4 +159,3 @@ mismatch_back (Some i) ms ns first = record { below = λ j low. sym (first.below
 pub none_since : (o : Option ℕ) (b : Bool) (ms ns : List ℕ) (P : Type 0) → is_some o ≡ not b → MatchOption o P (IsFirstBlockMismatch ms ns) → ((k : ℕ) → get_or ms k 0 ≡ get_or ns k 0) → b ≡ true
 none_since None b ms ns P is match same = grind arith
 none_since (Some k) b ms ns P is match same = absurd (match.here (same k))
-

@@ -310,14 +310,14 @@ module _ {X : Type 0} (w : ℕ) (number : X → ℕ) (pos : 0 < w) where
       omega (
         arith,
         alone (merged_at merge w (map number xs) (map number ys)) other ys also second
-        (λ i from. ap (λ x. merge_of_values merge x (value_at w (map number ys) i)) (none xs (omega arith) i from) ∙ takes (value_at w (map number ys) i)),
+            (λ i from. ap (λ x. merge_of_values merge x (value_at w (map number ys) i)) (none xs (omega arith) i from) ∙ takes (value_at w (map number ys) i)),
         nothing own xs (omega arith),
       ))
       (λ (ended : length ys ≤ a).
       omega (
         arith,
         alone (merged_at merge w (map number xs) (map number ys)) own xs small first
-        (λ i from. ap (merge_of_values merge (value_at w (map number xs) i)) (none ys ended i from) ∙ keeps (value_at w (map number xs) i)),
+            (λ i from. ap (merge_of_values merge (value_at w (map number xs) i)) (none ys ended i from) ∙ keeps (value_at w (map number xs) i)),
         nothing other ys ended,
       ))
       (cases_lt a (length ys))

@@ -56,21 +56,6 @@ module _ {X : Type 0} (w first end : ℕ) (number : X → ℕ) (is_block : X →
       ∙ summary.digit (first * w + k)
       ∙ ap (λ n. not (n == 0)) (sym read)
 
--- what the summary says from a chunk on
-pub rest_digit : {X : Type 0} (w first : ℕ) (number : X → ℕ) (is_block : X → Type 0) (xs ys ss ts : List X) → 0 < w → IsSummary w number is_block xs ss → ys ≡ drop (first * w) xs
-    → ts ≡ drop first ss → (k : ℕ) → value_at w (map number ts) k ≡ is_used (map number ys) k
-rest_digit w first number is_block xs ys ss ts pos summary rest own k =
-    let block : get_or (map number ts) (k / w) 0 ≡ get_or (map number ss) (first + k / w) 0 = ap (λ zs. get_or (map number zs) (k / w) 0) own ∙ dropped number first (k / w) ss in
-    let parts = div-add-mod' k w in
-    let place : (first + k / w) * w + k % w ≡ first * w + k = omega (arith, parts) in
-    let read : get_or (map number ys) k 0 ≡ get_or (map number xs) (first * w + k) 0 = ap (λ zs. get_or (map number zs) k 0) rest ∙ dropped number (first * w) k xs in
-    value_at-is w (map number ts) k
-    ∙ ap (λ n. is_one n (k % w)) block
-    ∙ sym (value_at-index w (map number ss) (first + k / w) (k % w) (mod-lt k pos))
-    ∙ ap (value_at w (map number ss)) place
-    ∙ summary.digit (first * w + k)
-    ∙ ap (λ n. not (n == 0)) (sym read)
-
 -- bit n is before the chunk that follows its own, which is chunk r
 pub past_chunk : (w n q r : ℕ) → 0 < w → q ≡ n / w → r ≡ q / w → n < (r + 1) * w * w
 past_chunk w n q r pos block chunk =

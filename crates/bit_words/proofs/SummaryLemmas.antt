@@ -122,13 +122,6 @@ stored_few w n f P xs ss pos kept le =
 pub stored_each : {X : Type 0} (w : ℕ) (f : X → ℕ) (P : X → Type 0) (xs ss : List X) → IsStoredSummary w f P xs ss → All P ss
 stored_each w f P xs ss is = grind (arith, is.long, is.short, All-nil P)
 
-pub stored_some : {X : Type 0} (w : ℕ) (f : X → ℕ) (P : X → Type 0) (xs ss : List X) → IsStoredSummary w f P xs ss → 0 < length ss → IsSummary w f P xs ss
-stored_some w f P xs ss is some =
-    ⊎_elim
-    is.long
-    (λ (short : length xs ≤ short_count w). let none = ap length (is.short short) in absurd (omega (arith, none, some)))
-    (cases_lt (short_count w) (length xs))
-
 pub stored_enough : {X : Type 0} (w : ℕ) (f : X → ℕ) (P : X → Type 0) (xs ss : List X) → 0 < w → IsStoredSummary w f P xs ss → short_count w < length xs → length xs ≤ length ss * w
 stored_enough w f P xs ss pos is long =
     let whole = ap (λ k. k * w) (is.long long).packed.count in

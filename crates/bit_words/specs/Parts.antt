@@ -22,11 +22,11 @@ pub record IsPart {X : Type 0} (w : ℕ) (number : X → ℕ) (is_block : X → 
   pub digit : IfSome used (λ block. (p : ℕ) → p < w → is_one (number block) p ≡ may (first * w + p))
 
 -- A walk at chunk `place` that ends before chunk `last` gave this part, and goes on past it. No block before it may matter.
--- Chunks of which it does not say which blocks may come before chunk `whole`.
-pub record GivesPart {X : Type 0} (w : ℕ) (number : X → ℕ) (is_block : X → Type 0) (may : ℕ → Bool) (place whole last : ℕ)
+-- Chunks of which it does not say which blocks may come before chunk `full`.
+pub record GivesPart {X : Type 0} (w : ℕ) (number : X → ℕ) (is_block : X → Type 0) (may : ℕ → Bool) (place full last : ℕ)
     (first end : ℕ) (used : Option X) : Type 0 where
   pub reached : place ≤ first
   pub within : end ≤ last
   pub passed : Passed may (place * w) (first * w)
-  pub whole : IfNone used (end ≤ whole)
+  pub whole : IfNone used (end ≤ full)
   pub part : IsPart w number is_block may first end used

@@ -98,8 +98,8 @@ fn mismatch_past<B: BitBlock>(own: Listed<B>, others: Listed<B>) -> Option<usize
     requires before { (k : ℕ) → k < min (length own.blocks.now) (length others.blocks.now)
         → get_or (map B.number own.blocks.now) k 0 ≡ get_or (map B.number others.blocks.now) k 0 }
     ensures { MatchOption result
-        ((k : ℕ) → get_or (map B.number own.blocks.now) k 0 ≡ get_or (map B.number others.blocks.now) k 0)
-        (IsFirstBlockMismatch (map B.number own.blocks.now) (map B.number others.blocks.now)) }
+        ((k : ℕ) → get_or (map B.number own.entry.blocks.now) k 0 ≡ get_or (map B.number others.entry.blocks.now) k 0)
+        (IsFirstBlockMismatch (map B.number own.entry.blocks.now) (map B.number others.entry.blocks.now)) }
 {
     let count = own.blocks.len();
     let other_count = others.blocks.len();
@@ -115,8 +115,8 @@ fn mismatch_of_long<B: BitBlock>(own: Listed<B>, others: Listed<B>) -> Option<us
     requires own { IsListed B.width B.number B.is_block own.blocks.now own.summary.now }
     requires others { IsListed B.width B.number B.is_block others.blocks.now others.summary.now }
     ensures { MatchOption result
-        ((k : ℕ) → get_or (map B.number own.blocks.now) k 0 ≡ get_or (map B.number others.blocks.now) k 0)
-        (IsFirstBlockMismatch (map B.number own.blocks.now) (map B.number others.blocks.now)) }
+        ((k : ℕ) → get_or (map B.number own.entry.blocks.now) k 0 ≡ get_or (map B.number others.entry.blocks.now) k 0)
+        (IsFirstBlockMismatch (map B.number own.entry.blocks.now) (map B.number others.entry.blocks.now)) }
 {
     let both = own.blocks.len().min(others.blocks.len());
     let last = block_count::<B>(both);

@@ -53,8 +53,8 @@ fn merge_is_zero<B: BitBlock, O: Operation>(own: Listed<B>, others: Listed<B>) -
     requires others { IsListed B.width B.number B.is_block others.blocks.now others.summary.now }
     requires fits { (n : ℕ)
         → merged_ones O.merge B.width (map B.number own.blocks.now) (map B.number others.blocks.now) 0 n < 2 ^ 64 }
-    ensures { IsTrue result ↔ (merged_ones O.merge B.width (map B.number own.blocks.now) (map B.number others.blocks.now)
-        0 (blocks_for B.width (min (length own.blocks.now) (length others.blocks.now)) * B.width) ≡ 0) }
+    ensures { IsTrue result ↔ (merged_ones O.merge B.width (map B.number own.entry.blocks.now) (map B.number others.entry.blocks.now)
+        0 (blocks_for B.width (min (length own.entry.blocks.now) (length others.entry.blocks.now)) * B.width) ≡ 0) }
 {
     let both = own.blocks.len().min(others.blocks.len());
     let last = block_count::<B>(both);

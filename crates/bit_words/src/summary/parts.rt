@@ -154,6 +154,7 @@ pub(crate) struct Part<B> {
 fn any_of<B: BitBlock, M: Marks<B>>(marks: M, q: usize, count: usize) -> B
     requires right { M.are_right marks }
     requires within { q + count ≤ M.stored marks }
+    requires fits { q + count < 2 ^ 64 }
     ensures of_block { B.is_block result }
     ensures none { B.number result ≡ 0 → Passed (M.may_matter marks) (q * B.width) ((q + count) * B.width) }
 {

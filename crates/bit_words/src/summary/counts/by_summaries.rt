@@ -65,7 +65,7 @@ fn ones_past<B: BitBlock>(list: Listed<B>, first: usize, kept: bool) -> usize
     requires list { IsListed B.width B.number B.is_block list.blocks.now list.summary.now }
     requires short { length list.blocks.now ≤ short_count B.width → length list.blocks.now ≤ first * B.width }
     requires fits { kept ≡ true → ones_in B.number (drop (first * B.width) list.blocks.now) < 2 ^ 64 }
-    ensures { result ≡ (if kept then ones_in B.number (drop (first * B.width) list.blocks.now) else 0) }
+    ensures { result ≡ (if kept then ones_in B.number (drop (first * B.width) list.entry.blocks.now) else 0) }
 {
     if !kept || list.summary.len() <= first {
         return 0;
@@ -82,8 +82,8 @@ fn ones_of_long<B: BitBlock, O: Operation>(own: Listed<B>, others: Listed<B>) ->
     requires others { IsListed B.width B.number B.is_block others.blocks.now others.summary.now }
     requires fits { (n : ℕ)
         → merged_ones O.merge B.width (map B.number own.blocks.now) (map B.number others.blocks.now) 0 n < 2 ^ 64 }
-    ensures { (n : ℕ) → length own.blocks.now ≤ n → length others.blocks.now ≤ n → result
-        ≡ merged_ones O.merge B.width (map B.number own.blocks.now) (map B.number others.blocks.now) 0 n }
+    ensures { (n : ℕ) → length own.entry.blocks.now ≤ n → length others.entry.blocks.now ≤ n → result
+        ≡ merged_ones O.merge B.width (map B.number own.entry.blocks.now) (map B.number others.entry.blocks.now) 0 n }
 {
     let both = own.blocks.len().min(others.blocks.len());
     let last = block_count::<B>(both);
@@ -98,8 +98,10 @@ fn ones_of_long<B: BitBlock, O: Operation>(own: Listed<B>, others: Listed<B>) ->
         ones += ones_of_part::<B, O>(own.blocks, others.blocks, part);
         place = part.end;
     }
-    let own_rest = ones_past(own, last, keeps_own::<B, O>());
-    ones + own_rest + ones_past(others, last, keeps_other::<B, O>())
+    let own_kept = keeps_own::<B, O>();
+    let other_kept = keeps_other::<B, O>();
+    let own_rest = ones_past(own, last, own_kept);
+    ones + own_rest + ones_past(others, last, other_kept)
 }
 
 // The ones of the merge of lists of any length.
@@ -109,8 +111,8 @@ fn ones_by<B: BitBlock, O: Operation>(own: Listed<B>, others: Listed<B>) -> usiz
     requires others { IsListed B.width B.number B.is_block others.blocks.now others.summary.now }
     requires fits { (n : ℕ)
         → merged_ones O.merge B.width (map B.number own.blocks.now) (map B.number others.blocks.now) 0 n < 2 ^ 64 }
-    ensures { (n : ℕ) → length own.blocks.now ≤ n → length others.blocks.now ≤ n → result
-        ≡ merged_ones O.merge B.width (map B.number own.blocks.now) (map B.number others.blocks.now) 0 n }
+    ensures { (n : ℕ) → length own.entry.blocks.now ≤ n → length others.entry.blocks.now ≤ n → result
+        ≡ merged_ones O.merge B.width (map B.number own.entry.blocks.now) (map B.number others.entry.blocks.now) 0 n }
 {
     if is_short::<B>(own.blocks.len().max(others.blocks.len())) {
         count_merged_blocks::<B, O>(own.blocks, others.blocks)

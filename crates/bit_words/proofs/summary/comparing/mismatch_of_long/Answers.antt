@@ -1,4 +1,4 @@
-use Rattle.std.proofs.Common.{◌≡◌, ℕ, ◌+◌, ◌*◌, ◌<◌, ◌≤◌, ◌∙◌, get_or, map, min, ⊎_elim, arith}
+use Rattle.std.proofs.Common.{◌≡◌, ℕ, ◌+◌, ◌*◌, ◌<◌, ◌≤◌, ◌∙◌, get_or, map, min, sym, ⊎_elim, arith}
 use Rattle.std.proofs.lemmas.Bool.{cases_lt}
 use Rattle.bit_blocks.proofs.BitsLemmas.{blocks_for-enough, whole_before}
 use Rattle.bit_words.proofs.ComparedLemmas.{both_zero, from_none}
@@ -18,5 +18,5 @@ mismatch_of_part-found-requires-clause-before g c = λ k below.
 pub loop-part-preserved : goal.loop-part-preserved
 loop-part-preserved g c = record {
   within = c.in-Some.ensures.within;
-  same = from_none c.mismatch_of_part-found.result _ _ (c.is_some.ensures ∙ c.if-is_some.false) c.mismatch_of_part-found.ensures;
+  same = from_none c.mismatch_of_part-found.result _ _ (sym c.is_some.ensures ∙ c.if-is_some.false) c.mismatch_of_part-found.ensures;
 }

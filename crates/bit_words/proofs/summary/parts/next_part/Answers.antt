@@ -3,7 +3,7 @@ use Rattle.bit_words.proofs.PartLemmas.{passed_more}
 use Rattle.bit_words.proofs.summary.parts.next_part.Goals as goal
 
 pub loop-q-init : goal.loop-q-init
-loop-q-init g c = record { passed = c.pass_groups-q-start.ensures.passed }
+loop-q-init g c = record { passed = c.pass_groups-q.ensures.passed }
 
 pub loop-q-preserved : goal.loop-q-preserved
 loop-q-preserved g c =
