@@ -1,4 +1,4 @@
-use Rattle.std.proofs.Common.{◌≡◌, ◌+◌, ◌*◌, ◌≤◌, ◌∙◌, length, map, refl, sym, arith, mul-le-mul_right}
+use Rattle.std.proofs.Common.{◌≡◌, ◌+◌, ◌*◌, ◌≤◌, ◌∙◌, map, refl, sym, arith, mul-le-mul_right}
 use Rattle.std.proofs.lemmas.Bool.{false≢true}
 use Rattle.bit_words.proofs.{MergedOnesLemmas.{merged_empty, merged_le, merged_parts}, PartLemmas.from_if_none}
 use Rattle.bit_words.proofs.summary.inclusion.part_is_zero.Goals as goal

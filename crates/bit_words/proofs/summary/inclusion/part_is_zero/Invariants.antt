@@ -6,4 +6,4 @@ abbrev pub invariant-loop-q : goal.invariant-loop-q
 invariant-loop-q g l =
     let number = g.B.BitBlock.number in
     let w = g.B.BitBlock.width in
-    merged_ones g.O.Operation.merge w (map number l.blocks) (map number l.others) (l.part.first * w) (l.q * w) ≡ 0
+    merged_ones g.O.Operation.merge w (map number l.blocks) (map number l.others) (l.fn.part.first * w) (l.q * w) ≡ 0
