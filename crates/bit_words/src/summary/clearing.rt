@@ -11,6 +11,20 @@ use bit_blocks::packed::resizing::fill_bits;
 
 // The chunks from `first` up to `end` become 0. Blocks that the summary says are 0 are passed over.
 #[inline(never)]
+fn clear_parts<B: BitBlock>(blocks: &mut [B], summary: &[B], first: usize, end: usize)
+    requires forward { first ≤ end }
+    requires in_summary { end ≤ length summary.now }
+    requires each { All B.is_block blocks.old }
+    requires summary { IsSummary B.width B.number B.is_block blocks.old summary.now }
+    ensures { AreCleared B.number B.is_block (first * B.width) (end * B.width) blocks.old blocks.new }
+{
+    let zeros = Zeros {
+        count: blocks.len(),
+    };
+    become_parts(blocks, zeros, summary, first, end);
+}
+
+// Does so with the blocks of a vector.
 pub(crate) fn clear_chunks<B: BitBlock>(
     blocks: &mut Vec<B>,
     summary: &[B],
@@ -24,10 +38,7 @@ pub(crate) fn clear_chunks<B: BitBlock>(
     ensures cleared { AreCleared B.number B.is_block (first * B.width) (end * B.width) blocks.old.items blocks.new.items }
     ensures in_place { WritesInPlace B.is_block blocks.old blocks.new }
 {
-    let zeros = Zeros {
-        count: blocks.len(),
-    };
-    become_parts(blocks.as_mut_slice(), zeros, summary, first, end);
+    clear_parts(blocks.as_mut_slice(), summary, first, end);
 }
 
 // The blocks of a list that stores a summary become those of as many values `bit`.

@@ -23,7 +23,9 @@ become_part-requires g c =
       can = record { fewer = omega (arith, c.requires.can.fewer, is.len); each = is.each; others = c.requires.can.others };
       fits = omega (arith, c.requires.fits, is.len);
       forward = found.part.some;
-      in_others = if_none _ _ _ (λ within. (le-div_iff_mul-le g.met.B.BitBlock.width_law.positive).0 (omega (arith, within, c.min-whole.ensures, c.block_index.ensures, c.len.ensures.value))) found.whole;
+      in_others = if_none _ _ _ (λ within.
+          let inside : c.in-Some.part.end * w ≤ c.len.result = (le-div_iff_mul-le g.met.B.BitBlock.width_law.positive).0 (omega (arith, within, c.min-whole.ensures, c.block_index.ensures)) in
+          omega (arith, inside, c.len.ensures.value)) found.whole;
       single = found.part.single;
       of_used = found.part.of_block;
       inside = if_some _ _ _ (λ used digits p within one. c.requires.inside (first * w + p) (sym (digits p within) ∙ one)) found.part.digit;
@@ -47,3 +49,10 @@ loop-part-preserved g c =
           ap (λ m. is_one m j) (is.after k reached) ∙ c.requires.same k j (omega (arith, below, upto)) (found.passed k reached below) index))
           c.become_part.ensures;
     }
+
+pub returns : goal.returns
+returns g c =
+    let w = g.B.BitBlock.width in
+    let is = c.loop-part.invariant.has in
+    become_past g.B.BitBlock.number g.B.BitBlock.is_block w _ _ _ _ _ _ (mul-le-mul_right w c.loop-part.invariant.within) is (λ k j reached below index.
+    ap (λ m. is_one m j) (is.after k reached) ∙ c.requires.same k j below (c.in_default.ensures k reached below) index)

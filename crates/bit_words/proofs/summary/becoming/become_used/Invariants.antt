@@ -4,8 +4,8 @@ use Rattle.bit_words.proofs.TouchedLemmas.{ones_of_first}
 use Rattle.bit_words.proofs.summary.becoming.become_used.Given as goal
 
 -- those of the chunk at which `left` has a 0 are the others
-abbrev pub invariant-loop-left : goal.invariant-loop-left
-invariant-loop-left g l =
+abbrev pub invariant-loop-others : goal.invariant-loop-others
+invariant-loop-others g l =
     let w = g.B.BitBlock.width in
     let number = g.B.BitBlock.number in
     record {
@@ -18,5 +18,5 @@ invariant-loop-left g l =
       len : length l.blocks ≡ length l.fn.blocks;
     }
 
-abbrev pub decreases-loop-left : goal.decreases-loop-left
-decreases-loop-left g l = ones_of_first (g.B.BitBlock.number l.left) g.B.BitBlock.width
+abbrev pub decreases-loop-others : goal.decreases-loop-others
+decreases-loop-others g l = ones_of_first (g.B.BitBlock.number l.left) g.B.BitBlock.width
