@@ -169,13 +169,10 @@ public:
     bool is_disjoint(const BitRoaring &other) const { return bit_roaring_is_disjoint(set_, other.set_); }
 
     // The bytes of the set in the portable form; the set that the first bytes represent, and in `used`, if it is given, how
-    // many bytes that are.
+    // many bytes that are. The pointer must not be null, even if there are no bytes.
     std::vector<std::uint8_t> serialize() const {
-        // One byte more, since the pointer to the bytes of an empty vector may be null.
-        std::size_t size = bit_roaring_serialized_size(set_);
-        std::vector<std::uint8_t> bytes(size + 1);
-        require(bit_roaring_serialize(set_, bytes.data(), size) == BIT_ROARING_YES);
-        bytes.pop_back();
+        std::vector<std::uint8_t> bytes(bit_roaring_serialized_size(set_));
+        require(bit_roaring_serialize(set_, bytes.data(), bytes.size()) == BIT_ROARING_YES);
         return bytes;
     }
     static BitRoaring deserialize(const std::uint8_t *bytes, std::size_t count, std::size_t *used = nullptr) {
