@@ -1,7 +1,7 @@
 /* Sets of 32-bit numbers that stay small if their members are few and far apart. README.md of crates/bit_roaring_c says what
- * is proved, and how to link it. The numbers with the same upper 16 bits are in one
- * container: a list, blocks of bits, or runs. The bytes that `bit_roaring_serialize` writes are those of the portable form
- * that other Roaring bitmaps read and write.
+ * is proved, and how to link it. The numbers with the same upper 16 bits are in one container: a list, blocks of bits, or
+ * runs. The bytes that `bit_roaring_serialize` writes are those of the portable form that other Roaring bitmaps read and
+ * write.
  *
  *   Making and freeing      new, from_members, clone, union, intersection, difference, symmetric_difference, free
  *   Single numbers          insert, insert_members, push, append_members, remove, contains
