@@ -1,6 +1,7 @@
 // Whole blocks that are appended, or copied from another list. The vector keeps its capacity: std says so of
 // `push_reserved` and of `copy_from_slice`, but not of `resize` and `extend_from_slice`.
 ghost use Rattle.std.specs.Prelude.{◌≡◌, ◌+◌, ◌-◌, ◌<◌, ◌≤◌, ◌++◌, All, IfOk, IsOk, length, map, replicate, vec_len, vec_capacity};
+ghost use Rattle.bit_blocks.specs.Written.{HasBlocks};
 
 use crate::block::BitBlock;
 use crate::packed::groups::BULK_WRITE;
@@ -16,9 +17,7 @@ fn with_copies<B: BitBlock>(mut blocks: Vec<B>, count: usize, block: B) -> Vec<B
     requires of_block { B.is_block block }
     ensures numbers { map B.number result.items
         ≡ map B.number blocks.items ++ replicate (count - vec_len blocks) (B.number block) }
-    ensures each { All B.is_block result.items }
-    ensures len { vec_len result ≡ count }
-    ensures capacity { vec_capacity result ≡ vec_capacity blocks }
+    ensures has { HasBlocks B.is_block count (vec_capacity blocks) result }
 {
     for _ in blocks.len()..count {
         blocks.push_reserved(block);

@@ -16,13 +16,13 @@ merge_with_ones-requires-clause-forward g c =
 pub merge_with_ones-requires-clause-within : goal.merge_with_ones-requires-clause-within
 merge_with_ones-requires-clause-within g c =
     let w = g.B.BitBlock.width in
-    rw c.merge_mask-2.ensures.len (end_within w c.args.end c.block_index-last.result _ _ g.met.B.BitBlock.width_law.positive
+    rw c.merge_mask-2.ensures.written.len (end_within w c.args.end c.block_index-last.result _ _ g.met.B.BitBlock.width_law.positive
     (parts w c.args.end c.block_index-last.result _ c.block_index-last.ensures c.bit_index-high.ensures.value) c.requires.within)
 
 pub merge_mask-requires-then-high-ne0-clause-in_bounds : goal.merge_mask-requires-then-high-ne0-clause-in_bounds
 merge_mask-requires-then-high-ne0-clause-in_bounds g c =
     let w = g.B.BitBlock.width in
-    rw (c.merge_with_ones.ensures.len, c.merge_mask-2.ensures.len)
+    rw (c.merge_with_ones.ensures.written.len, c.merge_mask-2.ensures.written.len)
     (lt_of_mul-lt-mul_right w
     (omega (arith, parts w c.args.end c.block_index-last.result _ c.block_index-last.ensures c.bit_index-high.ensures.value)))
 
