@@ -5,6 +5,7 @@ pub mod Bits
 pub mod Searches
 pub mod Storage
 pub mod Written
+pub mod Places
 pub mod Shifts
 pub mod Bytes
 pub mod Steps

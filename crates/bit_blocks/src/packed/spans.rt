@@ -7,7 +7,7 @@ use crate::block::BitBlock;
 use crate::block::masks::{ones_between, ones_from};
 use crate::block::operation::Operation;
 use crate::block::operators::{all_ones, ones_below};
-use crate::packed::access::{bit_index, block_at, block_index, put_in};
+use crate::packed::access::{block_at, place_of, put_in};
 
 // Block `k` becomes its merge with the mask.
 #[inline]
@@ -53,10 +53,8 @@ fn merge_in<B: BitBlock, O: Operation>(blocks: &mut [B], start: usize, end: usiz
     ensures span { IsMergedSpan O.merge B.width start end (map B.number blocks.old) (map B.number blocks.new) }
     ensures written { WritesBlocks B.is_block blocks.old blocks.new }
 {
-    let first = block_index::<B>(start);
-    let last = block_index::<B>(end);
-    let low = bit_index::<B>(start);
-    let high = bit_index::<B>(end);
+    let (first, low) = place_of::<B>(start);
+    let (last, high) = place_of::<B>(end);
     if first == last {
         merge_mask::<B, O>(blocks, first, ones_between(low, high));
         return;
