@@ -21,8 +21,8 @@ returns-clause-elements g c =
 pub returns-clause-members : goal.returns-clause-members
 returns-clause-members g c = members_part c.args.range.start c.args.range.end (elements c.args.self.now.values) _ (returns-clause-elements g c)
 
-pub returns-clause-capacity : goal.returns-clause-capacity
-returns-clause-capacity g c =
+pub returns-clause-size : goal.returns-clause-size
+returns-clause-size g c =
     let long : length c.in_ok-bits.bits.values ≡ c.min-end.result = length-part c.args.range.start c.min-end.result c.self.inside.bits.values c.in_ok-bits.bits.values
     (omega (arith, c.if-range-end.false)) (omega (arith, c.min-end.ensures, c.len.ensures.value)) c.in_ok-bits.ensures.values in
     c.in_ok-bits.ensures.capacity ∙ ap (λ n. capacity_of g.B.BitBlock.width (blocks_for g.B.BitBlock.width n)) (sym long)

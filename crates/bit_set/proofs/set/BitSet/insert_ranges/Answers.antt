@@ -48,7 +48,7 @@ pub items-preserved : goal.items-preserved
 items-preserved g c =
     let at = goal.at.items-preserved g c in
     let end = within g at.After-insert_range (fills g at.After-first_item) in
-    let long = rw c.unwrap.ensures at c.insert_range.ensures.length in
+    let long = rw c.unwrap.ensures at c.insert_range.ensures.grows.long in
     record {
       fills = fills_more c.args.text.now c.first_item.result.0.now _ _ _ _ c.unwrap-range.result
           (fills g at.After-first_item) (sym c.read_range.ensures ∙ c.unwrap-range.ensures)
