@@ -41,7 +41,7 @@ spelled (Err fault) = negsuc 0
 
 -- Such an answer says whether the members changed, which were `old` and are `new`, and is the one number that says so.
 pub record TellsChange (answer : ℤ) (old new : List ℕ) : Type 0 where
-  pub changed : IfOk (changed answer) (λ it. it ≡ not (same_sets old new))
+  pub told : IfOk (changed answer) (λ it. it ≡ not (same_sets old new))
   pub unchanged : IfOk (changed answer) (λ it. it ≡ false → new ≡ old)
   pub exact : answer ≡ spelled (changed answer)
 
