@@ -25,5 +25,12 @@ loop-k-preserved g c =
       len = c.put_in.ensures.len ∙ before.len;
     }
 
-pub returns-clause-merged : goal.returns-clause-merged
-returns-clause-merged g c = let end : c.loop-k.k ≡ c.args.count = omega arith in rw end at c.loop-k.invariant.merged
+pub returns : goal.returns
+returns g c =
+    let end : c.loop-k.k ≡ c.args.count = omega arith in
+    record {
+      merged = rw end at c.loop-k.invariant.merged;
+      unchanged = ?;
+      each = c.loop-k.invariant.each;
+      len = c.loop-k.invariant.len;
+    }

@@ -1,5 +1,5 @@
 use Rattle.std.proofs.Common.{◌≡◌, ◌/◌, ◌<◌, map, ◌∙◌, ap, refl, arith}
-use Rattle.bit_matrix.proofs.TransposeLemmas.{lower_fits, lower_is, lower_within, no_rows, pairs_exchanged, rows_apart, rows_more, upper_within}
+use Rattle.bit_matrix.proofs.{SquareLemmas.written_on, TransposeLemmas.{lower_fits, lower_is, lower_within, no_rows, pairs_exchanged, rows_apart, rows_more, upper_within}}
 use Rattle.bit_matrix.proofs.squares.exchange_squares.Goals as goal
 
 pub overflow_mul-row-in-loop-i : goal.overflow_mul-row-in-loop-i
@@ -23,7 +23,7 @@ overflow_mul-upper g c =
     let many : 0 < c.args.count = omega (arith, c.requires.square) in
     let first = rows_apart w c.args.size c.args.count c.requires.size many c.requires.whole c.loop-i.i c.args.a c.args.b inside c.requires.order c.requires.square c.args.stride in
     let fits = lower_fits w c.args.size c.args.count c.requires.size many c.requires.whole c.loop-i.i c.args.a c.args.b inside c.requires.order c.requires.square c.args.stride in
-    omega (arith, first, fits, c.requires.long)
+    omega (arith, first, fits, c.requires.strip.long)
 
 pub overflow_add-lower : goal.overflow_add-lower
 overflow_add-lower g c =
@@ -41,7 +41,7 @@ overflow_mul-lower g c =
     let fits = lower_fits w c.args.size c.args.count c.requires.size
     (omega (arith, c.requires.square)) c.requires.whole c.loop-i.i c.args.a c.args.b inside c.requires.order
     c.requires.square c.args.stride in
-    omega (arith, fits, c.requires.long)
+    omega (arith, fits, c.requires.strip.long)
 
 pub exchange_rows-requires-clause-apart : goal.exchange_rows-requires-clause-apart
 exchange_rows-requires-clause-apart g c =
@@ -56,7 +56,7 @@ exchange_rows-requires-clause-inside g c =
     let fits = lower_fits w c.args.size c.args.count c.requires.size
     (omega (arith, c.requires.square)) c.requires.whole c.loop-i.i c.args.a c.args.b inside c.requires.order
     c.requires.square c.args.stride in
-    omega (arith, fits, c.requires.long, c.loop-i.invariant.len)
+    omega (arith, fits, c.requires.strip.long, c.loop-i.invariant.written.len)
 
 pub exchange_rows-requires-clause-within : goal.exchange_rows-requires-clause-within
 exchange_rows-requires-clause-within g c =
@@ -68,7 +68,7 @@ exchange_rows-requires-clause-within g c =
     omega (arith, is, within)
 
 pub loop-i-init : goal.loop-i-init
-loop-i-init g c = record { rows = no_rows _ _ _ _ _ _ _ _ _; each = c.requires.each; len = refl }
+loop-i-init g c = record { rows = no_rows _ _ _ _ _ _ _ _ _; written = record { each = c.requires.strip.each; len = refl } }
 
 pub loop-i-preserved : goal.loop-i-preserved
 loop-i-preserved g c =
@@ -80,8 +80,7 @@ loop-i-preserved g c =
       rows = rows_more w c.args.stride c.args.size c.args.count c.args.a c.args.b _ _ c.loop-i.i (map f c.args.blocks.now)
           (map f c.loop-i.blocks) (map f c.exchange_rows.new.blocks) c.requires.size c.requires.order c.requires.square
           c.loop-i.invariant.rows (rw is at c.exchange_rows.ensures.exchanged);
-      each = c.exchange_rows.ensures.each;
-      len = c.exchange_rows.ensures.len ∙ c.loop-i.invariant.len;
+      written = written_on _ _ _ _ c.loop-i.invariant.written c.exchange_rows.ensures.written;
     }
 
 pub returns-clause-exchanged : goal.returns-clause-exchanged
