@@ -8,6 +8,9 @@ use Rattle.bit_matrix.specs.Matrices.{ChangesRow, HasTurnedShape, KeepsShape, Ma
 pub shape_on : (a b d : Matrix) → KeepsShape a b → KeepsShape b d → KeepsShape a d
 shape_on a b d first second = record { rows = second.rows ∙ first.rows; columns = second.columns ∙ first.columns }
 
+pub shape_of_row : (a b : Matrix) (r : ℕ) (f : ℕ → Bool) → ChangesRow a b r f → KeepsShape a b
+shape_of_row a b r f changes = record { rows = changes.rows; columns = changes.columns }
+
 pub turned_on : (m a b : Matrix) → HasTurnedShape m a → KeepsShape a b → HasTurnedShape m b
 turned_on m a b first second = record { rows = second.rows ∙ first.rows; columns = second.columns ∙ first.columns }
 
