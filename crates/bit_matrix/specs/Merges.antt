@@ -25,11 +25,11 @@ pub record AreApart (read write count : ℕ) : Type 0 where
   pub apart : (read ≡ write) ⊎ (read + count ≤ write ⊎ write + count ≤ read)
 
 -- The blocks xs can be merged with the others, which are no more, while one more block says whether one changed.
-pub record CanTrack {X : Type 0} (is_block : X → Type 0) (xs os : List X) (seen : X) : Type 0 where
+pub record CanTrack {X : Type 0} (is_block : X → Type 0) (xs os : List X) (block : X) : Type 0 where
   pub fewer : length os ≤ length xs
   pub each : All is_block xs
   pub others : All is_block os
-  pub seen : is_block seen
+  pub seen : is_block block
 
 -- Block k of xs is merged with that of os. A second block is 0 now just where it was, and block k stays.
 pub record IsTrackedBlock {X : Type 0} (merge : Merge) (w : ℕ) (number : X → ℕ) (is_block : X → Type 0) (k : ℕ)

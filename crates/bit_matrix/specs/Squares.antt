@@ -13,9 +13,9 @@ pub record IsStrip {X : Type 0} (is_block : X → Type 0) (w width : ℕ) (xs : 
   pub long : length xs ≡ w * width
 
 -- They are so many rows of as many blocks each, of which k is an index.
-pub record HasColumn {X : Type 0} (is_block : X → Type 0) (rows stride k : ℕ) (xs : List X) : Type 0 where
+pub record HasColumn {X : Type 0} (is_block : X → Type 0) (count stride k : ℕ) (xs : List X) : Type 0 where
   pub each : All is_block xs
-  pub rows : length xs ≡ rows * stride
+  pub rows : length xs ≡ count * stride
   pub within : k < stride
 
 -- digit c of block g of row i, where each row has so many blocks

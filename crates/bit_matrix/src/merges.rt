@@ -133,7 +133,8 @@ pub(crate) fn merge_others<B: BitBlock, O: Operation>(
     requires in_write { write + length others.now ≤ length blocks.old }
     requires each { All B.is_block blocks.old }
     requires others { All B.is_block others.now }
-    ensures { MergesPart O.merge B.width B.number B.is_block 0 write (length others.now) blocks.old others.now blocks.new result }
+    ensures { MergesPart O.merge B.width B.number B.is_block 0 write (length others.now) blocks.old others.now blocks.new
+        result }
 {
     let (_, back) = blocks.split_at_mut(write);
     let (part, _) = back.split_at_mut(others.len());
