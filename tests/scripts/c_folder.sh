@@ -49,7 +49,7 @@ echo '// mark: 2' | tee "$library/crates/bit_blocks/src/lib.rt" > "$library/crat
 echo '/* later */' >> "$c/bit_set.h"
 finish "$begun"
 expect "bindings/c/build with an edit meanwhile ends with $ended: $(tail -n 1 "$room/said")" ends_with 0
-expect 'bindings/c/build takes the header of a later text' not grep -q later "$room/moment/bit_set.h"
+expect 'bindings/c/build takes the header of a later text' not grep -qF '/* later */' "$room/moment/bit_set.h"
 for text in 'bit_blocks: 1' 'bit_set_c: 1'; do
     expect "bindings/c/build takes sources of a later text than $text" grep -qx "$text" "$STAND_INS/marks.bit_set_c"
 done
