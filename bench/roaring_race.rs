@@ -1,8 +1,8 @@
 //! Times Roaring bitmaps of this repository beside CRoaring, as Debian builds it and as it is built here, beside this
 //! repository's sets of bits and beside `BTreeSet`, over five inputs; and prints how many bytes each holds. Ends with
 //! status 1 if two sides give different results.
-#[path = "../diff/roaring/croaring.rs"]
 mod calls;
+#[path = "../diff/roaring/croaring.rs"]
 mod croaring;
 mod inputs;
 mod memory;
