@@ -1,5 +1,6 @@
 pub mod Answers
 pub mod Block
+pub mod Copies
 pub mod Handed
 pub mod Hash
 pub mod Lends
