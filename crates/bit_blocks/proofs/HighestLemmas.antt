@@ -32,6 +32,24 @@ highest_by_zeros k m pos fits =
     let same : found.0 ≡ bit_xor zeros (2 ^ k - 1) = omega (arith, found.1, few, xor_add_and zeros (2 ^ k - 1), and_mask zeros k, mod-eq_of_lt few) in
     (omega (arith, found.1, same), subst (IsHighest m) same found.2)
 
+-- those of the integers
+pub highest_of_8 : (m : ℕ) → 0 < m → m < 2 ^ 8 → (bit_xor (count_leading_zeros 8 m) 7 < 8) × IsHighest m (bit_xor (count_leading_zeros 8 m) 7)
+highest_of_8 = highest_by_zeros 3
+
+pub highest_of_16 : (m : ℕ) → 0 < m → m < 2 ^ 16 → (bit_xor (count_leading_zeros 16 m) 15 < 16) × IsHighest m (bit_xor (count_leading_zeros 16 m) 15)
+highest_of_16 = highest_by_zeros 4
+
+pub highest_of_32 : (m : ℕ) → 0 < m → m < 2 ^ 32 → (bit_xor (count_leading_zeros 32 m) 31 < 32) × IsHighest m (bit_xor (count_leading_zeros 32 m) 31)
+highest_of_32 = highest_by_zeros 5
+
+pub highest_of_64 : (m : ℕ) → 0 < m → m < 2 ^ 64 → (bit_xor (count_leading_zeros 64 m) 63 < 64) × IsHighest m (bit_xor (count_leading_zeros 64 m) 63)
+highest_of_64 = highest_by_zeros 6
+
+pub highest_of_128 : (m : ℕ) → 0 < m → m < 2 ^ 128 → (bit_xor (count_leading_zeros 128 m) 127 < 128) × IsHighest m (bit_xor (count_leading_zeros 128 m) 127)
+highest_of_128 = highest_by_zeros 7
+
+pub ruleset highest_ones = (highest_of_8, highest_of_16, highest_of_32, highest_of_64, highest_of_128)
+
 pub highest_within : (w m i : ℕ) → m < 2 ^ w → IsHighest m i → i < w
 highest_within w m i fits high = grind (arith, bit_at_above m w i fits, high.one)
 

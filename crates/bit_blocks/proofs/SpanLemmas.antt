@@ -2,45 +2,44 @@
 use Rattle.std.proofs.Common.{◌≡◌, ◌≢◌, ℕ, suc, ◌+◌, ◌-◌, ◌*◌, ◌/◌, ◌%◌, ◌^◌, ◌<◌, ◌≤◌, ◌↔◌, Bool, true, false, ◌&&◌, nat_lt}
 use Rattle.std.proofs.Common.{nat_le, List, get_or, refl, sym, ap, ◌∙◌, arith, mod-lt, div-add-mod', lt_of_mul-lt-mul_right}
 use Rattle.std.proofs.lemmas.{Bool.Decides.nat_tests, Nat.div-mul-add}
-use Rattle.bit_blocks.specs.{declared.block.merge.Merge.Merge, BlockMerges.{IsMergedSpan, MergesSpanToFalse}, Digits.is_one, Merges.merge_of_values, Storage.value_at}
+use Rattle.bit_blocks.specs.{declared.block.merge.Merge.Merge, BlockMerges.{IsMergedSpan, MergesSpanToFalse}, Digits.is_one, Merges.merge_of_values, Places.IsPlace, Storage.value_at}
 use Rattle.bit_blocks.proofs.{ChangeLemmas.div_le, Masks.is_one-ones, MergeLemmas.merge_of_values-none, StorageLemmas.{value_at-index, value_at-is}}
 
 -- an index in a block
 pub in_block : (w k i : ℕ) → k * w ≤ i → i < k * w + w → i / w ≡ k
 in_block w k i from to = ap (λ x. x / w) (let e : i ≡ k * w + (i - k * w) = omega arith in e) ∙ div-mul-add k w (i - k * w) (omega arith)
 
--- an index, by its block and its place there
-pub parts : (w i k p : ℕ) → k ≡ i / w → p ≡ i % w → i ≡ k * w + p
-parts w i k p block place = sym (div-add-mod' i w) ∙ rw (block, place) refl
+-- the block of a place
+block_of : (w i k p : ℕ) → IsPlace w i k p → i / w ≡ k
+block_of w i k p is = ap (λ x. x / w) is.whole ∙ div-mul-add k w p is.within
 
 -- the last block of a span, where it is not the first
-pub past_first : (w a b k q : ℕ) → 0 < w → k ≡ a / w → q ≡ b / w → a < b → k ≢ q → k + 1 ≤ q
-past_first w a b k q pos first last some other = omega (arith, div_le w a b pos (omega arith))
+pub past_first : (w a b k p q r : ℕ) → IsPlace w a k p → IsPlace w b q r → a < b → k ≢ q → k + 1 ≤ q
+past_first w a b k p q r first last some other = omega (arith, div_le w a b (omega (arith, first.within)) (omega arith), block_of w a k p first, block_of w b q r last)
 
 -- the blocks before the end of a span are blocks of the list
-pub end_within : (w b q p n : ℕ) → 0 < w → b ≡ q * w + p → b ≤ n * w → q ≤ n
-end_within w b q p n pos end within =
-    let l : q < suc n = lt_of_mul-lt-mul_right w (let e : q * w < suc n * w = omega arith in e) in
+pub end_within : (w b q p n : ℕ) → IsPlace w b q p → b ≤ n * w → q ≤ n
+end_within w b q p n end within =
+    let l : q < suc n = lt_of_mul-lt-mul_right w (let e : q * w < suc n * w = omega (arith, end.whole, end.within) in e) in
     omega arith
+
+-- and so is the one that it begins in
+pub starts_within : (w a k p n : ℕ) → IsPlace w a k p → a < n * w → k < n
+starts_within w a k p n start within = lt_of_mul-lt-mul_right w (let e : k * w < n * w = omega (arith, start.whole) in e)
 
 -- ---- masks, whose ones are a span of block k
 
-ones_span : (w k a b p q x : ℕ) → a ≡ k * w + p → b ≡ k * w + q → ((j : ℕ) → j < w → is_one x j ≡ (nat_lt j q && nat_le p j))
+pub ones_span : (w k a b p q x : ℕ) → a ≡ k * w + p → b ≡ k * w + q → ((j : ℕ) → j < w → is_one x j ≡ (nat_lt j q && nat_le p j))
     → (j : ℕ) → j < w → is_one x j ≡ (nat_le a (k * w + j) && nat_lt (k * w + j) b)
 ones_span w k a b p q x start end digits j index = digits j index ∙ grind (arith, nat_tests)
 
-pub mask_between : (w a b k p q x : ℕ) → k ≡ a / w → k ≡ b / w → p ≡ a % w → q ≡ b % w
-    → ((j : ℕ) → j < w → is_one x j ≡ (nat_lt j q && nat_le p j)) → (j : ℕ) → j < w
-    → is_one x j ≡ (nat_le a (k * w + j) && nat_lt (k * w + j) b)
-mask_between w a b k p q x first last low high digits = ones_span w k a b p q x (parts w a k p first low) (parts w b k q last high) digits
+pub mask_from : (w a k p x : ℕ) → a ≡ k * w + p → ((j : ℕ) → j < w → is_one x j ≡ nat_le p j) → (j : ℕ) → j < w → is_one x j ≡ (nat_le a (k * w + j) && nat_lt (k * w + j) ((k + 1) * w))
+mask_from w a k p x start digits =
+    ones_span w k a ((k + 1) * w) p w x start (omega arith) (λ j index. digits j index ∙ grind (arith, nat_tests))
 
-pub mask_from : (w a k p x : ℕ) → k ≡ a / w → p ≡ a % w → ((j : ℕ) → j < w → is_one x j ≡ nat_le p j) → (j : ℕ) → j < w → is_one x j ≡ (nat_le a (k * w + j) && nat_lt (k * w + j) ((k + 1) * w))
-mask_from w a k p x first low digits =
-    ones_span w k a ((k + 1) * w) p w x (parts w a k p first low) (omega arith) (λ j index. digits j index ∙ grind (arith, nat_tests))
-
-pub mask_below : (w b k q x : ℕ) → k ≡ b / w → q ≡ b % w → x ≡ 2 ^ q - 1 → (j : ℕ) → j < w → is_one x j ≡ (nat_le (k * w) (k * w + j) && nat_lt (k * w + j) b)
-mask_below w b k q x last high ones =
-    ones_span w k (k * w) b 0 q x (omega arith) (parts w b k q last high) (λ j _. is_one-ones x q j ones ∙ grind (arith, nat_tests))
+pub mask_below : (w b k q x : ℕ) → b ≡ k * w + q → x ≡ 2 ^ q - 1 → (j : ℕ) → j < w → is_one x j ≡ (nat_le (k * w) (k * w + j) && nat_lt (k * w + j) b)
+mask_below w b k q x end ones =
+    ones_span w k (k * w) b 0 q x (omega arith) end (λ j _. is_one-ones x q j ones ∙ grind (arith, nat_tests))
 
 pub mask_whole : (w k x : ℕ) → x ≡ 2 ^ w - 1 → (j : ℕ) → j < w → is_one x j ≡ (nat_le (k * w) (k * w + j) && nat_lt (k * w + j) ((k + 1) * w))
 mask_whole w k x ones =

@@ -4,6 +4,8 @@ pub mod DigitLaws
 pub mod Bits
 pub mod Searches
 pub mod Storage
+pub mod Written
+pub mod Places
 pub mod Shifts
 pub mod Bytes
 pub mod Steps

@@ -3,7 +3,7 @@
 // repository writes.
 // The highest 1 is found by flipping the digits of the count of leading zeros: of a difference LLVM makes a shift of the
 // sign bit, where the 1 is cleared too, and of this the one instruction that clears a bit.
-#![tactic(auto, using(crate::specs::DigitLaws::shifted_left, crate::specs::DigitLaws::shifted_right))]
+#![tactic(auto, using(crate::specs::DigitLaws::shifted_left, crate::specs::DigitLaws::shifted_right, crate::proofs::HighestLemmas::highest_ones))]
 
 ghost use Rattle.std.{specs.Prelude.{◌^◌, ◌<◌, refl}, proofs.Common.lit<};
 ghost use Rattle.bit_blocks.specs.DigitLaws.{both, either, different, complement, added, subtracted, compared};

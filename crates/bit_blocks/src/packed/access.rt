@@ -1,7 +1,7 @@
 // Reads and writes of a vector of blocks, each by what it does to the bit at every index. They keep its length and
 // capacity unless they say otherwise, and know nothing of how many bits it holds.
 ghost use Rattle.std.specs.Prelude.{◌≡◌, ◌≢◌, ℕ, ◌<◌, ◌≤◌, ◌/◌, ◌%◌, ◌==◌, ◌&&◌, ◌||◌, All, length, map, set, get_or, nat_lt, nat_le, vec_len};
-ghost use Rattle.bit_blocks.specs.{Bits.blocks_for, Digits.is_one, Storage.{value_at, FillsFirst, WritesInPlace, WritesValue}};
+ghost use Rattle.bit_blocks.specs.{Bits.blocks_for, Digits.is_one, Places.IsPlace, Storage.{value_at, FillsFirst, WritesInPlace, WritesValue}, Written.WritesBlocks};
 
 use crate::block::BitBlock;
 use crate::block::masks::{with_bit, with_ones_between, with_ones_from, with_zeros_from};
@@ -43,6 +43,14 @@ pub fn bit_index<B: BitBlock>(i: usize) -> usize
     ensures within { result < B.width }
 {
     i % B::bits()
+}
+
+// The index of the block of bit `i`, and the bit's own in it.
+#[inline]
+pub(crate) fn place_of<B: BitBlock>(i: usize) -> (usize, usize)
+    ensures { IsPlace B.width i result.0 result.1 }
+{
+    (block_index::<B>(i), bit_index::<B>(i))
 }
 
 /// The block with this index, which must be below their number. Constant time.
@@ -208,8 +216,7 @@ fn fill_slice<B: BitBlock>(blocks: &mut [B], count: usize, block: B)
     requires each { All B.is_block blocks.old }
     requires of_block { B.is_block block }
     ensures fills { FillsFirst (map B.number blocks.old) (map B.number blocks.new) count (B.number block) }
-    ensures each { All B.is_block blocks.new }
-    ensures len { length blocks.new ≡ length blocks.old }
+    ensures written { WritesBlocks B.is_block blocks.old blocks.new }
 {
     for k in 0..count {
         put_in(blocks, k, block);

@@ -1,6 +1,7 @@
 // Whole blocks that are appended, or copied from another list. The vector keeps its capacity: std says so of
 // `push_reserved` and of `copy_from_slice`, but not of `resize` and `extend_from_slice`.
 ghost use Rattle.std.specs.Prelude.{◌≡◌, ◌+◌, ◌-◌, ◌<◌, ◌≤◌, ◌++◌, All, IfOk, IsOk, length, map, replicate, vec_len, vec_capacity};
+ghost use Rattle.bit_blocks.specs.Written.{HasBlocks, Holds};
 
 use crate::block::BitBlock;
 use crate::packed::groups::BULK_WRITE;
@@ -16,9 +17,7 @@ fn with_copies<B: BitBlock>(mut blocks: Vec<B>, count: usize, block: B) -> Vec<B
     requires of_block { B.is_block block }
     ensures numbers { map B.number result.items
         ≡ map B.number blocks.items ++ replicate (count - vec_len blocks) (B.number block) }
-    ensures each { All B.is_block result.items }
-    ensures len { vec_len result ≡ count }
-    ensures capacity { vec_capacity result ≡ vec_capacity blocks }
+    ensures has { HasBlocks B.is_block count (vec_capacity blocks) result }
 {
     for _ in blocks.len()..count {
         blocks.push_reserved(block);
@@ -58,9 +57,7 @@ pub fn push_copies<B: BitBlock>(blocks: &mut Vec<B>, count: usize, block: B)
 // The blocks with `more` after them. There is capacity for them. The loop owns the vector, as above.
 fn with_blocks<B: BitBlock>(mut blocks: Vec<B>, more: &[B]) -> Vec<B>
     requires { vec_len blocks + length more.now ≤ vec_capacity blocks }
-    ensures items { result.items ≡ blocks.items ++ more.now }
-    ensures len { vec_len result ≡ vec_len blocks + length more.now }
-    ensures capacity { vec_capacity result ≡ vec_capacity blocks }
+    ensures { Holds (blocks.items ++ more.now) (vec_len blocks + length more.now) (vec_capacity blocks) result }
 {
     for block in more {
         blocks.push_reserved(*block);
@@ -112,9 +109,8 @@ pub fn copy_of<B: BitBlock>(alloc: Global, blocks: &[B]) -> Result<Vec<B>, Alloc
 #[inline]
 fn push_each<B: BitBlock>(blocks: &mut Vec<B>, more: &[B])
     requires { vec_len blocks.old + length more.now ≤ vec_capacity blocks.old }
-    ensures items { blocks.new.items ≡ blocks.old.items ++ more.now }
-    ensures len { vec_len blocks.new ≡ vec_len blocks.old + length more.now }
-    ensures capacity { vec_capacity blocks.new ≡ vec_capacity blocks.old }
+    ensures { Holds (blocks.old.items ++ more.now) (vec_len blocks.old + length more.now) (vec_capacity blocks.old)
+        blocks.new }
 {
     for block in more {
         blocks.push_reserved(*block);
@@ -125,9 +121,7 @@ fn push_each<B: BitBlock>(blocks: &mut Vec<B>, more: &[B])
 #[inline(never)]
 fn copy_other_count<B: BitBlock>(blocks: &mut Vec<B>, from: &[B])
     requires { length from.now ≤ vec_capacity blocks.old }
-    ensures items { blocks.new.items ≡ from.now }
-    ensures len { vec_len blocks.new ≡ length from.now }
-    ensures capacity { vec_capacity blocks.new ≡ vec_capacity blocks.old }
+    ensures { Holds from.now (length from.now) (vec_capacity blocks.old) blocks.new }
 {
     blocks.truncate(from.len());
     let written_over = blocks.len();

@@ -1,6 +1,6 @@
 // A list of bits that grows, is cut or is filled: the bits past its length stay 0. Memory is allocated elsewhere.
 ghost use Rattle.std.specs.Prelude.{◌≡◌, ℕ, ◌-◌, ◌/◌, ◌<◌, ◌≤◌, All, IfOk, IsOk, false, nat_lt, map, take, vec_len, vec_capacity};
-ghost use Rattle.bit_blocks.specs.{Bits.blocks_for, Storage.{value_at, IsPacked, WritesInPlace}};
+ghost use Rattle.bit_blocks.specs.{Bits.blocks_for, Storage.{value_at, IsPacked, WritesInPlace}, Written.HasBlocks};
 
 use crate::block::BitBlock;
 use crate::block::operators::{all_ones, ones_below};
@@ -19,9 +19,7 @@ fn push_ones<B: BitBlock>(blocks: &mut Vec<B>, len: usize)
         → value_at B.width (map B.number blocks.new.items) i ≡ value_at B.width (map B.number blocks.old.items) i }
     ensures added { (i : ℕ) → vec_len blocks.old ≤ i / B.width
         → value_at B.width (map B.number blocks.new.items) i ≡ nat_lt i len }
-    ensures each { All B.is_block blocks.new.items }
-    ensures len { vec_len blocks.new ≡ blocks_for B.width len }
-    ensures capacity { vec_capacity blocks.new ≡ vec_capacity blocks.old }
+    ensures has { HasBlocks B.is_block (blocks_for B.width len) (vec_capacity blocks.old) blocks.new }
 {
     let whole = block_index::<B>(len);
     if blocks.len() > whole {

@@ -1,6 +1,6 @@
 // A list of bits moved up or down in place. Each block is made of the two that its bits come from, and written once.
 ghost use Rattle.std.specs.Prelude.{◌≡◌, ℕ, ◌+◌, ◌-◌, ◌*◌, ◌/◌, ◌^◌, ◌<◌, ◌&&◌, All, get_or, length, map, nat_le, nat_lt, vec_capacity};
-ghost use Rattle.bit_blocks.specs.{Digits.is_one, Shifts.{IsMovedDown, IsMovedUp}, Storage.{value_at, IsPacked}};
+ghost use Rattle.bit_blocks.specs.{Digits.is_one, Shifts.{IsMovedDown, IsMovedUp}, Storage.{value_at, IsPacked}, Written.WritesBlocks};
 
 use crate::block::BitBlock;
 use crate::block::operators::{block_or, shift_left, shift_right};
@@ -53,8 +53,7 @@ fn move_up<B: BitBlock>(blocks: &mut [B], distance: usize)
     requires each { All B.is_block blocks.old }
     ensures moved { (k : ℕ) → k < length blocks.old
         → IsMovedUp B.width (map B.number blocks.old) distance k (get_or (map B.number blocks.new) k 0) }
-    ensures each { All B.is_block blocks.new }
-    ensures len { length blocks.new ≡ length blocks.old }
+    ensures written { WritesBlocks B.is_block blocks.old blocks.new }
 {
     for k in (0..blocks.len()).rev() {
         let block = block_below(blocks, k, distance);
@@ -68,8 +67,7 @@ fn move_down<B: BitBlock>(blocks: &mut [B], distance: usize)
     requires each { All B.is_block blocks.old }
     ensures moved { (k : ℕ) → k < length blocks.old
         → IsMovedDown B.width (map B.number blocks.old) distance k (get_or (map B.number blocks.new) k 0) }
-    ensures each { All B.is_block blocks.new }
-    ensures len { length blocks.new ≡ length blocks.old }
+    ensures written { WritesBlocks B.is_block blocks.old blocks.new }
 {
     let whole = block_index::<B>(distance);
     let low = bit_index::<B>(distance);

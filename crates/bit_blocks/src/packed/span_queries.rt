@@ -7,7 +7,7 @@ use crate::block::BitBlock;
 use crate::block::masks::{ones_between, ones_from};
 use crate::block::operation::Operation;
 use crate::block::operators::{all_ones, block_and, ones_below, same};
-use crate::packed::access::{bit_index, block_at, block_index};
+use crate::packed::access::{block_at, place_of};
 use crate::packed::ones::ones_of;
 
 // The blocks from `first` up to `end`.
@@ -43,10 +43,8 @@ pub fn ones_in_span<B: BitBlock>(blocks: &[B], start: usize, end: usize) -> usiz
     requires each { All B.is_block blocks.now }
     ensures { result ≡ count_by (value_at B.width (map B.number blocks.now)) (range_with_len start (end - start)) }
 {
-    let first = block_index::<B>(start);
-    let last = block_index::<B>(end);
-    let low = bit_index::<B>(start);
-    let high = bit_index::<B>(end);
+    let (first, low) = place_of::<B>(start);
+    let (last, high) = place_of::<B>(end);
     if first == last {
         return ones_under(blocks, first, ones_between(low, high));
     }
@@ -107,10 +105,8 @@ pub fn span_merges_to_false<B: BitBlock, O: Operation>(
     requires nothing { merge_of_values O.merge false true ≡ false }
     ensures { IsTrue result ↔ MergesSpanToFalse O.merge B.width start end (map B.number blocks.now) }
 {
-    let first = block_index::<B>(start);
-    let last = block_index::<B>(end);
-    let low = bit_index::<B>(start);
-    let high = bit_index::<B>(end);
+    let (first, low) = place_of::<B>(start);
+    let (last, high) = place_of::<B>(end);
     if first == last {
         return masks_to_zero::<B, O>(blocks, first, ones_between(low, high));
     }

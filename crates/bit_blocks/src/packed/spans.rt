@@ -1,13 +1,13 @@
 // Merges with a span, a list that is true from `start` up to `end`: the first and the last block of it with a mask,
 // those between with ones alone.
 ghost use Rattle.std.specs.Prelude.{◌≡◌, ◌≢◌, ℕ, ◌*◌, ◌<◌, ◌≤◌, All, get_or, length, map, true, false, vec_len};
-ghost use Rattle.bit_blocks.specs.{BlockMerges.IsMergedSpan, Digits.is_one, Merges.merge_of_values, Storage.WritesInPlace};
+ghost use Rattle.bit_blocks.specs.{BlockMerges.IsMergedSpan, Digits.is_one, Merges.merge_of_values, Storage.WritesInPlace, Written.WritesBlocks};
 
 use crate::block::BitBlock;
 use crate::block::masks::{ones_between, ones_from};
 use crate::block::operation::Operation;
 use crate::block::operators::{all_ones, ones_below};
-use crate::packed::access::{bit_index, block_at, block_index, put_in};
+use crate::packed::access::{block_at, place_of, put_in};
 
 // Block `k` becomes its merge with the mask.
 #[inline]
@@ -19,8 +19,7 @@ fn merge_mask<B: BitBlock, O: Operation>(blocks: &mut [B], k: usize, mask: B)
         ≡ merge_of_values O.merge (is_one (get_or (map B.number blocks.old) k 0) j) (is_one (B.number mask) j) }
     ensures others { (q : ℕ) → q ≢ k
         → get_or (map B.number blocks.new) q 0 ≡ get_or (map B.number blocks.old) q 0 }
-    ensures each { All B.is_block blocks.new }
-    ensures len { length blocks.new ≡ length blocks.old }
+    ensures written { WritesBlocks B.is_block blocks.old blocks.new }
 {
     let merged = O::of_blocks(block_at(blocks, k), mask);
     put_in(blocks, k, merged);
@@ -36,8 +35,7 @@ fn merge_with_ones<B: BitBlock, O: Operation>(blocks: &mut [B], first: usize, en
     requires keeps { merge_of_values O.merge true false ≡ true }
     ensures span { IsMergedSpan O.merge B.width (first * B.width) (end * B.width) (map B.number blocks.old)
         (map B.number blocks.new) }
-    ensures each { All B.is_block blocks.new }
-    ensures len { length blocks.new ≡ length blocks.old }
+    ensures written { WritesBlocks B.is_block blocks.old blocks.new }
 {
     let ones = all_ones();
     for k in first..end {
@@ -53,13 +51,10 @@ fn merge_in<B: BitBlock, O: Operation>(blocks: &mut [B], start: usize, end: usiz
     requires each { All B.is_block blocks.old }
     requires keeps { merge_of_values O.merge true false ≡ true }
     ensures span { IsMergedSpan O.merge B.width start end (map B.number blocks.old) (map B.number blocks.new) }
-    ensures each { All B.is_block blocks.new }
-    ensures len { length blocks.new ≡ length blocks.old }
+    ensures written { WritesBlocks B.is_block blocks.old blocks.new }
 {
-    let first = block_index::<B>(start);
-    let last = block_index::<B>(end);
-    let low = bit_index::<B>(start);
-    let high = bit_index::<B>(end);
+    let (first, low) = place_of::<B>(start);
+    let (last, high) = place_of::<B>(end);
     if first == last {
         merge_mask::<B, O>(blocks, first, ones_between(low, high));
         return;

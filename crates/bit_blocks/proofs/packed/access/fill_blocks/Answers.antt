@@ -17,4 +17,4 @@ pub returns-clause-in_place : goal.returns-clause-in_place
 returns-clause-in_place g c =
     let new = c.fill_slice.new.blocks in
     let old = c.args.blocks.now in
-    record { each = rw (take_at new (drop (length new) old.items) old.len (omega arith)) c.fill_slice.ensures.each; len = refl; capacity = refl }
+    record { each = rw (take_at new (drop (length new) old.items) old.len (omega arith)) c.fill_slice.ensures.written.each; len = refl; capacity = refl }

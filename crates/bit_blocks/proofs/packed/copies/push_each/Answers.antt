@@ -9,6 +9,9 @@ loop-block-preserved g c = record {
   capacity = c.push_reserved.ensures.capacity ∙ c.loop-block.invariant.capacity;
 }
 
-pub returns-clause-items : goal.returns-clause-items
-returns-clause-items g c =
-    c.loop-block.invariant.items ∙ ap (λ xs. c.args.blocks.now.items ++ xs) (take_all c.loop-block.block-index c.args.more.now c.loop-block-test.false)
+pub returns : goal.returns
+returns g c = record {
+  items = c.loop-block.invariant.items ∙ ap (λ xs. c.args.blocks.now.items ++ xs) (take_all c.loop-block.block-index c.args.more.now c.loop-block-test.false);
+  len = omega arith;
+  capacity = c.loop-block.invariant.capacity;
+}

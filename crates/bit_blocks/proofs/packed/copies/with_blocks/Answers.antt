@@ -9,15 +9,15 @@ loop-block-preserved g c = record {
   capacity = c.push_reserved.ensures.capacity ∙ c.loop-block.invariant.capacity;
 }
 
-pub returns-clause-items : goal.returns-clause-items
-returns-clause-items g c =
-    c.loop-block.invariant.items ∙ ap (λ xs. c.args.blocks.items ++ xs) (take_all c.loop-block.block-index c.args.more.now c.loop-block-test.false)
+pub returns : goal.returns
+returns g c = record {
+  items = c.loop-block.invariant.items ∙ ap (λ xs. c.args.blocks.items ++ xs) (take_all c.loop-block.block-index c.args.more.now c.loop-block-test.false);
+  len = omega arith;
+  capacity = c.loop-block.invariant.capacity;
+}
 
 pub push_reserved-requires : goal.push_reserved-requires
 push_reserved-requires g c = omega arith
-
-pub returns-clause-len : goal.returns-clause-len
-returns-clause-len g c = omega arith
 
 pub loop-block-init : goal.loop-block-init
 loop-block-init g c = record { items = sym (append-nil c.args.blocks.items); count = omega arith; capacity = refl }

@@ -26,5 +26,5 @@ returns-clause-numbers g c =
     let end : c.loop.counter ≡ c.args.count = omega arith in
     rw end at c.loop.invariant.numbers
 
-pub returns-clause-len : goal.returns-clause-len
-returns-clause-len g c = omega arith
+pub returns-clause-has : goal.returns-clause-has
+returns-clause-has g c = record { each = c.loop.invariant.each; len = omega arith; capacity = c.loop.invariant.capacity }

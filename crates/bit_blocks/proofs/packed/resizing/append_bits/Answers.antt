@@ -24,12 +24,12 @@ returns-then-bit g c =
           (omega arith) c.set_tail.ensures.values (λ i within. c.push_ones.ensures.kept i (omega (arith, size, within)));
       added = λ i after below. added i after ∙ below_true c.args.len i below ∙ sym c.if-bit.true;
       packed = record {
-        each = c.push_ones.ensures.each;
+        each = c.push_ones.ensures.has.each;
         count = omega arith;
         tail = record { zero_tail = λ i past. added i (omega (arith, c.requires.longer, past)) ∙ above_false c.args.len i past };
         fits = c.ranges.len.fits;
       };
-      capacity = c.push_ones.ensures.capacity ∙ c.set_tail.ensures.in_place.capacity;
+      capacity = c.push_ones.ensures.has.capacity ∙ c.set_tail.ensures.in_place.capacity;
     }
 
 pub returns-else-bit : goal.returns-else-bit

@@ -1,4 +1,4 @@
-use Rattle.std.proofs.{Common.{◌∙◌, arith}, lemmas.List.{length-map, Elements.{All-same, All-push}}}
+use Rattle.std.proofs.{Common.{◌∙◌, refl, arith}, lemmas.List.{length-map, Elements.{All-same, All-push}}}
 use Rattle.bit_blocks.proofs.PackedLemmas.{none_pushed, whole_pushed, cut_pushed, kept_below, map-pushed}
 use Rattle.bit_blocks.proofs.packed.resizing.push_ones.Goals as goal
 
@@ -25,21 +25,18 @@ returns-else-index-ne0-clause-added g c = λ i past.
     whole_pushed _ _ _ c.args.len _ _ i g.met.B.BitBlock.width_law.positive (omega arith)
     (rw length-map (omega arith)) c.all_ones.ensures.of_number c.push_copies.ensures.numbers (rw length-map (omega arith))
 
-pub returns-then-index-ne0-clause-each : goal.returns-then-index-ne0-clause-each
-returns-then-index-ne0-clause-each g c =
-    All-same g.B.BitBlock.is_block _ _ c.push_reserved.ensures.items (All-push g.B.BitBlock.is_block _ _ c.push_copies.ensures.each c.ones_below.ensures.of_block)
-
 pub push_reserved-requires : goal.push_reserved-requires
 push_reserved-requires g c = omega arith
 
-pub returns-then-len-whole-clause-len : goal.returns-then-len-whole-clause-len
-returns-then-len-whole-clause-len g c = omega arith
+pub returns-then-len-whole-clause-has : goal.returns-then-len-whole-clause-has
+returns-then-len-whole-clause-has g c = record { each = c.requires.each; len = omega arith; capacity = refl }
 
-pub returns-then-index-ne0-clause-len : goal.returns-then-index-ne0-clause-len
-returns-then-index-ne0-clause-len g c = omega arith
+pub returns-then-index-ne0-clause-has : goal.returns-then-index-ne0-clause-has
+returns-then-index-ne0-clause-has g c = record {
+  each = All-same g.B.BitBlock.is_block _ _ c.push_reserved.ensures.items (All-push g.B.BitBlock.is_block _ _ c.push_copies.ensures.each c.ones_below.ensures.of_block);
+  len = omega arith;
+  capacity = c.push_reserved.ensures.capacity ∙ c.push_copies.ensures.capacity;
+}
 
-pub returns-else-index-ne0-clause-len : goal.returns-else-index-ne0-clause-len
-returns-else-index-ne0-clause-len g c = omega arith
-
-pub returns-else-index-ne0-clause-each : goal.returns-else-index-ne0-clause-each
-returns-else-index-ne0-clause-each g c = c.push_copies.ensures.each
+pub returns-else-index-ne0-clause-has : goal.returns-else-index-ne0-clause-has
+returns-else-index-ne0-clause-has g c = record { each = c.push_copies.ensures.each; len = omega arith; capacity = c.push_copies.ensures.capacity }

@@ -19,6 +19,5 @@ loop-k-preserved g c =
           (read_down w old mid c.args.distance k _ g.met.B.BitBlock.width_law.positive before.rest made)
           (λ other. before.moved q (omega (arith, below, other)));
       rest = λ q past. put_other mid new k _ q c.put_in.ensures.numbers (λ same. omega (arith, same, past)) ∙ before.rest q (omega (arith, past));
-      each = c.put_in.ensures.each;
-      len = c.put_in.ensures.len ∙ before.len;
+      written = record { each = c.put_in.ensures.each; len = c.put_in.ensures.len ∙ before.written.len };
     }

@@ -14,10 +14,9 @@ loop-k-preserved g c =
     let some = c.loop-k-test.true in
     record {
       moved = λ q from within.
-          put_holds (IsMovedUp w old c.args.distance) mid new k _ q c.put_in.ensures.numbers (rw length-map (omega (arith, before.len, some, c.loop-k.auto.k)))
+          put_holds (IsMovedUp w old c.args.distance) mid new k _ q c.put_in.ensures.numbers (rw length-map (omega (arith, before.written.len, some, c.loop-k.auto.k)))
           (read_up w old mid c.args.distance k _ g.met.B.BitBlock.width_law.positive (λ p below. before.rest p (omega (arith, below, some))) c.block_below-block.ensures.digits)
           (λ other. before.moved q (omega (arith, from, other)) within);
       rest = λ q below. put_other mid new k _ q c.put_in.ensures.numbers (λ same. omega (arith, same, below)) ∙ before.rest q (omega (arith, below));
-      each = c.put_in.ensures.each;
-      len = c.put_in.ensures.len ∙ before.len;
+      written = record { each = c.put_in.ensures.each; len = c.put_in.ensures.len ∙ before.written.len };
     }

@@ -17,4 +17,4 @@ pub returns-clause-in_place : goal.returns-clause-in_place
 returns-clause-in_place g c =
     let new = c.merge_in.new.blocks in
     let old = c.args.blocks.now in
-    record { each = rw (take_at new (drop (length new) old.items) old.len (omega arith)) c.merge_in.ensures.each; len = refl; capacity = refl }
+    record { each = rw (take_at new (drop (length new) old.items) old.len (omega arith)) c.merge_in.ensures.written.each; len = refl; capacity = refl }

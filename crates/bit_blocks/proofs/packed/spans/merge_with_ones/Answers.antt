@@ -13,15 +13,13 @@ loop-k-preserved g c =
     let from = mul-le-mul_right w c.loop-k.auto.k in
     record {
       span = span_more m w (c.args.first * w) (k * w) ((k + 1) * w) _ _ _ _ _ from (omega arith) refl refl c.loop-k.invariant.span one;
-      each = c.merge_mask.ensures.each;
-      len = omega arith;
+      written = record { each = c.merge_mask.ensures.written.each; len = omega arith };
     }
 
 pub loop-k-init : goal.loop-k-init
 loop-k-init g c = record {
   span = record { inside = λ i reached below. absurd (omega arith); before = λ i below. refl; after = λ i past. refl };
-  each = c.requires.each;
-  len = refl;
+  written = record { each = c.requires.each; len = refl };
 }
 
 pub merge_mask-requires-clause-in_bounds : goal.merge_mask-requires-clause-in_bounds
