@@ -1,9 +1,10 @@
 -- A table on its way to the deterministic automaton, and what it comes to.
-use Rattle.std.proofs.Common.{◌≡◌, ℕ, ◌+◌, ◌*◌, ◌/◌, ◌%◌, ◌<◌, ◌≤◌, Bool, true, false, cond, inl, inr, List, [], ◌∷◌, ◌++◌}
+use Rattle.std.proofs.Common.{◌≡◌, ℕ, ◌+◌, ◌*◌, ◌/◌, ◌%◌, ◌<◌, ◌≤◌, true, cond, inl, inr, List, [], ◌∷◌, ◌++◌}
 use Rattle.std.proofs.Common.{length, zero, suc, get_or, slice_index, refl, sym, ap, subst, ◌∙◌, ◌↔◌, arith}
 use Rattle.std.proofs.lemmas.Bool.{true≢false, cases_eq, cases_lt, eq-eqb, ne_eqb}
 use Rattle.std.proofs.lemmas.List.{get_or_append_left, get_or_past, get_or_push, length_push}
 use Rattle.std.proofs.lemmas.Nat.{div-add-mod', div-mul-add, mod-mul-add, mod_below, row_fits}
+use Rattle.std.specs.Cmp.{both_ways}
 use Rattle.bit_set.specs.Members.{IsSameSet, Updates}
 use Rattle.bit_set.specs.Sets.{IsAscending, has}
 use Rattle.automata.specs.Building.{Builds, IsEntry, Meets}
@@ -213,11 +214,6 @@ accept_past P old i not_it before j = (
 )
 
 -- ---- what one word reaches
-
-both_ways : (x y : Bool) → (x ≡ true → y ≡ true) → (y ≡ true → x ≡ true) → x ≡ y
-both_ways true y f g = sym (f refl)
-both_ways false true f g = g refl
-both_ways false false f g = refl
 
 pub same_reach : (nfa : Automaton) (word s t : List ℕ) → IsReach nfa word s → IsReach nfa word t → IsSameSet s t
 same_reach nfa word s t reach_s reach_t v = both_ways (has s v) (has t v) (λ h. (reach_t v).1 ((reach_s v).0 h)) (λ h. (reach_s v).1 ((reach_t v).0 h))

@@ -1,6 +1,6 @@
 -- No more different sets are reached than the table has states.
 use Rattle.std.proofs.Common.{◌≡◌, ℕ, ◌<◌, ◌≤◌, true, eqb, inl, inr, List, [], ◌∷◌, ◌++◌, length, zero, suc, get_or, refl, sym, ap, ◌∙◌, arith}
-use Rattle.std.proofs.lemmas.Bool.{true≢false, cases_lt, eqb-true, ne_eqb}
+use Rattle.std.proofs.lemmas.Bool.{true≢false, cases_lt, eqb-true, ne_eqb, or_cases}
 use Rattle.std.proofs.lemmas.List.{get_or_append_left, get_or_default, get_or_push, length_push}
 use Rattle.std.proofs.lemmas.Map.Keys.{IsDistinct-from_apart}
 use Rattle.std.proofs.lemmas.Map.Steps.{length-le_from_distinct_below}
@@ -10,7 +10,6 @@ use Rattle.bit_set.specs.Sets.{has}
 use Rattle.automata.specs.Numbering.{set_of}
 use Rattle.automata.specs.Runs.{Automaton}
 use Rattle.automata.specs.Tables.{IsSubsetTable, IsWordOver, ReachesMoreThan, Table, end_of}
-use Rattle.automata.proofs.StepLemmas.{or_cases}
 use Rattle.automata.proofs.BuildLemmas.{same_reach}
 
 below_all : (xs : List ℕ) (n : ℕ) → ((i : ℕ) → i < length xs → get_or xs i 0 < n) → (q : ℕ) → list_any (eqb q) xs ≡ true → q < n

@@ -31,8 +31,8 @@ pub set_last : (sets : List (List ℕ)) (set : List ℕ) (i : ℕ) → i ≡ len
 set_last sets set i is = get_or_push sets set [] i (sym is)
 
 -- a number below one more is below or the last
-pub before_or_last : (sets : List (List ℕ)) (set : List ℕ) (i : ℕ) → i < length (sets ++ set ∷ []) → (i < length sets) ⊎ (i ≡ length sets)
-before_or_last sets set i lt = elim (cases_lt i (length sets)) [ inl below ↦ inl below | inr above ↦ inr (omega (arith, lt, above, length_push sets set)) ]
+pub before_or_last : {X : Type 0} (xs : List X) (x : X) (i : ℕ) → i < length (xs ++ x ∷ []) → (i < length xs) ⊎ (i ≡ length xs)
+before_or_last xs x i lt = elim (cases_lt i (length xs)) [ inl below ↦ inl below | inr above ↦ inr (omega (arith, lt, above, length_push xs x)) ]
 
 -- a copy of the set at the end of the list
 pub pushed : (sets mid after : List Bits) (copy : Bits) (set : List ℕ) → after ≡ mid ++ copy ∷ [] → mid ≡ sets → elements copy.values ≡ set → row_of_sets after ≡ row_of_sets sets ++ set ∷ []

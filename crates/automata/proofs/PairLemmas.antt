@@ -5,35 +5,25 @@ use Rattle.std.proofs.Common.{arith}
 use mathlib.Core.Bool.{beq}
 use Rattle.std.proofs.lemmas.Bool.{true≢false, cases_eq, cases_lt, eq-eqb, eqb-true, lt-ltb, le-ltb, or_cases, or_left, or_right}
 use Rattle.std.proofs.lemmas.List.{get_or_append_left, get_or_default, get_or_push, length_push, reverse-append}
-use Rattle.std.proofs.lemmas.Nat.{row_fits}
+use Rattle.std.proofs.{lemmas.Nat.row_fits, Math.Bool.and-false}
 use Rattle.bit_set.specs.Sets.{has}
 use Rattle.bit_matrix.specs.Matrices.{ChangesRow, Matrix, has_at}
 use Rattle.automata.specs.declared.equivalence.Pair.{Pair}
 use Rattle.automata.specs.Pairs.{does_accept, step_of, symbols_of, walk_from}
 use Rattle.automata.specs.Searching.{Explores, IsLinked, IsListed, Spells, first_pair, onward, pair_at, start}
 use Rattle.automata.specs.Tables.{AcceptTheSame, IsAcceptedBy, IsAcceptedByOne, IsTable, IsWordOver, Table, end_from, next_state}
-use Rattle.automata.proofs.BuildLemmas.{one_place, place_inside}
+use Rattle.automata.proofs.{BuildLemmas.{one_place, place_inside}, NumberingLemmas.before_or_last}
 
 -- ---- one step, and the state more
 
-both_true : {X : Type 0} (p q : Bool) (x y : X) → p ≡ true → q ≡ true → cond (p && q) x y ≡ x
-both_true p q x y hp hq = rw (hp, hq) refl
-
-first_false : {X : Type 0} (p q : Bool) (x y : X) → p ≡ false → cond (p && q) x y ≡ y
-first_false p q x y h = rw h refl
-
-last_false : {X : Type 0} (p q : Bool) (x y : X) → q ≡ false → cond (p && q) x y ≡ y
-last_false true q x y h = ap (λ b. cond b x y) h
-last_false false q x y h = refl
-
 step_at : (t : Table) (state symbol : ℕ) → state < t.states → symbol < t.symbols → step_of t state symbol ≡ next_state t.symbols t.next state symbol
-step_at t state symbol lt in_symbols = both_true (ltb state t.states) (ltb symbol t.symbols) _ _ (lt-ltb state t.states lt) (lt-ltb symbol t.symbols in_symbols)
+step_at t state symbol lt in_symbols = rw (lt-ltb state t.states lt, lt-ltb symbol t.symbols in_symbols)
 
 step_past : (t : Table) (state symbol : ℕ) → t.symbols ≤ symbol → step_of t state symbol ≡ t.states
-step_past t state symbol past = last_false (ltb state t.states) (ltb symbol t.symbols) _ _ (le-ltb symbol t.symbols past)
+step_past t state symbol past = rw (le-ltb symbol t.symbols past, and-false (ltb state t.states))
 
 step_from_past : (t : Table) (state symbol : ℕ) → t.states ≤ state → step_of t state symbol ≡ t.states
-step_from_past t state symbol past = first_false (ltb state t.states) (ltb symbol t.symbols) _ _ (le-ltb state t.states past)
+step_from_past t state symbol past = rw (le-ltb state t.states past)
 
 -- no word leads on from the state more
 stays : (t : Table) (word : List ℕ) → walk_from t t.states word ≡ t.states
@@ -80,9 +70,6 @@ pair_before queue p i lt = get_or_append_left queue (p ∷ []) first_pair i lt
 
 pair_last : (queue : List Pair) (p : Pair) (i : ℕ) → i ≡ length queue → pair_at (queue ++ p ∷ []) i ≡ p
 pair_last queue p i is = get_or_push queue p first_pair i (sym is)
-
-before_or_last : (queue : List Pair) (p : Pair) (i : ℕ) → i < length (queue ++ p ∷ []) → (i < length queue) ⊎ (i ≡ length queue)
-before_or_last queue p i lt = elim (cases_lt i (length queue)) [ inl below ↦ inl below | inr above ↦ inr (omega (arith, lt, above, length_push queue p)) ]
 
 -- what is met after one pair more was met: that pair, or one of those before
 met_before : (met new : Matrix) (p : Pair) (l r : ℕ) → ChangesRow met new p.left (λ c. eqb p.right c || has_at met p.left c)
@@ -297,10 +284,7 @@ module _ (a b : Table) (queue : List Pair) (met : Matrix) (place : ℕ) (e : Exp
         ((λ h. in_b.0 (sym same ∙ in_a.1 h)), (λ h. in_a.0 (same ∙ in_b.1 h)))
 
 are_same : (p q : Bool) → not (beq p q) ≡ false → p ≡ q
-are_same true true h = refl
-are_same true false h = absurd (true≢false h)
-are_same false true h = absurd (true≢false h)
-are_same false false h = refl
+are_same p q h = grind (arith, h)
 
 one_of : {A B : Type 0} (p q : Bool) → (p ≡ true) ↔ A → (q ≡ true) ↔ B → not (beq p q) ≡ true → (A × (B → ⊥)) ⊎ (B × (A → ⊥))
 one_of true true f g differ = absurd (true≢false (sym differ))

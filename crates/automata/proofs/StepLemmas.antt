@@ -1,6 +1,6 @@
 -- Sets of states, from one symbol to the next.
 use Rattle.std.proofs.Common.{◌≡◌, ℕ, ◌<◌, ◌≤◌, Bool, not, true, false, ◌||◌, ◌&&◌, eqb, cond, ◌⊎◌, inl, inr, List, [], ◌∷◌, ◌++◌, length, map, get_or, refl, sym, ap, ◌∙◌, ◌↔◌, arith}
-use Rattle.std.proofs.lemmas.Bool.{true≢false, cases_eq, eq-eqb, ne_eqb}
+use Rattle.std.proofs.{lemmas.Bool.{true≢false, cases_eq, eq-eqb, ne_eqb, or_cases, or_left, or_right}, Math.Bool.or-false}
 use Rattle.std.proofs.lemmas.List.{get_or_default, get_or_past, length-map}
 use Rattle.std.proofs.Math.ListN.{get_or-map}
 use Rattle.bit_set.specs.Bits.{Bits}
@@ -8,17 +8,6 @@ use Rattle.bit_set.specs.Sets.{elements, has, is_disjoint}
 use Rattle.bit_set.specs.Members.{IsDisjoint, IsUnion, Updates}
 use Rattle.automata.specs.Bounds.{set_at}
 use Rattle.automata.specs.Runs.{Accepts, Automaton, IsEnd, IsImage, Leads, Run, here, onward, row_of, row_of_sets, successors}
-
-pub or_cases : (a b : Bool) → (a || b) ≡ true → (a ≡ true) ⊎ (b ≡ true)
-or_cases true b h = inl refl
-or_cases false b h = inr h
-
-pub or_left : (a b : Bool) → a ≡ true → (a || b) ≡ true
-or_left a b h = rw h refl
-
-pub or_right : (a b : Bool) → b ≡ true → (a || b) ≡ true
-or_right true b h = refl
-or_right false b h = h
 
 -- ---- the states to which a row leads, from one state after another
 
@@ -60,13 +49,9 @@ module _ (row : List (List ℕ)) (states left rest into new : List ℕ) (x : ℕ
     ];
   }
 
-pub or_false : (b : Bool) → (b || false) ≡ b
-or_false true = refl
-or_false false = refl
-
 -- a state past the row's end leads nowhere
 pub nowhere : (row : List (List ℕ)) (into : List ℕ) (x : ℕ) → length row ≤ x → IsUnion into (successors row x) into
-nowhere row into x past v = sym (or_false (has into v)) ∙ ap (λ r. has into v || has r v) (sym (get_or_past row x [] past))
+nowhere row into x past v = sym (or-false (has into v)) ∙ ap (λ r. has into v || has r v) (sym (get_or_past row x [] past))
 
 -- ---- from one symbol to the next
 

@@ -1,7 +1,7 @@
 -- What is missing at the end of each block, and the greatest solution by it.
 use Rattle.std.proofs.Common.{◌≡◌, ◌≢◌, ℕ, ◌<◌, ◌≤◌, ◌+◌, Bool, not, ◌&&◌, ◌==◌, cond, eqb, nat_le, nat_lt, suc, zero, List}
 use Rattle.std.proofs.Common.{[], ◌∷◌, length, map, get_or, inl, inr, ◌⊎◌, refl, sym, ap, ◌∙◌, ◌↔◌, true, false, arith}
-use Rattle.std.proofs.lemmas.Bool.{true≢false, cases_eq, cases_lt, eq-eqb, eqb-true, le-leb, leb-true, lt-ltb, ltb-true, or_cases, or_left, or_right}
+use Rattle.std.proofs.lemmas.Bool.{true≢false, true_from_ne_false, false_from_ne_true, cases_Bool, cases_eq, cases_lt, eq-eqb, eqb-true, le-leb, leb-true, lt-ltb, ltb-true, or_cases, or_left, or_right}
 use Rattle.std.proofs.lemmas.List.{get_or_past, length-map}
 use Rattle.std.specs.List.{list_any}
 use Rattle.bit_set.specs.Sets.{difference, elements, has}
@@ -27,28 +27,18 @@ pub record AreFound {B : Type 0} (blocks : List (ExpressionBlock B)) (count : �
   pub missing : (b e : ℕ) → e < count → has (set_at out b) e ≡ false → IsMissing blocks e b
   pub found : (b e : ℕ) → has (set_at out b) e ≡ true → IsMissing blocks e b → ⊥
 
-both : (x : Bool) → (x ≡ true) ⊎ (x ≡ false)
-both true = inl refl
-both false = inr refl
-
 clash : {x : Bool} → x ≡ true → x ≡ false → ⊥
 clash is none = true≢false (sym is ∙ none)
 
 module _ {B : Type 0} (blocks : List (ExpressionBlock B)) (count : ℕ) (out : List (List ℕ)) (f : AreFound blocks count out) where
   -- what is available is in the right side
   due : (b e : ℕ) → e < count → has (set_at out b) e ≡ true → IsAvailableByPredecessors blocks out b e
-  due b e low h = elim (both (has (computed_in blocks b) e)) [
+  due b e low h = elim (cases_Bool (has (computed_in blocks b) e)) [
     | inl computed ↦ inl computed
     | inr not_here ↦ inr (
       λ none. f.found b e h (at_entry none not_here),
-      λ p source. elim (both (has (set_at out p) e)) [
-        | inl is ↦ is
-        | inr lost ↦ absurd (f.found b e h (after_path source not_here (f.missing p e low lost)))
-      ],
-      elim (both (has (killed_in blocks b) e)) [
-        | inl killed ↦ absurd (f.found b e h (after_kill killed not_here))
-        | inr passes ↦ passes
-      ],
+      λ p source. true_from_ne_false _ (λ lost. f.found b e h (after_path source not_here (f.missing p e low lost))),
+      false_from_ne_true _ (λ killed. f.found b e h (after_kill killed not_here)),
     )
   ]
 
@@ -62,10 +52,7 @@ module _ {B : Type 0} (blocks : List (ExpressionBlock B)) (count : ℕ) (out : L
   never b e (inr (some, all, passes)) (after_path {p = p} source not_here before) = f.found p e (all p source) before
 
   has_due : (b e : ℕ) → e < count → IsAvailableByPredecessors blocks out b e → has (set_at out b) e ≡ true
-  has_due b e low side = elim (both (has (set_at out b) e)) [
-    | inl is ↦ is
-    | inr lost ↦ absurd (never b e side (f.missing b e low lost))
-  ]
+  has_due b e low side = true_from_ne_false _ (λ lost. never b e side (f.missing b e low lost))
 
   -- sets with nothing but what is in their right sides have nothing that is missing
   not_missing : (others : List (List ℕ)) → ((b e : ℕ) → has (set_at others b) e ≡ true
@@ -88,20 +75,11 @@ module _ {B : Type 0} (blocks : List (ExpressionBlock B)) (count : ℕ) (out : L
   are_available = record {
     below = f.below;
     equation = λ b e low. (due b e low, has_due b e low);
-    greatest = λ others within b e h. elim (both (has (set_at out b) e)) [
-      | inl is ↦ is
-      | inr lost ↦ absurd (not_missing others within e b (f.missing b e (within b e h).0 lost) h)
-    ];
+    greatest = λ others within b e h. true_from_ne_false _ (λ lost. not_missing others within e b (f.missing b e (within b e h).0 lost) h);
   }
 
   pub each_available : (b e : ℕ) → e < count → (has (set_at out b) e ≡ true) ↔ (IsMissing blocks e b → ⊥)
-  each_available b e low = (
-    f.found b e,
-    λ never_lost. elim (both (has (set_at out b) e)) [
-      | inl is ↦ is
-      | inr lost ↦ absurd (never_lost (f.missing b e low lost))
-    ],
-  )
+  each_available b e low = (f.found b e, λ never_lost. true_from_ne_false _ (λ lost. never_lost (f.missing b e low lost)))
 
 -- ---- from the data-flow problem to what is missing
 
@@ -153,7 +131,7 @@ module _ {B : Type 0} (blocks : List (ExpressionBlock B)) (all : List ℕ) (law 
   made_missing : (e b : ℕ) → b < length blocks → has (generated_in b) e ≡ true → IsMissing blocks e b
   made_missing e b lt h =
       let parts = of_and _ _ (sym (law (cond (starts b) all (killed_in blocks b)) (computed_in blocks b) e) ∙ ap (λ s. has s e) (sym (generated_at (length blocks) all blocks b lt)) ∙ h) in
-      elim (both (starts b)) [
+      elim (cases_Bool (starts b)) [
         | inl none ↦ elim (or_cases (length (predecessors_of blocks b) == 0) _ none) [
           | inl is ↦ at_entry (empty (predecessors_of blocks b) is) parts.1
           | inr some ↦ let p = some_past (length blocks) (predecessors_of blocks b) some in after_path p.1 parts.1 (past_end p.0 e p.2)
@@ -173,7 +151,7 @@ module _ {B : Type 0} (blocks : List (ExpressionBlock B)) (all : List ℕ) (law 
 
   pub missing_reach : (e b : ℕ) → has all e ≡ true → b < length blocks → IsMissing blocks e b → Reaches flows e b
   missing_reach e b inside lt (at_entry none not_here) = generates e b lt (ap (λ l. has (cond (starts_with_none l (length blocks)) all (killed_in blocks b)) e) none ∙ inside) not_here
-  missing_reach e b inside lt (after_kill killed not_here) = generates e b lt (elim (both (starts b)) [
+  missing_reach e b inside lt (after_kill killed not_here) = generates e b lt (elim (cases_Bool (starts b)) [
     | inl none ↦ ap (λ t. has (cond t all (killed_in blocks b)) e) none ∙ inside
     | inr some ↦ ap (λ t. has (cond t all (killed_in blocks b)) e) some ∙ killed
   ]) not_here
@@ -190,10 +168,7 @@ module _ {B : Type 0} (blocks : List (ExpressionBlock B)) (all : List ℕ) (law 
   are_found count sets out below long reached complements = record {
     below = λ b e h. (parts b e h).1;
     missing = λ b e low h. elim (cases_lt b (length blocks)) [
-      | inl lt ↦ reach_missing e b ((reached b e).0 (elim (both (has (set_at sets b) e)) [
-        | inl is ↦ is
-        | inr lacks ↦ absurd (clash (complements.each b (omega (arith, lt, long)) e ∙ and_true _ _ (lt-ltb e count low) lacks) h)
-      ]))
+      | inl lt ↦ reach_missing e b ((reached b e).0 (true_from_ne_false _ (λ lacks. clash (complements.each b (omega (arith, lt, long)) e ∙ and_true _ _ (lt-ltb e count low) lacks) h)))
       | inr past ↦ past_end b e past
     ];
     found = λ b e h lost. let p = parts b e h in clash ((reached b e).1 (missing_reach e b ((below e).1 p.1) p.0 lost)) p.2;

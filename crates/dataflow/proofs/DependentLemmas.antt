@@ -1,6 +1,6 @@
 -- For each block the blocks that it flows into.
 use Rattle.std.proofs.Common.{◌≡◌, ◌≢◌, ℕ, ◌+◌, ◌<◌, ◌≤◌, true, eqb, inl, inr, List, [], ◌∷◌, ◌++◌, length, set, refl, sym, ap, ◌∙◌, arith}
-use Rattle.std.proofs.lemmas.Bool.{cases_eq, eq-eqb, eqb-true, or_cases, or_left, or_right, true≢false}
+use Rattle.std.proofs.lemmas.Bool.{Decides.nat_tests, cases_eq, eq-eqb, eqb-true, or_cases, or_left, or_right, true≢false}
 use Rattle.std.proofs.lemmas.List.{get_or-set_other, get_or-set_same}
 use Rattle.bit_set.specs.Sets.{has}
 use Rattle.dataflow.specs.Flow.{Flow, block_at}
@@ -37,10 +37,7 @@ module _ (sources : List ℕ) (b x : ℕ) (first old new : List (List ℕ)) (a :
   }
     where
       keeps : (c s : ℕ) → has (row_at old s) c ≡ true → has (row_at new s) c ≡ true
-      keeps c s h = elim (cases_eq s x) [
-        | inl is ↦ ap (λ n. has (row_at new n) c) is ∙ ap (λ r. has r c) here ∙ in_push (row_at old x) b c ∙ or_left (has (row_at old x) c) _ (ap (λ n. has (row_at old n) c) (sym is) ∙ h)
-        | inr other ↦ ap (λ r. has r c) (others s other) ∙ h
-      ]
+      keeps c s h = let other = others s in grind (arith, nat_tests, other, here, in_push (row_at old x) b c, h)
 
   -- one that is none
   pub adds_past : length old ≤ x → AddsDependent (sources ++ x ∷ []) b first old

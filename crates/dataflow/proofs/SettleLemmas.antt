@@ -1,6 +1,6 @@
 -- Visits of blocks that wait, one after another.
-use Rattle.std.proofs.Common.{◌≡◌, ◌≢◌, ℕ, ◌+◌, ◌-◌, ◌^◌, ◌<◌, Bool, true, false, cond, suc, zero, eqb, ◌⊎◌, inl, inr, List, [], ◌∷◌, ◌++◌, length, map, refl, sym, ap, ◌∙◌, ◌↔◌, arith}
-use Rattle.std.proofs.lemmas.Bool.{true≢false, cases_eq, cases_lt, eq-eqb, eqb-true, ne_eqb, or_cases, or_left, or_right, Decides.nat_tests}
+use Rattle.std.proofs.Common.{◌≡◌, ◌≢◌, ℕ, ◌+◌, ◌-◌, ◌^◌, ◌<◌, ◌≤◌, Bool, true, false, cond, suc, zero, eqb, ◌⊎◌, inl, inr, List, [], ◌∷◌, ◌++◌, length, map, refl, sym, ap, ◌∙◌, ◌↔◌, arith}
+use Rattle.std.proofs.lemmas.Bool.{true≢false, cases_eq, eq-eqb, eqb-true, ne_eqb, or_cases, or_left, or_right, Decides.nat_tests}
 use Rattle.std.proofs.lemmas.List.{get_or_past, length-map}
 use Rattle.bit_set.specs.Members.{HasNone, Updates, UpdatesRange}
 use Rattle.bit_set.specs.Sets.{has}
@@ -11,10 +11,8 @@ use Rattle.dataflow.proofs.TakeLemmas.{in_push, same_lists}
 -- a block with a source is a block
 pub with_source : (blocks : List Flow) (b s : ℕ) → has (block_at blocks b).sources s ≡ true → b < length blocks
 with_source blocks b s h =
-    elim (cases_lt b (length blocks)) [
-      | inl lt ↦ lt
-      | inr past ↦ absurd (true≢false (sym (sym (ap (λ (f : Flow). has f.sources s) (get_or_past blocks b (record { sources = []; generated = []; killed = [] }) past)) ∙ h)))
-    ]
+    let none = λ (past : length blocks ≤ b). ap (λ (f : Flow). has f.sources s) (get_or_past blocks b (record { sources = []; generated = []; killed = [] }) past) in
+    grind (arith, none, h)
 
 -- ---- places
 
@@ -27,19 +25,13 @@ place_back count false b p lt low is = is
 
 module _ (old new : List ℕ) (p : ℕ) (updates : Updates old new p false) where
   pub out : has new p ≡ true → false ≡ true
-  out h = sym (updates p ∙ ap (λ b. cond b false (has old p)) (eq-eqb p p refl)) ∙ h
+  out h = let is = updates p in grind (arith, nat_tests, is, h)
 
   pub still_waits : (q : ℕ) → p ≢ q → has old q ≡ true → has new q ≡ true
-  still_waits q other h = elim (cases_eq p q) [
-    | inl is ↦ absurd (other is)
-    | inr ne ↦ updates q ∙ ap (λ b. cond b false (has old q)) (ne_eqb p q ne) ∙ h
-  ]
+  still_waits q other h = let is = updates q in grind (arith, nat_tests, is, other, h)
 
   pub waited : (q : ℕ) → has new q ≡ true → has old q ≡ true
-  waited q h = elim (cases_eq p q) [
-    | inl is ↦ absurd (true≢false (sym (out (ap (has new) is ∙ h))))
-    | inr ne ↦ sym (updates q ∙ ap (λ b. cond b false (has old q)) (ne_eqb p q ne)) ∙ h
-  ]
+  waited q h = let is = updates q in grind (arith, nat_tests, is, h)
 
 -- ---- blocks that wait again
 
@@ -48,10 +40,7 @@ module _ (place : ℕ → ℕ) (dependents old mid new : List ℕ) (b : ℕ) (pu
   waits_now = updates (place b) ∙ ap (λ it. cond it true (has mid (place b))) (eq-eqb (place b) (place b) refl)
 
   waits_on : (p : ℕ) → has mid p ≡ true → has new p ≡ true
-  waits_on p h = elim (cases_eq (place b) p) [
-    | inl is ↦ ap (has new) (sym is) ∙ waits_now
-    | inr other ↦ updates p ∙ ap (λ it. cond it true (has mid p)) (ne_eqb (place b) p other) ∙ h
-  ]
+  waits_on p h = let is = updates p in grind (arith, nat_tests, is, h)
 
   pub puts_on : PutsBack (dependents ++ b ∷ []) place old new
   puts_on = record {
@@ -112,17 +101,11 @@ pub none_waits : (blocks : List Flow) (place : ℕ → ℕ) (sets : List (List �
     → ((b v : ℕ) → has (block_at blocks b).generated v ≡ true → has (set_at sets b) v ≡ true) → HasAllDue blocks sets
 none_waits blocks place sets waiting settled none generated b v (inl is) = generated b v is
 none_waits blocks place sets waiting settled none generated b v (inr (enters, passes)) =
-    elim (settled b enters.0 v enters.1 enters.2 passes) [
-      | inl is ↦ is
-      | inr waits ↦ absurd (true≢false (sym waits ∙ none (place b)))
-    ]
+    let waits = settled b enters.0 v enters.1 enters.2 passes in grind (arith, waits, none (place b))
 
 module _ (blocks : List Flow) (place : ℕ → ℕ) (number p : ℕ) (old new : List (List ℕ)) (takes : TakesIn (block_at blocks number) number old new) where
   has_still : (b v : ℕ) → has (set_at old b) v ≡ true → has (set_at new b) v ≡ true
-  has_still b v h = elim (cases_eq b number) [
-    | inl is ↦ ap (λ n. has (set_at new n) v) is ∙ takes.kept v (ap (λ n. has (set_at old n) v) (sym is) ∙ h)
-    | inr other ↦ ap (λ s. has s v) (takes.others b other) ∙ h
-  ]
+  has_still b v h = let kept = takes.kept v in let others = takes.others b in grind (arith, nat_tests, kept, others, h)
 
   pub on_the_way : AreOnTheWay blocks old → ((b : ℕ) → length (set_at new b) < 2 ^ 64) → AreOnTheWay blocks new
   on_the_way way few = record {
@@ -193,17 +176,13 @@ pub nearer : (blocks : List Flow) (block : Flow) (number : ℕ) (old new : List 
 nearer blocks block number old new way takes inside grew = lacks_less old new number takes.long (let long = way.long in omega (arith, long, inside)) takes.others grew (way.few number)
 
 pub one_less : (after before : ℕ) (was_in : Bool) → after + (cond was_in 1 0) ≡ before → was_in ≡ true → after + 1 ≡ before
-one_less after before true h is = h
-one_less after before false h is = absurd (true≢false (sym is))
+one_less after before was_in h is = grind (arith, h, is)
 
 -- ---- one visit
 
 pub few_after : (old new : List (List ℕ)) (number limit : ℕ) → ((c : ℕ) → c ≢ number → set_at new c ≡ set_at old c)
     → ((b : ℕ) → length (set_at old b) < limit) → length (set_at new number) < limit → (b : ℕ) → length (set_at new b) < limit
-few_after old new number limit others few low b = elim (cases_eq b number) [
-  | inl is ↦ let same : length (set_at new b) ≡ length (set_at new number) = ap (λ n. length (set_at new n)) is in omega (arith, same, low)
-  | inr other ↦ let same : length (set_at new b) ≡ length (set_at old b) = ap length (others b other) in let before = few b in omega (arith, same, before)
-]
+few_after old new number limit others few low b = let other = others b in let before = few b in grind (arith, nat_tests, other, before, low)
 
 module _ (blocks : List Flow) (count : ℕ) (from_last : Bool) (number p : ℕ) (old new : List (List ℕ)) (was rest : List ℕ)
     (long : length blocks ≡ count) (low : p < count) (is : number ≡ place_of count from_last p)

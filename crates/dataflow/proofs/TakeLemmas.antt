@@ -1,7 +1,7 @@
 -- What one visit does to a set.
 use Rattle.std.proofs.Common.{◌≡◌, ◌≢◌, ℕ, ◌+◌, ◌<◌, ◌≤◌, Bool, true, false, not, ◌||◌, ◌&&◌, cond, eqb, suc, zero, set}
 use Rattle.std.proofs.Common.{take, inl, inr, List, [], ◌∷◌, ◌++◌, length, map, get_or, refl, sym, ap, ◌∙◌, arith}
-use Rattle.std.proofs.lemmas.Bool.{true≢false, cases_eq, eq-eqb, eqb-true, or_cases, or_left, or_right}
+use Rattle.std.proofs.{lemmas.Bool.{and_parts, not-false, not-true, true≢false, cases_eq, eq-eqb, eqb-true, or_cases, or_left, or_right}, Math.Bool.{or-false, or_assoc}}
 use Rattle.std.proofs.lemmas.List.{get_or_default, get_or_past, get_or-set_other, get_or-set_same, length-map, length-set, map-append, map-set, take_more}
 use Rattle.std.proofs.Math.ListN.{get_or-map}
 use Rattle.std.proofs.Math.Seq.{take-append_seam}
@@ -59,14 +59,10 @@ at_member (x ∷ xs) zero lt = or_left (eqb x x) _ (eq-eqb x x refl)
 at_member (x ∷ xs) (suc i) lt = or_right (eqb x (get_or xs i 0)) _ (at_member xs i (omega (arith, lt)))
 
 pub and_true : (a b : Bool) → a ≡ true → b ≡ false → (a && not b) ≡ true
-and_true true false is none = refl
-and_true true true is none = absurd (true≢false none)
-and_true false b is none = absurd (true≢false (sym is))
+and_true a b is none = rw (is, none)
 
 pub of_and : (a b : Bool) → (a && not b) ≡ true → (a ≡ true) × (b ≡ false)
-of_and true false h = (refl, refl)
-of_and true true h = absurd (true≢false (sym h))
-of_and false b h = absurd (true≢false (sym h))
+of_and a b h = let parts = and_parts a (not b) h in (parts.0, not-true b parts.1)
 
 -- ---- an item is pushed
 
@@ -90,16 +86,8 @@ few_pushed sets new limit few low = rw (map-append (λ (r : Bits). elements r.va
 -- ---- what the sets of some blocks have and is not killed
 
 pub in_push : (xs : List ℕ) (x n : ℕ) → has (xs ++ x ∷ []) n ≡ (has xs n || eqb x n)
-in_push [] x n = or_false (eqb x n)
-  where
-    or_false : (b : Bool) → (b || false) ≡ b
-    or_false true = refl
-    or_false false = refl
-in_push (y ∷ ys) x n = ap (λ b. eqb y n || b) (in_push ys x n) ∙ shift (eqb y n) (has ys n) (eqb x n)
-  where
-    shift : (a b c : Bool) → (a || (b || c)) ≡ ((a || b) || c)
-    shift true b c = refl
-    shift false b c = refl
+in_push [] x n = or-false (eqb x n)
+in_push (y ∷ ys) x n = ap (λ b. eqb y n || b) (in_push ys x n) ∙ sym (or_assoc (eqb y n) (has ys n) (eqb x n))
 
 module _ (sources killed : List ℕ) (sets : List (List ℕ)) (old into : List ℕ) (t : Transfers sources killed sets old into) where
   -- one more source
@@ -120,21 +108,13 @@ module _ (sources killed : List ℕ) (sets : List (List ℕ)) (old into : List �
 
   -- a source that is no block has no set
   pub transfers_past : (s : ℕ) → set_at sets s ≡ [] → Transfers (sources ++ s ∷ []) killed sets old into
-  transfers_past s none = transfers_on s into (λ v. sym (or_none (has into v)) ∙ ap (λ r. has into v || (has r v && not (has killed v))) (sym none))
-    where
-      or_none : (b : Bool) → (b || false) ≡ b
-      or_none true = refl
-      or_none false = refl
+  transfers_past s none = transfers_on s into (λ v. sym (or-false (has into v)) ∙ ap (λ r. has into v || (has r v && not (has killed v))) (sym none))
 
 -- ---- whether something was new
 
 pub same_on : (before now : Bool) (old into new : List ℕ) → (before ≡ false → into ≡ old) → now ≡ not (same_sets into new) → (before || now) ≡ false → new ≡ old
 same_on true now old into new same told h = absurd (true≢false h)
-same_on false now old into new same told h = sym ((bytes_decides into new).0 (is_so (same_sets into new) (sym told ∙ h))) ∙ same refl
-  where
-    is_so : (b : Bool) → not b ≡ false → b ≡ true
-    is_so true none = refl
-    is_so false none = absurd (true≢false none)
+same_on false now old into new same told h = sym ((bytes_decides into new).0 (not-false (same_sets into new) (sym told ∙ h))) ∙ same refl
 
 pub grew_on : (before now : Bool) (old into new : List ℕ) → (before ≡ false → into ≡ old)
     → (before ≡ true → length old < length into) → length into + cond now 1 0 ≤ length new → (before || now) ≡ true

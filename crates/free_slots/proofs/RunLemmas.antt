@@ -1,7 +1,7 @@
 -- What runs of calls on slots come to.
-use Rattle.std.proofs.Common.{◌≡◌, ℕ, ◌+◌, ◌<◌, ◌≤◌, ◌↔◌, Bool, true, false, not, ◌||◌, ◌&&◌, ◌==◌, ltb, nat_le, nat_lt}
-use Rattle.std.proofs.Common.{if◌then◌else◌, List, [], ◌∷◌, ◌++◌, Some, None, refl, sym, ap, ◌∙◌, arith, inl, inr}
-use Rattle.std.proofs.lemmas.Bool.{Decides.nat_tests, cases_eq, cases_Bool, eq-eqb, ne_eqb, lt-ltb, and_from, and_parts, not-true, true≢false}
+use Rattle.std.proofs.Common.{◌≡◌, ℕ, ◌+◌, ◌<◌, ◌≤◌, ◌↔◌, Bool, true, false, not, ◌||◌, ◌&&◌, ◌==◌, nat_le, nat_lt}
+use Rattle.std.proofs.Common.{if◌then◌else◌, List, [], ◌∷◌, ◌++◌, Some, None, refl, sym, ap, ◌∙◌, arith}
+use Rattle.std.proofs.lemmas.Bool.{Decides.nat_tests}
 use Rattle.bit_set.specs.Sets.{has, put, without}
 use Rattle.free_slots.specs.Slots.{SlotTable, IsFreeRun, IsLowestFree, all_free, is_taken, without_run}
 use Rattle.free_slots.specs.Runs.{Event, Happens, IsHeld, IsLowestUnheld, IsUnheldRun, Run, times_given, times_taken}
@@ -11,6 +11,9 @@ use Rattle.free_slots.proofs.SlotLemmas.{none_taken}
 -- 1 where it is so
 abbrev ones : Bool → ℕ
 ones b = if b then 1 else 0
+
+left : (slot : ℕ) → {s t : SlotTable} → s ≡ t → ones (is_taken s slot) ≡ ones (is_taken t slot)
+left slot same = ap (λ u. ones (is_taken u slot)) same
 
 keeps_len : (s t : SlotTable) (es : List Event) → Run s es t → t.len ≡ s.len
 keeps_len s t [] run = ap (λ u. u.len) run
@@ -35,90 +38,37 @@ answered s slot false next is = is.0
 module _ (has_put : (s : List ℕ) (n m : ℕ) → has (put s n) m ≡ (n == m || has s m)) (has_without : (s : List ℕ) (n m : ℕ) → has (without s n) m ≡ (not (n == m) && has s m))
     (has_without_run : (s : List ℕ) (first count m : ℕ) → has (without_run s count first) m ≡ (has s m && not (nat_le first m && nat_lt m (first + count)))) where
   took : (s : SlotTable) (from k slot : ℕ) → IsLowestFree s from k → (if k == slot then 1 else 0) + ones (is_taken s slot) ≡ ones (is_taken (record { len = s.len; free = without s.free k }) slot)
-  took s from k slot is =
-      elim (cases_eq k slot) [
-        | inl same ↦
-            let inside : ltb slot s.len ≡ true = lt-ltb slot s.len (omega (arith, is.inside)) in
-            let free : has s.free slot ≡ true = ap (has s.free) (sym same) ∙ is.free in
-            rw (has_without s.free k slot, eq-eqb k slot same, inside, free) refl
-        | inr other ↦ rw (has_without s.free k slot, ne_eqb k slot other) (omega arith)
-      ]
+  took s from k slot is = grind (arith, nat_tests, has_without s.free k slot, is.free, is.inside)
 
   gave : (s : SlotTable) (k slot : ℕ) → is_taken s k ≡ true → ones (is_taken s slot) ≡ (if k == slot then 1 else 0) + ones (is_taken (record { len = s.len; free = put s.free k }) slot)
-  gave s k slot is =
-      elim (cases_eq k slot) [
-        | inl same ↦
-            let parts = and_parts (ltb k s.len) (not (has s.free k)) is in
-            let inside : ltb slot s.len ≡ true = ap (λ n. ltb n s.len) (sym same) ∙ parts.0 in
-            let free : has s.free slot ≡ false = ap (has s.free) (sym same) ∙ not-true (has s.free k) parts.1 in
-            rw (has_put s.free k slot, eq-eqb k slot same, inside, free) refl
-        | inr other ↦ rw (has_put s.free k slot, ne_eqb k slot other) (omega arith)
-      ]
+  gave s k slot is = grind (arith, nat_tests, has_put s.free k slot, is)
 
   took_run : (s : SlotTable) (count first slot : ℕ) → IsFreeRun s count first
       → (if nat_le first slot && nat_lt slot (first + count) then 1 else 0) + ones (is_taken s
       slot) ≡ ones (is_taken (record { len = s.len; free = without_run s.free count first }) slot)
-  took_run s count first slot is =
-      let members = has_without_run s.free count first slot in
-      let free = is.free slot in
-      let inside = is.inside in
-      grind (arith, nat_tests)
+  took_run s count first slot is = grind (arith, nat_tests, has_without_run s.free count first slot, is.free slot, is.inside)
 
   -- a slot is taken once more than it is given back, just where it is taken at the end
   balance : (slot : ℕ) (s t : SlotTable) (es : List Event) → Run s es t → times_taken slot es + ones (is_taken s slot) ≡ times_given slot es + ones (is_taken t slot)
-  balance slot s t [] run = let same = ap (λ u. ones (is_taken u slot)) run in omega (arith, same)
-  balance slot s t (Take from (Some k) ∷ es) run =
-      let step = took s from k slot run.1.0 in
-      let rest = balance slot run.0 t es run.2 in
-      let same = ap (λ u. ones (is_taken u slot)) run.1.1 in
-      omega (arith, step, rest, same)
-  balance slot s t (Take from None ∷ es) run =
-      let rest = balance slot run.0 t es run.2 in
-      let same = ap (λ u. ones (is_taken u slot)) run.1.1 in
-      omega (arith, rest, same)
-  balance slot s t (GiveBack k true ∷ es) run =
-      let step = gave s k slot run.1.0 in
-      let rest = balance slot run.0 t es run.2 in
-      let same = ap (λ u. ones (is_taken u slot)) run.1.1 in
-      omega (arith, step, rest, same)
-  balance slot s t (GiveBack k false ∷ es) run =
-      let rest = balance slot run.0 t es run.2 in
-      let same = ap (λ u. ones (is_taken u slot)) run.1.1 in
-      omega (arith, rest, same)
-  balance slot s t (TakeRun count (Some first) ∷ es) run =
-      let step = took_run s count first slot run.1.0.run in
-      let rest = balance slot run.0 t es run.2 in
-      let same = ap (λ u. ones (is_taken u slot)) run.1.1 in
-      omega (arith, step, rest, same)
-  balance slot s t (TakeRun count None ∷ es) run =
-      let rest = balance slot run.0 t es run.2 in
-      let same = ap (λ u. ones (is_taken u slot)) run.1.1 in
-      omega (arith, rest, same)
+  balance slot s t [] run = omega (arith, left slot run)
+  balance slot s t (Take from (Some k) ∷ es) run = omega (arith, took s from k slot run.1.0, balance slot run.0 t es run.2, left slot run.1.1)
+  balance slot s t (Take from None ∷ es) run = omega (arith, balance slot run.0 t es run.2, left slot run.1.1)
+  balance slot s t (GiveBack k true ∷ es) run = omega (arith, gave s k slot run.1.0, balance slot run.0 t es run.2, left slot run.1.1)
+  balance slot s t (GiveBack k false ∷ es) run = omega (arith, balance slot run.0 t es run.2, left slot run.1.1)
+  balance slot s t (TakeRun count (Some first) ∷ es) run = omega (arith, took_run s count first slot run.1.0.run, balance slot run.0 t es run.2, left slot run.1.1)
+  balance slot s t (TakeRun count None ∷ es) run = omega (arith, balance slot run.0 t es run.2, left slot run.1.1)
 
   -- from all free on
   counts : (n slot : ℕ) (t : SlotTable) (es : List Event) → Run (all_free n) es t → times_taken slot es ≡ times_given slot es + ones (is_taken t slot)
-  counts n slot t es run =
-      let all = balance slot (all_free n) t es run in
-      let none = ap ones (none_taken n slot) in
-      omega (arith, all, none)
+  counts n slot t es run = omega (arith, balance slot (all_free n) t es run, ap ones (none_taken n slot))
 
   pub held_once : (n slot : ℕ) (t : SlotTable) (es : List Event) → Run (all_free n) es t → times_taken slot es ≤ times_given slot es + 1
-  held_once n slot t es run =
-      let all = counts n slot t es run in
-      elim (cases_Bool (is_taken t slot)) [
-        | inl is ↦ let one = ap ones is in omega (arith, all, one)
-        | inr is ↦ let none = ap ones is in omega (arith, all, none)
-      ]
+  held_once n slot t es run = let most : ones (is_taken t slot) ≤ 1 = grind arith in omega (arith, counts n slot t es run, most)
 
   pub held_where_taken : (n slot : ℕ) (t : SlotTable) (es : List Event) → Run (all_free n) es t → IsHeld es slot ↔ (is_taken t slot ≡ true)
   held_where_taken n slot t es run =
-      let all = counts n slot t es run in (
-        λ held. elim (cases_Bool (is_taken t slot)) [
-          | inl is ↦ is
-          | inr is ↦ let none = ap ones is in absurd (omega (arith, all, none, held))
-        ],
-        λ is. let one = ap ones is in omega (arith, all, one),
-      )
+      let all = counts n slot t es run in
+      (λ held. grind (arith, nat_tests, all, held), λ is. omega (arith, all, ap ones is))
 
   -- ---- a call in a run
 
@@ -128,22 +78,18 @@ module _ (has_put : (s : List ℕ) (n m : ℕ) → has (put s n) m ≡ (n == m |
       let is = call.1.0 in
       let len = keeps_len (all_free n) mid es before in
       record {
-        free = λ held.
-            let taken = and_parts (ltb slot mid.len) (not (has mid.free slot)) ((held_where_taken n slot mid es before).0 held) in
-            true≢false (sym is.free ∙ not-true (has mid.free slot) taken.1);
+        free = λ held. let taken = (held_where_taken n slot mid es before).0 held in grind (arith, nat_tests, taken, is.free);
         inside = omega (arith, is.inside, len);
         above = is.above;
         lowest = λ other from below.
-            (held_where_taken n other mid es before).1
-            (and_from (ltb other mid.len) (not (has mid.free other))
-            (lt-ltb other mid.len (omega (arith, is.inside, below))) (ap not (is.lowest other from below)));
+            (held_where_taken n other mid es before).1 (grind (arith, nat_tests, is.inside, below, is.lowest other from below));
       }
 
   pub held_where_full : (n from slot : ℕ) (t : SlotTable) (es later : List Event) → Run (all_free n) (es ++ Take from None ∷ later) t → from ≤ slot → slot < n → IsHeld es slot
   held_where_full n from slot t es later run above inside =
       let (mid, before, call) = parts (all_free n) t es (Take from None ∷ later) run in
       let len = keeps_len (all_free n) mid es before in
-      (held_where_taken n slot mid es before).1 (and_from (ltb slot mid.len) (not (has mid.free slot)) (lt-ltb slot mid.len (omega (arith, inside, len))) (ap not (call.1.0 slot above)))
+      (held_where_taken n slot mid es before).1 (grind (arith, nat_tests, inside, len, call.1.0 slot above))
 
   pub given_where_held : (n slot : ℕ) (result : Bool) (t : SlotTable) (es later : List Event) → Run (all_free n) (es ++ GiveBack slot result ∷ later) t → (result ≡ true) ↔ IsHeld es slot
   given_where_held n slot result t es later run =
@@ -159,8 +105,7 @@ module _ (has_put : (s : List ℕ) (n m : ℕ) → has (put s n) m ≡ (n == m |
       let len = keeps_len (all_free n) mid es before in
       record {
         unheld = λ slot from below held.
-            let taken = and_parts (ltb slot mid.len) (not (has mid.free slot)) ((held_where_taken n slot mid es before).0 held) in
-            true≢false (sym (is.free slot from below) ∙ not-true (has mid.free slot) taken.1);
+            let taken = (held_where_taken n slot mid es before).0 held in grind (arith, nat_tests, taken, is.free slot from below);
         inside = omega (arith, is.inside, len);
       }
 
@@ -169,13 +114,9 @@ module _ (has_put : (s : List ℕ) (n m : ℕ) → has (put s n) m ≡ (n == m |
       let len = keeps_len (all_free n) mid es before in
       record {
         free = λ slot from below.
-            elim (cases_Bool (has mid.free slot)) [
-              | inl free ↦ free
-              | inr taken ↦
-                  absurd (is.unheld slot from below ((held_where_taken n slot mid es before).1
-                  (and_from (ltb slot mid.len) (not (has mid.free slot))
-                  (lt-ltb slot mid.len (omega (arith, is.inside, below, len))) (ap not taken))))
-            ];
+            let held = (held_where_taken n slot mid es before).1 in
+            let unheld = is.unheld slot from below in
+            grind (arith, nat_tests, held, unheld, is.inside, len);
         inside = omega (arith, is.inside, len);
       }
 

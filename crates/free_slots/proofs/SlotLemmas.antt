@@ -1,9 +1,8 @@
 -- Which slots are free, as the set keeps them.
 use Rattle.std.proofs.Common.{◌≡◌, ◌≢◌, ℕ, zero, suc, ◌+◌, ◌-◌, ◌<◌, ◌≤◌, ◌↔◌, ◌==◌, Bool, true, false, not, ◌||◌, ◌&&◌}
 use Rattle.std.proofs.Common.{if◌then◌else◌, leb, ltb, nat_le, nat_lt, List, [], ◌∷◌, length, max, replicate, slice_get}
-use Rattle.std.proofs.Common.{Option, None, Some, MatchOption, refl, sym, ap, ◌∙◌, subst, arith, inl, inr, ⊎_elim, ◌⊎◌}
-use Rattle.std.proofs.lemmas.Bool.{Decides.nat_tests, and_parts, and_right, cases_eq, cases_lt, eq-eqb, le-leb, le-ltb, leb-true, lt-ltb, ne_eqb, not-false, true≢false}
-use Rattle.std.proofs.Math.Bool.{and-false}
+use Rattle.std.proofs.Common.{Option, None, Some, MatchOption, refl, sym, ap, ◌∙◌, subst, arith}
+use Rattle.std.proofs.lemmas.Bool.{Decides.nat_tests, and_parts, and_right, eq-eqb, le-leb, leb-true, lt-ltb, ne_eqb, not-false, or_parts}
 use Rattle.std.proofs.lemmas.List.{length-replicate}
 use Rattle.std.proofs.lemmas.Option.{slice_get_within}
 use Rattle.std.specs.List.{range_with_len}
@@ -28,26 +27,16 @@ elements-all a (suc n) = ap (λ xs. a ∷ xs) (elements-all (a + 1) n)
 
 has-range : (a n slot : ℕ) → a ≤ slot → slot < a + n → has (range_with_len a n) slot ≡ true
 has-range a zero slot from to = absurd (omega arith)
-has-range a (suc n) slot from to =
-    elim (cases_eq a slot) [
-      | inl here ↦ rw (eq-eqb a slot here) refl
-      | inr other ↦ rw (ne_eqb a slot other) (has-range (a + 1) n slot (omega arith) (omega arith))
-    ]
+has-range a (suc n) slot from to = let rest = has-range (a + 1) n slot in grind (arith, nat_tests, rest, from, to)
 
 -- where all are free, none is taken
 pub none_taken : (n slot : ℕ) → is_taken (all_free n) slot ≡ false
-none_taken n slot =
-    ⊎_elim
-    (λ (inside : slot < n). and_right (ltb slot n) (not (has (range_with_len 0 n) slot)) (ap not (has-range 0 n slot (omega arith) (omega arith))))
-    (λ (past : n ≤ slot). rw (le-ltb slot n past) refl)
-    (cases_lt slot n)
+none_taken n slot = let free = has-range 0 n slot in grind (arith, nat_tests, free)
 
 -- in an ascending list, what is below the first is not there
 below_first : (low : ℕ) (xs : List ℕ) (n : ℕ) → AscendsFrom low xs → n < low → has xs n ≡ false
 below_first low [] n is below = refl
-below_first low (x ∷ xs) n is below =
-    let other : x ≡ n → ⊥ = λ same. omega (arith, is.0) in
-    rw (ne_eqb x n other) (below_first (x + 1) xs n is.1 (omega (arith, is.0)))
+below_first low (x ∷ xs) n is below = let rest = below_first (x + 1) xs n is.1 in grind (arith, nat_tests, rest, is.0, below)
 
 -- the first of an ascending list is the least
 pub first_is_least : (xs : List ℕ) (first : ℕ) (rest : List ℕ) → IsAscending xs → xs ≡ first ∷ rest → (n : ℕ) → n < first → has xs n ≡ false
@@ -88,11 +77,7 @@ left old new free long is = same_table (length new) (length old) (elements new) 
 pub put_again : (s : List ℕ) (n : ℕ) → IsAscending s → ((s t : List ℕ) → IsAscending s → IsAscending t → ((m : ℕ) → has s m ≡ has t m) → s ≡ t) → IsAscending (put s n)
     → ((m : ℕ) → has (put s n) m ≡ (n == m || has s m)) → has s n ≡ true → put s n ≡ s
 put_again s n ascends by_members ascends_put members is =
-    by_members (put s n) s ascends_put ascends (λ m.
-    elim (cases_eq n m) [
-      | inl same ↦ rw (members m, eq-eqb n m same) (sym is ∙ ap (has s) same)
-      | inr other ↦ rw (members m, ne_eqb n m other) refl
-    ])
+    by_members (put s n) s ascends_put ascends (λ m. grind (arith, nat_tests, members m, is))
 
 pub given_back : (old new : List Bool) (slot : ℕ) (answer : Bool) → slot < length old
     → answer ≡ not (has (elements old) slot) → elements new ≡ put (elements old) slot → length new ≡ max (length old) (slot + 1)
@@ -127,39 +112,29 @@ lowest_from values from slot rest members ascends places at =
 
 -- ---- where none below a number is free
 
-right_false : (b c : Bool) → (b || c) ≡ false → c ≡ false
-right_false true c none = absurd (true≢false none)
-right_false false c none = none
-
 -- all are from there on
 pub all_from : (s : List ℕ) (from : ℕ) → HasNoneBelow s from → those_from s from ≡ s
 all_from [] from none = refl
 all_from (x ∷ xs) from none =
-    let above : from ≤ x =
-    ⊎_elim (λ (below : x < from). absurd (true≢false (sym (first_is_in (x ∷ xs) x xs refl) ∙ none x below))) (λ (above : from ≤ x). above) (cases_lt x from) in
-    ap (λ b. if b then x ∷ those_from xs from else those_from xs from) (le-leb from x above) ∙ ap (λ ys. x ∷ ys) (all_from xs from (λ n below. right_false (x == n) (has xs n) (none n below)))
+    let here = none x in
+    let above : from ≤ x = grind (arith, nat_tests, here, first_is_in (x ∷ xs) x xs refl) in
+    ap (λ b. if b then x ∷ those_from xs from else those_from xs from) (le-leb from x above)
+    ∙ ap (λ ys. x ∷ ys) (all_from xs from (λ n below. (or_parts (x == n) (has xs n) (none n below)).1))
 
 -- where the one that may be is not, or lies beyond, there is none
 pub none_below : (s : List ℕ) (given from : ℕ) → HasNoneBut s given from → (given < from → has s given ≡ false) → HasNoneBelow s from
-none_below s given from none not_given n below =
-    elim (cases_eq n given) [
-      | inl same ↦ ap (has s) same ∙ not_given (omega (arith, same, below))
-      | inr other ↦ none n below other
-    ]
+none_below s given from none not_given n below = let other = none n below in grind (arith, nat_tests, other, not_given)
 
 -- where the search goes once one is taken, and no other from there up to it is free
 pub none_but_taken : (s : List ℕ) (given from slot from_then taken : ℕ)
     → ((m : ℕ) → has (without s taken) m ≡ (not (taken == m) && has s m)) → HasNoneBut s given from
     → ((n : ℕ) → slot ≤ n → n < taken → has s n ≡ false) → ((n : ℕ) → n < from_then → from ≤ n → (slot ≤ n) × (n ≤ taken))
     → HasNoneBut (without s taken) given from_then
-none_but_taken s given from slot from_then taken members none lowest between n below other = members n ∙ elim (cases_eq taken n) [
-  | inl same ↦ rw (eq-eqb taken n same) refl
-  | inr apart ↦ ap (λ b. not (taken == n) && b) (absent apart (cases_lt n from)) ∙ and-false (not (taken == n))
-]
-  where
-    absent : taken ≢ n → (n < from) ⊎ (from ≤ n) → has s n ≡ false
-    absent apart (inl before) = none n before other
-    absent apart (inr past) = let at = between n below past in lowest n at.0 (omega (arith, at.1, apart))
+none_but_taken s given from slot from_then taken members none lowest between n below other =
+    let before = λ (first : n < from). none n first other in
+    let at = between n below in
+    let past = lowest n in
+    grind (arith, nat_tests, members n, before, at, past)
 
 -- where the search goes once one is given back, before it is in
 pub none_but_less : (s : List ℕ) (given from slot given_then from_then : ℕ) (is_free : Bool) → HasNoneBut s given from
@@ -167,14 +142,8 @@ pub none_but_less : (s : List ℕ) (given from slot given_then from_then : ℕ) 
     → (n < from) × (n ≢ slot) × (is_free ≡ true → n ≢ given)) → HasNoneBut s given_then from_then
 none_but_less s given from slot given_then from_then is_free none tested apart n below other =
     let (within, not_slot, not_given) = apart n below other in
-    elim (cases_eq n given) [
-      | inl same ↦ ap (has s) same ∙ sym tested ∙ not_true is_free (λ free. not_given free same)
-      | inr apart ↦ none n within apart
-    ]
-  where
-    not_true : (b : Bool) → (b ≡ true → ⊥) → b ≡ false
-    not_true true wrong = absurd (wrong refl)
-    not_true false wrong = refl
+    let absent = none n within in
+    grind (arith, nat_tests, tested, not_given, absent)
 
 -- and once it is in
 pub none_but_given : (s : List ℕ) (given from slot given_then from_then : ℕ) (is_free : Bool)

@@ -1,6 +1,6 @@
 -- The closure of a matrix by rows: what is in a row that took in others, by the edges of the first graph.
 use Rattle.std.proofs.Common.{◌≡◌, ◌≢◌, ℕ, ◌+◌, ◌<◌, ◌≤◌, true, false, ◌&&◌, ◌||◌, eqb, leb, List, [], ◌∷◌, length, refl, sym, ap, subst, ◌∙◌, arith, inl, inr}
-use Rattle.std.proofs.lemmas.Bool.{and_parts, cases_eq, cases_lt, eq-eqb, le-leb, leb-true, ne_eqb, or_cases, or_left, or_right, true≢false}
+use Rattle.std.proofs.lemmas.Bool.{Decides.nat_tests, and_parts, cases_eq, cases_lt, eq-eqb, le-leb, leb-true, or_cases, or_left, or_right, true≢false}
 use Rattle.bit_set.specs.Sets.{AscendsFrom, IsAscending, has, those_from}
 use Rattle.bit_matrix.specs.Matrices.{ChangesRow, Matrix, has_at, row_of}
 use Rattle.graph_walks.specs.{Closed.{Follows, HasNoneIn, IsClosed, IsClosureOf, IsOnTheWay}, Paths.{successors, Edge, LeadsTo, Path, here, onward}}
@@ -10,11 +10,7 @@ use Rattle.graph_walks.proofs.CloseLemmas.{edge_within, lead_on, none_on_the_way
 
 none_before : (low : ℕ) (xs : List ℕ) → AscendsFrom low xs → (n : ℕ) → n < low → has xs n ≡ false
 none_before low [] up n below = refl
-none_before low (x ∷ xs) up n below =
-    elim (cases_eq x n) [
-      | inl is ↦ let above = up.0 in absurd (omega (arith, is, above, below))
-      | inr other ↦ let above = up.0 in rw (ne_eqb x n other) (none_before (x + 1) xs up.1 n (omega (arith, above, below)))
-    ]
+none_before low (x ∷ xs) up n below = let rest = none_before (x + 1) xs up.1 n in grind (arith, nat_tests, rest, up.0, below)
 
 module _ (s : List ℕ) (from : ℕ) (members : (m : ℕ) → has (those_from s from) m ≡ (leb from m && has s m)) where
   from_on : (m : ℕ) → from ≤ m → has (those_from s from) m ≡ has s m

@@ -1,7 +1,7 @@
 -- What a walk over a graph keeps, and what it comes to.
 use Rattle.std.proofs.Common.{◌≡◌, ℕ, ◌+◌, ◌-◌, ◌*◌, ◌<◌, ◌≤◌, Bool, not, true, false, ◌||◌, cond, eqb, ltb, ◌⊎◌, inl, inr}
 use Rattle.std.proofs.Common.{List, [], ◌∷◌, ◌++◌, length, Option, Some, None, refl, sym, ap, ◌∙◌, ◌↔◌, arith}
-use Rattle.std.proofs.lemmas.Bool.{eqb-true, eq-eqb, ne_eqb, true≢false, cases_eq, or_cases, or_left, or_parts, or_right}
+use Rattle.std.proofs.lemmas.Bool.{eqb-true, eq-eqb, ne_eqb, not-false, not-true, true≢false, cases_eq, or_cases, or_left, or_parts, or_right}
 use Rattle.std.proofs.lemmas.List.{append-nil, get_or_past, length_push}
 use Rattle.std.proofs.lemmas.List.Folds.{list_any-append}
 use Rattle.std.proofs.lemmas.List.Sums.{sum_by-cons, sum_by_push}
@@ -12,16 +12,10 @@ use Rattle.graph_walks.specs.Explored.{TakesOn}
 use Rattle.graph_walks.specs.Paths.{successors, Edge, Path, here, onward}
 
 or_around : (a b c : Bool) → (a || (b || c)) ≡ ((b || (a || false)) || c)
-or_around true true c = refl
-or_around true false c = refl
-or_around false true c = refl
-or_around false false c = refl
+or_around a b c = grind arith
 
 or_behind : (a b c : Bool) → (a ≡ true → (b || c) ≡ true) → (b || c) ≡ ((b || (a || false)) || c)
-or_behind true true c h = refl
-or_behind true false c h = h refl
-or_behind false true c h = refl
-or_behind false false c h = refl
+or_behind a b c h = grind (arith, h)
 
 -- a number at the end of a list
 has-push : (xs : List ℕ) (x v : ℕ) → has (xs ++ x ∷ []) v ≡ (has xs v || (eqb x v || false))
@@ -200,12 +194,10 @@ no_row rows node past = get_or_past rows node [] past
 
 -- a number is new or not
 pub is_absent : (new old : Bool) → new ≡ not old → new ≡ true → old ≡ false
-is_absent new true e h = absurd (true≢false (sym h ∙ e))
-is_absent new false e h = refl
+is_absent new old e h = not-true old (sym e ∙ h)
 
 pub is_present : (new old : Bool) → new ≡ not old → new ≡ false → old ≡ true
-is_present new true e h = refl
-is_present new false e h = absurd (true≢false (sym e ∙ h))
+is_present new old e h = not-false old (sym e ∙ h)
 
 -- with nothing to expand, each path from the first nodes was followed
 pub explored : (rows : List (List ℕ)) (first reached : List ℕ) → Explores rows first reached [] → (v : ℕ) → (has reached v ≡ true) ↔ ((s : ℕ) × (has first s ≡ true) × Path rows s v)
