@@ -3,7 +3,16 @@ use Rattle.std.proofs.Common.{◌≡◌, ℕ, ◌+◌, ◌*◌, ◌<◌, ◌≤�
 use Rattle.std.proofs.lemmas.Bool.{cases_eq, cases_lt, eq-eqb, le-ltb, lt-ltb, ne_eqb, true≢false, Decides.nat_tests}
 use Rattle.std.proofs.Math.Nat.{add-mul}
 use Rattle.bit_set.specs.Sets.{has}
-use Rattle.bit_matrix.specs.Matrices.{ChangesRow, Matrix, has_at}
+use Rattle.bit_matrix.specs.Matrices.{ChangesRow, HasTurnedShape, KeepsShape, Matrix, has_at}
+
+pub shape_on : (a b d : Matrix) → KeepsShape a b → KeepsShape b d → KeepsShape a d
+shape_on a b d first second = record { rows = second.rows ∙ first.rows; columns = second.columns ∙ first.columns }
+
+pub shape_of_row : (a b : Matrix) (r : ℕ) (f : ℕ → Bool) → ChangesRow a b r f → KeepsShape a b
+shape_of_row a b r f changes = record { rows = changes.rows; columns = changes.columns }
+
+pub turned_on : (m a b : Matrix) → HasTurnedShape m a → KeepsShape a b → HasTurnedShape m b
+turned_on m a b first second = record { rows = second.rows ∙ first.rows; columns = second.columns ∙ first.columns }
 
 pub rest_inside : (f : ℕ → Bool) (x : ℕ) (xs ys : List ℕ) → xs ≡ x ∷ ys → ((c : ℕ) → has xs c ≡ true → f c ≡ true) → (c : ℕ) → has ys c ≡ true → f c ≡ true
 rest_inside f x xs ys is inside c is_in = inside c (ap (λ zs. has zs c) is ∙ (let e = is_in in grind arith))

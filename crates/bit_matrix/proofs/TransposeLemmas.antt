@@ -57,25 +57,29 @@ module _ (w s n : ℕ) (some : 0 < s) (many : 0 < n) (whole : w % (n * s) ≡ 0)
   pub place_below : (h x : ℕ) → h < groups → x < s → h * s + x < w / n
   place_below h x group inside = let below = mul-add-lt h s x groups group inside in let e = mul_comm s groups in omega (arith, below, e, in_square)
 
-  -- the rows of two squares that go together
-  module _ (i a b : ℕ) (inside : i < w / n) (order : a < b) (square : b < n) where
-    pub upper_within : index_of s n (i / s) a (i % s) < w
-    upper_within = index_within (i / s) a (i % s) (group_below i inside) (omega (arith, order, square)) (mod_below i s some)
+-- The rows of two squares that go together are in the strip, the lower one past the upper.
+pub record AreTogether (w s n i a b stride : ℕ) : Type 0 where
+  pub upper : index_of s n (i / s) a (i % s) < w
+  pub lower : index_of s n (i / s) b (i % s) < w
+  pub is : index_of s n (i / s) a (i % s) + (b - a) * s ≡ index_of s n (i / s) b (i % s)
+  pub apart : index_of s n (i / s) a (i % s) * stride + stride ≤ (index_of s n (i / s) a (i % s) + (b - a) * s) * stride
+  pub fits : (index_of s n (i / s) a (i % s) + (b - a) * s) * stride + stride ≤ w * stride
 
-    pub lower_within : index_of s n (i / s) b (i % s) < w
-    lower_within = index_within (i / s) b (i % s) (group_below i inside) square (mod_below i s some)
-
-    pub lower_is : index_of s n (i / s) a (i % s) + (b - a) * s ≡ index_of s n (i / s) b (i % s)
-    lower_is = moved_by s n (i / s) a b (i % s) (omega (arith, order))
-
-    pub farther : s ≤ (b - a) * s
-    farther = let more = mul-le 1 s (b - a) s (omega (arith, order)) (omega arith) in omega (arith, more)
-
-    pub rows_apart : (stride : ℕ) → index_of s n (i / s) a (i % s) * stride + stride ≤ (index_of s n (i / s) a (i % s) + (b - a) * s) * stride
-    rows_apart stride = row_fits (index_of s n (i / s) a (i % s)) stride (index_of s n (i / s) a (i % s) + (b - a) * s) stride (omega (arith, farther, some)) (omega arith)
-
-    pub lower_fits : (stride : ℕ) → (index_of s n (i / s) a (i % s) + (b - a) * s) * stride + stride ≤ w * stride
-    lower_fits stride = row_fits (index_of s n (i / s) a (i % s) + (b - a) * s) stride w stride (omega (arith, lower_is, lower_within)) (omega arith)
+pub together : (w s n i a b stride : ℕ) → 0 < s → w % (n * s) ≡ 0 → i < w / n → a < b → b < n → AreTogether w s n i a b stride
+together w s n i a b stride some whole inside order square =
+    let many : 0 < n = omega (arith, square) in
+    let first = index_of s n (i / s) a (i % s) in
+    let group = group_below w s n some many whole i inside in
+    let lower = index_within w s n some many whole (i / s) b (i % s) group square (mod_below i s some) in
+    let is = moved_by s n (i / s) a b (i % s) (omega (arith, order)) in
+    let more = mul-le 1 s (b - a) s (omega (arith, order)) (omega arith) in
+    record {
+      upper = index_within w s n some many whole (i / s) a (i % s) group (omega (arith, order, square)) (mod_below i s some);
+      lower = lower;
+      is = is;
+      apart = row_fits first stride (first + (b - a) * s) stride (omega (arith, more, some)) (omega arith);
+      fits = row_fits (first + (b - a) * s) stride w stride (omega (arith, is, lower)) (omega arith);
+    }
 
 -- the square that an index is in
 pub square_of : (s n h a x : ℕ) → a < n → x < s → index_of s n h a x / s % n ≡ a

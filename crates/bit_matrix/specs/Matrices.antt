@@ -36,6 +36,16 @@ pub record ChangesRow (old new : Matrix) (r : ℕ) (f : ℕ → Bool) : Type 0 w
   pub rows : length new.rows ≡ length old.rows
   pub columns : new.columns ≡ old.columns
 
+-- `new` has as many rows and columns as `old`
+pub record KeepsShape (old new : Matrix) : Type 0 where
+  pub rows : length new.rows ≡ length old.rows
+  pub columns : new.columns ≡ old.columns
+
+-- t has as many rows as m has columns, and the other way round
+pub record HasTurnedShape (m t : Matrix) : Type 0 where
+  pub rows : length t.rows ≡ m.columns
+  pub columns : t.columns ≡ length m.rows
+
 -- Column r is in row c of t just where column c is in row r of m.
 pub record IsTransposed (m t : Matrix) : Type 0 where
   pub bits : (r c : ℕ) → has_at t c r ≡ has_at m r c

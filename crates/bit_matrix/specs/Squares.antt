@@ -1,6 +1,22 @@
 -- How squares of bits are transposed, in rows of as many blocks each. No public clause cites this.
-use Rattle.std.specs.Prelude.{◌≡◌, ℕ, ◌+◌, ◌*◌, ◌/◌, ◌<◌, ◌≤◌, ◌⊎◌, Bool, false, true, List, get_or}
+use Rattle.std.specs.Prelude.{◌≡◌, ℕ, ◌+◌, ◌*◌, ◌/◌, ◌<◌, ◌≤◌, ◌⊎◌, All, Bool, false, true, List, get_or, length}
 use Rattle.bit_blocks.specs.Digits.{is_one}
+
+-- Some blocks of a list were written: each is a block value, and there are as many.
+pub record WritesBlocks {X : Type 0} (is_block : X → Type 0) (old new : List X) : Type 0 where
+  pub each : All is_block new
+  pub len : length new ≡ length old
+
+-- The blocks are rows of so many each, as many rows as a block has bits.
+pub record IsStrip {X : Type 0} (is_block : X → Type 0) (w width : ℕ) (xs : List X) : Type 0 where
+  pub each : All is_block xs
+  pub long : length xs ≡ w * width
+
+-- They are so many rows of as many blocks each, of which k is an index.
+pub record HasColumn {X : Type 0} (is_block : X → Type 0) (count stride k : ℕ) (xs : List X) : Type 0 where
+  pub each : All is_block xs
+  pub rows : length xs ≡ count * stride
+  pub within : k < stride
 
 -- digit c of block g of row i, where each row has so many blocks
 abbrev pub digit_in : ℕ → List ℕ → ℕ → ℕ → ℕ → Bool

@@ -1,8 +1,8 @@
 // Merges of blocks with others of one list, or of another list, each by the digits of every block. Each keeps, in
 // one block, whether one of them changed: the compiler removes it if nothing reads it.
-ghost use Rattle.std.specs.Prelude.{◌≡◌, ℕ, ◌+◌, ◌*◌, ◌<◌, ◌≤◌, ◌↔◌, All, false, get_or, length, map};
+ghost use Rattle.std.specs.Prelude.{◌≡◌, ◌+◌, ◌*◌, ◌<◌, ◌≤◌, ◌↔◌, All, false, length, map};
 ghost use Rattle.bit_blocks.specs.BlockMerges.{other_at, AreKept, CanMerge, HasMerged};
-ghost use Rattle.bit_matrix.specs.Merges.{IsMergedPart, IsTrackedBlock, IsTrackedMerge, AreApart};
+ghost use Rattle.bit_matrix.specs.Merges.{AreApart, CanTrack, IsTrackedBlock, IsTrackedMerge, MergesPart};
 
 use crate::BitBlock;
 use bit_blocks::packed::{block_at, or_mismatch, put_in, same};
@@ -12,9 +12,8 @@ use bit_words::bit_vec::operation::Operation;
 // stays.
 #[inline(always)]
 fn merged_at<B: BitBlock, O: Operation>(blocks: &[B], others: &[B], k: usize, seen: B) -> (B, B)
-    requires can { CanMerge B.is_block blocks.now (length others.now) (All B.is_block others.now) }
+    requires can { CanTrack B.is_block blocks.now others.now seen }
     requires within { k < length others.now }
-    requires seen { B.is_block seen }
     ensures { IsTrackedBlock O.merge B.width B.number B.is_block k blocks.now others.now result.0 seen result.1 }
 {
     let block = block_at(blocks, k);
@@ -32,9 +31,8 @@ fn merge_each<B: BitBlock, O: Operation>(
     count: usize,
     seen: B,
 ) -> B
-    requires can { CanMerge B.is_block blocks.old (length others.now) (All B.is_block others.now) }
+    requires can { CanTrack B.is_block blocks.old others.now seen }
     requires within { start + count ≤ length others.now }
-    requires seen { B.is_block seen }
     ensures { IsTrackedMerge O.merge B.width B.number B.is_block start (start + count) blocks.old others.now blocks.new seen
         result }
 {
@@ -51,9 +49,8 @@ fn merge_each<B: BitBlock, O: Operation>(
 // does not know that the lists are apart.
 #[inline(always)]
 fn merge_four<B: BitBlock, O: Operation>(blocks: &mut [B], others: &[B], start: usize, seen: B) -> B
-    requires can { CanMerge B.is_block blocks.old (length others.now) (All B.is_block others.now) }
+    requires can { CanTrack B.is_block blocks.old others.now seen }
     requires within { start + 4 ≤ length others.now }
-    requires seen { B.is_block seen }
     ensures { IsTrackedMerge O.merge B.width B.number B.is_block start (start + 4) blocks.old others.now blocks.new seen
         result }
 {
@@ -77,9 +74,8 @@ fn merge_fours<B: BitBlock, O: Operation>(
     fours: usize,
     seen: B,
 ) -> B
-    requires can { CanMerge B.is_block blocks.old (length others.now) (All B.is_block others.now) }
+    requires can { CanTrack B.is_block blocks.old others.now seen }
     requires within { start + fours * 4 ≤ length others.now }
-    requires seen { B.is_block seen }
     ensures { IsTrackedMerge O.merge B.width B.number B.is_block start (start + fours * 4) blocks.old others.now blocks.new
         seen result }
 {
@@ -98,9 +94,8 @@ fn merge_groups<B: BitBlock, O: Operation>(
     groups: usize,
     seen: B,
 ) -> B
-    requires can { CanMerge B.is_block blocks.old (length others.now) (All B.is_block others.now) }
+    requires can { CanTrack B.is_block blocks.old others.now seen }
     requires within { groups * 16 ≤ length others.now }
-    requires seen { B.is_block seen }
     ensures { IsTrackedMerge O.merge B.width B.number B.is_block 0 (groups * 16) blocks.old others.now blocks.new seen
         result }
 {
@@ -138,12 +133,8 @@ pub(crate) fn merge_others<B: BitBlock, O: Operation>(
     requires in_write { write + length others.now ≤ length blocks.old }
     requires each { All B.is_block blocks.old }
     requires others { All B.is_block others.now }
-    ensures merged { IsMergedPart O.merge B.width 0 write (length others.now) (map B.number blocks.old)
-        (map B.number others.now) (map B.number blocks.new) }
-    ensures unchanged { (result ≡ false) ↔ ((k : ℕ) → k < length others.now
-        → get_or (map B.number blocks.new) (write + k) 0 ≡ get_or (map B.number blocks.old) (write + k) 0) }
-    ensures each { All B.is_block blocks.new }
-    ensures len { length blocks.new ≡ length blocks.old }
+    ensures { MergesPart O.merge B.width B.number B.is_block 0 write (length others.now) blocks.old others.now blocks.new
+        result }
 {
     let (_, back) = blocks.split_at_mut(write);
     let (part, _) = back.split_at_mut(others.len());
@@ -154,12 +145,7 @@ pub(crate) fn merge_others<B: BitBlock, O: Operation>(
 fn merge_same<B: BitBlock, O: Operation>(blocks: &mut [B], start: usize, count: usize) -> bool
     requires within { start + count ≤ length blocks.old }
     requires each { All B.is_block blocks.old }
-    ensures merged { IsMergedPart O.merge B.width start start count (map B.number blocks.old) (map B.number blocks.old)
-        (map B.number blocks.new) }
-    ensures unchanged { (result ≡ false) ↔ ((k : ℕ) → k < count
-        → get_or (map B.number blocks.new) (start + k) 0 ≡ get_or (map B.number blocks.old) (start + k) 0) }
-    ensures each { All B.is_block blocks.new }
-    ensures len { length blocks.new ≡ length blocks.old }
+    ensures { MergesPart O.merge B.width B.number B.is_block start start count blocks.old blocks.old blocks.new result }
 {
     let mut mismatch = B::zero();
     for k in 0..count {
@@ -184,12 +170,7 @@ pub(crate) fn merge_within<B: BitBlock, O: Operation>(
     requires in_write { write + count ≤ length blocks.old }
     requires apart { AreApart read write count }
     requires each { All B.is_block blocks.old }
-    ensures merged { IsMergedPart O.merge B.width read write count (map B.number blocks.old) (map B.number blocks.old)
-        (map B.number blocks.new) }
-    ensures unchanged { (result ≡ false) ↔ ((k : ℕ) → k < count
-        → get_or (map B.number blocks.new) (write + k) 0 ≡ get_or (map B.number blocks.old) (write + k) 0) }
-    ensures each { All B.is_block blocks.new }
-    ensures len { length blocks.new ≡ length blocks.old }
+    ensures { MergesPart O.merge B.width B.number B.is_block read write count blocks.old blocks.old blocks.new result }
 {
     if read < write {
         let (front, back) = blocks.split_at_mut(write);

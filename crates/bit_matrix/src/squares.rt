@@ -4,7 +4,7 @@
 // end that of all rows of as many as are left.
 ghost use Rattle.std.specs.Prelude.{◌≡◌, ℕ, ◌+◌, ◌*◌, ◌/◌, ◌%◌, ◌<◌, ◌≤◌, ◌==◌, All, get_or, length, map};
 ghost use Rattle.bit_blocks.specs.Digits.{is_one};
-ghost use Rattle.bit_matrix.specs.Squares.{AreExchanged, AreSquaresExchanged, ArePairsExchanged, AreRowsTransposed, IsExchanged, IsTransposedStrip};
+ghost use Rattle.bit_matrix.specs.Squares.{AreExchanged, AreSquaresExchanged, ArePairsExchanged, AreRowsTransposed, HasColumn, IsExchanged, IsStrip, IsTransposedStrip, WritesBlocks};
 
 use crate::BitBlock;
 use bit_blocks::block::masks::with_one_if;
@@ -67,8 +67,7 @@ fn exchange_rows<B: BitBlock>(
     requires within { distance < B.width }
     ensures exchanged { AreExchanged B.width distance (B.number left) (B.number right) upper lower count
         (map B.number blocks.old) (map B.number blocks.new) }
-    ensures each { All B.is_block blocks.new }
-    ensures len { length blocks.new ≡ length blocks.old }
+    ensures written { WritesBlocks B.is_block blocks.old blocks.new }
 {
     for g in 0..count {
         let (above, below) = exchange(
@@ -98,11 +97,9 @@ fn exchange_squares<B: BitBlock>(
     requires whole { B.width % (count * size) ≡ 0 }
     requires order { a < b }
     requires square { b < count }
-    requires long { length blocks.old ≡ B.width * stride }
-    requires each { All B.is_block blocks.old }
+    requires strip { IsStrip B.is_block B.width stride blocks.old }
     ensures exchanged { ArePairsExchanged B.width stride size count a b (map B.number blocks.old) (map B.number blocks.new) }
-    ensures each { All B.is_block blocks.new }
-    ensures len { length blocks.new ≡ length blocks.old }
+    ensures written { WritesBlocks B.is_block blocks.old blocks.new }
 {
     let left = columns_of::<B>(size, count, a);
     let right = columns_of::<B>(size, count, b);
@@ -121,11 +118,9 @@ fn transpose_groups<B: BitBlock>(blocks: &mut [B], stride: usize, size: usize, c
     requires size { 0 < size }
     requires count { 0 < count }
     requires whole { B.width % (count * size) ≡ 0 }
-    requires long { length blocks.old ≡ B.width * stride }
-    requires each { All B.is_block blocks.old }
+    requires strip { IsStrip B.is_block B.width stride blocks.old }
     ensures exchanged { AreSquaresExchanged B.width stride size count (map B.number blocks.old) (map B.number blocks.new) }
-    ensures each { All B.is_block blocks.new }
-    ensures len { length blocks.new ≡ length blocks.old }
+    ensures written { WritesBlocks B.is_block blocks.old blocks.new }
 {
     for b in 0..count {
         for a in 0..b {
@@ -137,9 +132,7 @@ fn transpose_groups<B: BitBlock>(blocks: &mut [B], stride: usize, size: usize, c
 // The block of row `row` of this many, and 0 where there is no such row.
 #[inline(always)]
 fn block_of_row<B: BitBlock>(blocks: &[B], stride: usize, rows: usize, row: usize, k: usize) -> B
-    requires rows { length blocks.now ≡ rows * stride }
-    requires within { k < stride }
-    requires each { All B.is_block blocks.now }
+    requires { HasColumn B.is_block rows stride k blocks.now }
     ensures of_block { B.is_block result }
     ensures of_number { B.number result ≡ get_or (map B.number blocks.now) (row * stride + k) 0 }
 {
@@ -160,15 +153,11 @@ fn load_strip<B: BitBlock>(
     rows: usize,
     k: usize,
 )
-    requires long { length strip.old ≡ B.width * width }
-    requires rows { length blocks.now ≡ rows * stride }
-    requires within { k < stride }
-    requires strip { All B.is_block strip.old }
-    requires each { All B.is_block blocks.now }
+    requires strip { IsStrip B.is_block B.width width strip.old }
+    requires from { HasColumn B.is_block rows stride k blocks.now }
     ensures loaded { (i g : ℕ) → i < B.width → g < width → get_or (map B.number strip.new) (i * width + g) 0
         ≡ get_or (map B.number blocks.now) ((g * B.width + i) * stride + k) 0 }
-    ensures each { All B.is_block strip.new }
-    ensures len { length strip.new ≡ length strip.old }
+    ensures written { WritesBlocks B.is_block strip.old strip.new }
 {
     for row in 0..B::bits() * width {
         let block = block_of_row(blocks, stride, rows, row, k);
@@ -185,14 +174,10 @@ fn transpose_strip<B: BitBlock>(
     rows: usize,
     k: usize,
 )
-    requires long { length strip.old ≡ B.width * width }
-    requires rows { length blocks.now ≡ rows * stride }
-    requires within { k < stride }
-    requires strip { All B.is_block strip.old }
-    requires each { All B.is_block blocks.now }
+    requires strip { IsStrip B.is_block B.width width strip.old }
+    requires from { HasColumn B.is_block rows stride k blocks.now }
     ensures transposed { IsTransposedStrip B.width width stride k (map B.number blocks.now) (map B.number strip.new) }
-    ensures each { All B.is_block strip.new }
-    ensures len { length strip.new ≡ length strip.old }
+    ensures written { WritesBlocks B.is_block strip.old strip.new }
 {
     load_strip(strip, width, blocks, stride, rows, k);
     // A square of one bit is transposed as it is.
@@ -215,14 +200,11 @@ pub(crate) fn transpose_into<B: BitBlock>(
     k: usize,
 )
     requires inside { k * (B.width * width) + B.width * width ≤ length blocks.old }
-    requires rows { length others.now ≡ rows * stride }
-    requires within { k < stride }
     requires each { All B.is_block blocks.old }
-    requires others { All B.is_block others.now }
+    requires from { HasColumn B.is_block rows stride k others.now }
     ensures transposed { AreRowsTransposed B.width width stride k (map B.number others.now) (map B.number blocks.old)
         (map B.number blocks.new) }
-    ensures each { All B.is_block blocks.new }
-    ensures len { length blocks.new ≡ length blocks.old }
+    ensures written { WritesBlocks B.is_block blocks.old blocks.new }
 {
     let count = B::bits() * width;
     let (_, back) = blocks.split_at_mut(k * count);

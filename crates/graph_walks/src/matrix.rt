@@ -1,6 +1,6 @@
 // The transitive closure of a graph that is a matrix of bits.
 ghost use Rattle.std.specs.Prelude.{◌≡◌, ◌≢◌, ℕ, ◌<◌, ◌≤◌, ◌&&◌, ◌||◌, ◌==◌, IfNone, IfSome, IsTrue, List, length, nat_lt};
-ghost use Rattle.bit_matrix.specs.Matrices.{IsMatrix, has_at, row_of};
+ghost use Rattle.bit_matrix.specs.Matrices.{IsMatrix, KeepsShape, has_at, row_of};
 ghost use Rattle.graph_walks.specs.Closed.{Follows, HasNoneIn, IsClosed, IsClosureOf, IsOnTheWay, IsReflexiveClosureOf};
 
 use bit_matrix::{BitBlock, BitMatrix};
@@ -20,8 +20,7 @@ use bit_set::laws::{members_of_sets, sets_ascend};
 pub fn transitive_closure<B: BitBlock>(reaches: &mut BitMatrix<B>)
     ensures closure { IsClosureOf reaches.old.rows reaches.new.rows }
     ensures closed { IsClosed reaches.new.rows }
-    ensures rows { length reaches.new.rows ≡ length reaches.old.rows }
-    ensures columns { reaches.new.columns ≡ reaches.old.columns }
+    ensures shape { KeepsShape reaches.old reaches.new }
 {
     let rows = reaches.rows();
     for row in 0..rows {
@@ -46,8 +45,7 @@ pub fn transitive_closure<B: BitBlock>(reaches: &mut BitMatrix<B>)
 pub fn reflexive_transitive_closure<B: BitBlock>(reaches: &mut BitMatrix<B>)
     ensures closure { IsReflexiveClosureOf reaches.old reaches.new }
     ensures closed { IsClosed reaches.new.rows }
-    ensures rows { length reaches.new.rows ≡ length reaches.old.rows }
-    ensures columns { reaches.new.columns ≡ reaches.old.columns }
+    ensures shape { KeepsShape reaches.old reaches.new }
 {
     transitive_closure(reaches);
     put_each_in_its_row(reaches);
@@ -58,8 +56,7 @@ fn put_each_in_its_row<B: BitBlock>(matrix: &mut BitMatrix<B>)
     ensures matrix { IsMatrix matrix.old }
     ensures bits { (u v : ℕ) → has_at matrix.new u v ≡ (has_at matrix.old u v
         || (u == v && (nat_lt u (length matrix.old.rows) && nat_lt u matrix.old.columns))) }
-    ensures rows { length matrix.new.rows ≡ length matrix.old.rows }
-    ensures columns { matrix.new.columns ≡ matrix.old.columns }
+    ensures shape { KeepsShape matrix.old matrix.new }
 {
     for node in 0..matrix.rows().min(matrix.columns()) {
         matrix.insert(node, node);
@@ -76,8 +73,7 @@ fn take_in<B: BitBlock>(reaches: &mut BitMatrix<B>, row: usize, from: usize, to:
         → Follows graph row from (row_of reaches.old row) → Follows graph row to (row_of reaches.new row) }
     ensures way { IsOnTheWay reaches.old.rows reaches.new.rows }
     ensures others { (q : ℕ) → q ≢ row → row_of reaches.new q ≡ row_of reaches.old q }
-    ensures rows { length reaches.new.rows ≡ length reaches.old.rows }
-    ensures columns { reaches.new.columns ≡ reaches.old.columns }
+    ensures shape { KeepsShape reaches.old reaches.new }
 {
     let mut next = from;
     while let Some(node) = next_in(reaches, row, next, to) {

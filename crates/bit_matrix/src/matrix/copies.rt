@@ -1,7 +1,7 @@
 // A matrix made of another.
 ghost use Rattle.std.specs.Prelude.{◌≡◌, ℕ, ◌+◌, ◌*◌, ◌<◌, ◌≤◌, ◌↔◌, ◌⊎◌, ◌&&◌, ◌||◌, ◌==◌, IfOk, IsErrOf, IsOk, length, nat_le};
 ghost use Rattle.bit_blocks.specs.Bits.{blocks_for};
-ghost use Rattle.bit_matrix.specs.Matrices.{IsTransposed, has_at};
+ghost use Rattle.bit_matrix.specs.Matrices.{HasTurnedShape, IsTransposed, KeepsShape, has_at};
 
 use crate::squares::transpose_into;
 use crate::{BitBlock, BitMatrix, MatrixError};
@@ -67,14 +67,12 @@ impl<B: BitBlock> BitMatrix<B> {
     // The rows of as many columns as a block has bits, from the first column of block `k` on, become what is in these columns.
     fn transpose_columns(&mut self, matrix: &BitMatrix<B>, k: usize)
         requires whole { (k + 1) * B.width ≤ matrix.now.columns }
-        requires rows { length self.old.rows ≡ matrix.now.columns }
-        requires columns { self.old.columns ≡ length matrix.now.rows }
+        requires shape { HasTurnedShape matrix.now self.old }
         ensures inside { (r c : ℕ) → k * B.width ≤ c → c < (k + 1) * B.width
             → has_at self.new c r ≡ has_at matrix.now r c }
         ensures others { (r c : ℕ) → (c < k * B.width) ⊎ ((k + 1) * B.width ≤ c)
             → has_at self.new c r ≡ has_at self.old c r }
-        ensures rows { length self.new.rows ≡ length self.old.rows }
-        ensures columns { self.new.columns ≡ self.old.columns }
+        ensures shape { KeepsShape self.old self.new }
     {
         let stride = self.stride;
         transpose_into(
@@ -90,12 +88,10 @@ impl<B: BitBlock> BitMatrix<B> {
 
 // Inserts each row into those whose index is one of its columns from `from` on.
 fn insert_columns<B: BitBlock>(transposed: &mut BitMatrix<B>, matrix: &BitMatrix<B>, from: usize)
-    requires rows { length transposed.old.rows ≡ matrix.now.columns }
-    requires columns { transposed.old.columns ≡ length matrix.now.rows }
+    requires { HasTurnedShape matrix.now transposed.old }
     ensures bits { (r c : ℕ) → has_at transposed.new c r
         ≡ (has_at transposed.old c r || (nat_le from c && has_at matrix.now r c)) }
-    ensures rows { length transposed.new.rows ≡ length transposed.old.rows }
-    ensures columns { transposed.new.columns ≡ transposed.old.columns }
+    ensures shape { KeepsShape transposed.old transposed.new }
 {
     for row in 0..matrix.rows() {
         insert_in_each(transposed, matrix, row, from);
@@ -110,12 +106,10 @@ fn insert_in_each<B: BitBlock>(
     from: usize,
 )
     requires row { row < length matrix.now.rows }
-    requires rows { length transposed.old.rows ≡ matrix.now.columns }
-    requires columns { transposed.old.columns ≡ length matrix.now.rows }
+    requires shape { HasTurnedShape matrix.now transposed.old }
     ensures bits { (r c : ℕ) → has_at transposed.new c r
         ≡ (has_at transposed.old c r || (r == row && (nat_le from c && has_at matrix.now row c))) }
-    ensures rows { length transposed.new.rows ≡ length transposed.old.rows }
-    ensures columns { transposed.new.columns ≡ transposed.old.columns }
+    ensures shape { KeepsShape transposed.old transposed.new }
 {
     for column in matrix.iter_from(row, from) {
         transposed.insert(column, row);

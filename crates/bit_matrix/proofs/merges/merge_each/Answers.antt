@@ -3,7 +3,7 @@ use Rattle.bit_matrix.proofs.PartLemmas.{tracked_more, tracked_none, tracked_put
 use Rattle.bit_matrix.proofs.merges.merge_each.Goals as goal
 
 pub loop-k-init : goal.loop-k-init
-loop-k-init g c = tracked_none _ _ _ _ c.args.start _ _ _ _ c.requires.can.each c.requires.seen (omega arith)
+loop-k-init g c = tracked_none _ _ _ _ c.args.start _ _ _ _ c.requires.can.each c.requires.can.seen (omega arith)
 
 pub loop-k-preserved : goal.loop-k-preserved
 loop-k-preserved g c =

@@ -7,7 +7,7 @@ returns g c =
     let law : (x : g.row.B.Denot) → g.B.BitBlock.is_block x → g.B.BitBlock.number x < 2 ^ g.B.BitBlock.width = λ x is. (g.met.B.BitBlock.number_law x is).0 in
     let k = c.args.start in
     let within : k + 4 ≤ length c.args.others.now = c.requires.within in
-    let none = tracked_none _ _ _ _ k k _ c.args.others.now _ c.requires.can.each c.requires.seen (omega arith) in
+    let none = tracked_none _ _ _ _ k k _ c.args.others.now _ c.requires.can.each c.requires.can.seen (omega arith) in
     let one = tracked_next _ _ _ _ k k k (k + 1) _ _ _ _ _ _ _ _ law c.requires.can.fewer (omega (arith, within))
     (omega arith) refl refl none c.merged_at-first.ensures c.put_in.ensures.numbers c.put_in.ensures.each c.put_in.ensures.len in
     let two = tracked_next _ _ _ _ k (k + 1) (k + 1) (k + 2) _ _ _ _ _ _ _ _ law c.requires.can.fewer (omega (arith, within))

@@ -3,7 +3,7 @@ use Rattle.bit_matrix.proofs.PartLemmas.{tracked_more, tracked_none}
 use Rattle.bit_matrix.proofs.merges.merge_fours.Goals as goal
 
 pub loop-four-init : goal.loop-four-init
-loop-four-init g c = tracked_none _ _ _ _ c.args.start _ _ _ _ c.requires.can.each c.requires.seen (omega arith)
+loop-four-init g c = tracked_none _ _ _ _ c.args.start _ _ _ _ c.requires.can.each c.requires.can.seen (omega arith)
 
 pub loop-four-preserved : goal.loop-four-preserved
 loop-four-preserved g c =

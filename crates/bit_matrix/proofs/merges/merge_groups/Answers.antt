@@ -3,7 +3,7 @@ use Rattle.bit_matrix.proofs.PartLemmas.{tracked_more, tracked_none}
 use Rattle.bit_matrix.proofs.merges.merge_groups.Goals as goal
 
 pub loop-group-init : goal.loop-group-init
-loop-group-init g c = tracked_none _ _ _ _ 0 _ _ _ _ c.requires.can.each c.requires.seen (omega arith)
+loop-group-init g c = tracked_none _ _ _ _ 0 _ _ _ _ c.requires.can.each c.requires.can.seen (omega arith)
 
 pub loop-group-preserved : goal.loop-group-preserved
 loop-group-preserved g c =

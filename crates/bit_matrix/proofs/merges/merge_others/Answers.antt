@@ -16,23 +16,18 @@ put g c =
 long : (g : _) (c : After-merge_blocks g) → length (map g.B.BitBlock.number c.split_at_mut-part.result.0.now) ≡ length c.args.others.now
 long g c = length-map c.split_at_mut-part.result.0.now g.B.BitBlock.number ∙ c.split_at_mut-part.ensures.front_len
 
-pub returns-clause-merged : goal.returns-clause-merged
-returns-clause-merged g c =
-    let at = (goal.at.returns-clause-merged g c).After-merge_blocks in
+pub returns : goal.returns
+returns g c =
+    let at = (goal.at.returns g c).After-merge_blocks in
     let m = g.O.Operation.merge in
     let w = g.B.BitBlock.width in
+    let P = g.B.BitBlock.is_block in
     let n = length c.args.others.now in
     let part = whole_part m w _ _ n _ c.args.others.now _ c.merge_blocks.ensures.has in
-    part_merged m w c.args.write 0 c.args.write 0 n _ _ _ _ _ _ (omega arith) (put g at) part (omega (arith, long g at)) (λ k below. refl)
-
-pub returns-clause-unchanged : goal.returns-clause-unchanged
-returns-clause-unchanged g c =
-    let at = (goal.at.returns-clause-unchanged g c).After-merge_blocks in
-    let n = length c.args.others.now in
     let as_long = length-map c.merge_blocks.new.blocks g.B.BitBlock.number ∙ c.merge_blocks.ensures.has.len ∙ c.split_at_mut-part.ensures.front_len in
-    part_stays c.args.write 0 c.args.write n _ _ _ _ _ (omega arith) (put g at) (omega (arith, long g at)) (kept_part n _ _ _ (long g at) as_long c.merge_blocks.ensures.kept)
-
-pub returns-clause-each : goal.returns-clause-each
-returns-clause-each g c =
-    let P = g.B.BitBlock.is_block in
-    All-append P _ _ (search rules) (All-append P _ _ c.merge_blocks.ensures.has.each (search rules))
+    record {
+      merged = part_merged m w c.args.write 0 c.args.write 0 n _ _ _ _ _ _ (omega arith) (put g at) part (omega (arith, long g at)) (λ k below. refl);
+      unchanged = part_stays c.args.write 0 c.args.write n _ _ _ _ _ (omega arith) (put g at) (omega (arith, long g at)) (kept_part n _ _ _ (long g at) as_long c.merge_blocks.ensures.kept);
+      each = All-append P _ _ (search rules) (All-append P _ _ c.merge_blocks.ensures.has.each (search rules));
+      len = search rules;
+    }

@@ -1,6 +1,6 @@
-use Rattle.std.proofs.{Common.{◌≡◌, ◌+◌, ◌<◌, length, map, sym, ap₂, ◌∙◌, arith}, lemmas.List.{length-map}}
+use Rattle.std.proofs.{Common.{◌≡◌, ◌+◌, ◌<◌, length, map, refl, sym, ap₂, ◌∙◌, arith}, lemmas.List.{length-map}}
 use Rattle.bit_blocks.specs.{Digits.is_one, Merges.merge_of_values}
-use Rattle.bit_matrix.proofs.PartLemmas.{block_merged, still_write, reported_more}
+use Rattle.bit_matrix.proofs.PartLemmas.{block_merged, of_not, still_write, reported_more, reported_same}
 use Rattle.bit_matrix.proofs.merges.merge_same.Goals as goal
 
 pub loop-k-preserved : goal.loop-k-preserved
@@ -25,5 +25,13 @@ loop-k-preserved g c =
       len = c.put_in.ensures.len ∙ before.len;
     }
 
-pub returns-clause-merged : goal.returns-clause-merged
-returns-clause-merged g c = let end : c.loop-k.k ≡ c.args.count = omega arith in rw end at c.loop-k.invariant.merged
+pub returns : goal.returns
+returns g c =
+    let end : c.loop-k.k ≡ c.args.count = omega arith in
+    let tells = reported_same c.same.result _ _ _ c.same.ensures c.zero-2.ensures.of_number (rw end at c.loop-k.invariant.none) in
+    record {
+      merged = rw end at c.loop-k.invariant.merged;
+      unchanged = (λ no. tells.0 (of_not no), λ all. let yes = tells.1 all in rw yes refl);
+      each = c.loop-k.invariant.each;
+      len = c.loop-k.invariant.len;
+    }

@@ -13,9 +13,8 @@ loop-g-preserved g c =
     record {
       exchanged = exchanged_more _ _ _ _ c.args.upper c.args.lower c.loop-g.g _ _ (map f c.args.blocks.now) ns
           (map f c.put_in.new.blocks) _ (omega (arith, c.requires.apart, c.loop-g-test.true))
-          (omega (arith, long, before.len, c.requires.inside, c.loop-g-test.true)) before.exchanged one c.put_in.ensures.numbers
+          (omega (arith, long, before.written.len, c.requires.inside, c.loop-g-test.true)) before.exchanged one c.put_in.ensures.numbers
           c.put_in-in-loop-g.ensures.numbers
           (length-map c.put_in.new.blocks f ∙ c.put_in.ensures.len ∙ (omega (arith, long)));
-      each = c.put_in-in-loop-g.ensures.each;
-      len = c.put_in-in-loop-g.ensures.len ∙ c.put_in.ensures.len ∙ before.len;
+      written = record { each = c.put_in-in-loop-g.ensures.each; len = c.put_in-in-loop-g.ensures.len ∙ c.put_in.ensures.len ∙ before.written.len };
     }

@@ -13,9 +13,8 @@ loop-row-preserved g c =
     record {
       loaded = loaded_more w c.args.width c.args.stride c.args.k c.loop-row.row _ (map f c.args.blocks.now)
           (map f c.loop-row.strip) _ pos (omega (arith, c.loop-row-test.true, ap (λ n. n * c.args.width) c.bits.ensures))
-          (omega (arith, long, before.len, c.requires.long))
+          (omega (arith, long, before.written.len, c.requires.strip.long))
           (rw (c.bits-in-loop-row.ensures, c.bits-in-loop-row-2.ensures) at c.put_in.ensures.numbers)
           c.block_of_row-block.ensures.of_number before.loaded;
-      each = c.put_in.ensures.each;
-      len = c.put_in.ensures.len ∙ before.len;
+      written = record { each = c.put_in.ensures.each; len = c.put_in.ensures.len ∙ before.written.len };
     }

@@ -15,11 +15,14 @@ returns-clause-transposed g c =
     rw whole (rows_transposed w c.args.width c.args.stride c.args.k (length front) (map f c.args.others.now) (map f strip)
     (map f c.transpose_strip.new.strip) _ _ here long
     (is_put f front strip c.transpose_strip.new.strip c.split_at_mut-strip.result.1.now (length front)
-    (refl) c.transpose_strip.ensures.len) c.transpose_strip.ensures.transposed)
+    (refl) c.transpose_strip.ensures.written.len) c.transpose_strip.ensures.transposed)
 
-pub returns-clause-each : goal.returns-clause-each
-returns-clause-each g c =
+pub returns-clause-written : goal.returns-clause-written
+returns-clause-written g c =
     let P = g.B.BitBlock.is_block in
     let whole = c.split_at_mut-back.ensures.value ∙ ap (λ ys. c.split_at_mut-back.result.0.now ++ ys) c.split_at_mut-strip.ensures.value in
     let all : All P (c.split_at_mut-back.result.0.now ++ (c.split_at_mut-strip.result.0.now ++ c.split_at_mut-strip.result.1.now)) = subst (λ xs. All P xs) whole c.requires.each in
-    all_put P c.split_at_mut-back.result.0.now c.split_at_mut-strip.result.0.now c.transpose_strip.new.strip c.split_at_mut-strip.result.1.now all c.transpose_strip.ensures.each
+    record {
+      each = all_put P c.split_at_mut-back.result.0.now c.split_at_mut-strip.result.0.now c.transpose_strip.new.strip c.split_at_mut-strip.result.1.now all c.transpose_strip.ensures.written.each;
+      len = search rules;
+    }

@@ -13,8 +13,7 @@ loop-size-init g c = record {
   some = omega arith;
   whole = omega arith;
   squares = single g.B.BitBlock.width c.args.width _;
-  each = c.load_strip.ensures.each;
-  long = c.load_strip.ensures.len ∙ c.requires.long;
+  strip = record { each = c.load_strip.ensures.written.each; long = c.load_strip.ensures.written.len ∙ c.requires.strip.long };
 }
 
 pub loop-size-preserved : goal.loop-size-preserved
@@ -29,8 +28,7 @@ loop-size-preserved g c =
       some = omega (arith, it.some);
       whole = subst (λ n. w % n ≡ 0) twice whole;
       squares = rw (← twice) (greater w c.args.width s 2 _ _ _ it.some (omega arith) whole it.squares made.exchanged);
-      each = made.each;
-      long = made.len ∙ it.long;
+      strip = record { each = made.written.each; long = made.written.len ∙ it.strip.long };
     }
 
 pub transpose_groups-requires-2-clause-whole : goal.transpose_groups-requires-2-clause-whole

@@ -1,5 +1,5 @@
-use Rattle.std.proofs.Common.{◌≡◌, ◌-◌, ◌*◌, ◌%◌, ◌<◌, All, length, map}
-use Rattle.bit_matrix.proofs.TransposeLemmas.{AreSquaresTransposed}
+use Rattle.std.proofs.Common.{◌≡◌, ◌-◌, ◌%◌, ◌<◌, map}
+use Rattle.bit_matrix.{proofs.TransposeLemmas.AreSquaresTransposed, specs.Squares.IsStrip}
 use Rattle.bit_matrix.proofs.squares.transpose_strip.Given as goal
 
 abbrev pub invariant-loop-size : goal.invariant-loop-size
@@ -7,8 +7,7 @@ invariant-loop-size g l = record {
   some : 0 < l.size;
   whole : g.B.BitBlock.width % l.size ≡ 0;
   squares : AreSquaresTransposed g.B.BitBlock.width l.width l.size (map g.B.BitBlock.number l.initial.strip) (map g.B.BitBlock.number l.strip);
-  each : All g.B.BitBlock.is_block l.strip;
-  long : length l.strip ≡ g.B.BitBlock.width * l.width;
+  strip : IsStrip g.B.BitBlock.is_block g.B.BitBlock.width l.width l.strip;
 }
 
 abbrev pub decreases-loop-size : goal.decreases-loop-size

@@ -1,4 +1,4 @@
-use Rattle.std.proofs.Common.{◌∙◌}
+use Rattle.bit_matrix.proofs.CopyLemmas.{shape_of_row, shape_on}
 use Rattle.graph_walks.proofs.MatrixLemmas.{own_bit}
 use Rattle.graph_walks.proofs.matrix.put_each_in_its_row.Goals as goal
 
@@ -8,6 +8,5 @@ loop-node-preserved g c =
     let now = c.insert.ensures.members in
     record {
       bits = own_bit c.args.matrix.now c.loop-node.matrix c.insert.new.self c.loop-node.node before.bits now;
-      rows = now.rows ∙ before.rows;
-      columns = now.columns ∙ before.columns;
+      shape = shape_on _ _ _ before.shape (shape_of_row _ _ _ _ now);
     }

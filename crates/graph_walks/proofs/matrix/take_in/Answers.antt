@@ -1,10 +1,10 @@
 use Rattle.std.proofs.Common.{◌∙◌, refl, arith}
-use Rattle.bit_matrix.specs.Matrices.{row_of}
+use Rattle.bit_matrix.{proofs.CopyLemmas.{shape_of_row, shape_on}, specs.Matrices.row_of}
 use Rattle.graph_walks.proofs.{CloseLemmas.{none_on_the_way}, FollowLemmas.{follows_past, follows_taken, follows_via, further_on_the_way, union_on_the_way}}
 use Rattle.graph_walks.proofs.matrix.take_in.Goals as goal
 
 pub loop-node-init : goal.loop-node-init
-loop-node-init g c = record { follows = λ graph others own. own; way = none_on_the_way c.args.reaches.now.rows; others = λ q other. refl; rows = refl; columns = refl; above = omega arith }
+loop-node-init g c = record { follows = λ graph others own. own; way = none_on_the_way c.args.reaches.now.rows; others = λ q other. refl; shape = record { rows = refl; columns = refl }; above = omega arith }
 
 pub loop-node-preserved : goal.loop-node-preserved
 loop-node-preserved g c =
@@ -23,8 +23,7 @@ loop-node-preserved g c =
           follows_taken graph row node (row_of now row) (row_of now node) (row_of c.union_rows.new.self row) step.row (follows_via graph old now row node before.others was up) up;
       way = further_on_the_way old.rows now.rows c.union_rows.new.self.rows before.way (union_on_the_way now c.union_rows.new.self node row inside.2 step);
       others = λ q other. step.others q other ∙ before.others q other;
-      rows = step.rows ∙ before.rows;
-      columns = step.columns ∙ before.columns;
+      shape = shape_on _ _ _ before.shape (shape_of_row _ _ _ _ step);
       above = omega (arith, before.above, inside.0);
     }
 

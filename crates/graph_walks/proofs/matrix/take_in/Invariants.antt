@@ -1,5 +1,5 @@
-use Rattle.std.proofs.Common.{◌≡◌, ◌≢◌, ℕ, ◌-◌, ◌<◌, ◌≤◌, List, length}
-use Rattle.bit_matrix.specs.Matrices.{row_of}
+use Rattle.std.proofs.Common.{◌≡◌, ◌≢◌, ℕ, ◌-◌, ◌<◌, ◌≤◌, List}
+use Rattle.bit_matrix.specs.Matrices.{KeepsShape, row_of}
 use Rattle.graph_walks.specs.Closed.{Follows, IsOnTheWay}
 use Rattle.graph_walks.proofs.matrix.take_in.Given as goal
 
@@ -10,8 +10,7 @@ invariant-loop-node g l = record {
       → Follows graph l.row l.from (row_of l.fn.reaches l.row) → Follows graph l.row l.next (row_of l.reaches l.row);
   way : IsOnTheWay l.fn.reaches.rows l.reaches.rows;
   others : (q : ℕ) → q ≢ l.row → row_of l.reaches q ≡ row_of l.fn.reaches q;
-  rows : length l.reaches.rows ≡ length l.fn.reaches.rows;
-  columns : l.reaches.columns ≡ l.fn.reaches.columns;
+  shape : KeepsShape l.fn.reaches l.reaches;
   above : l.from ≤ l.next;
 }
 

@@ -1,9 +1,10 @@
-use Rattle.std.proofs.Common.{◌∙◌, refl, arith}
+use Rattle.std.proofs.Common.{refl, arith}
+use Rattle.bit_matrix.proofs.CopyLemmas.{shape_on}
 use Rattle.graph_walks.proofs.FollowLemmas.{follows_again, follows_all_on, follows_before_on, follows_closed, follows_closure, follows_first}
 use Rattle.graph_walks.proofs.matrix.transitive_closure.Goals as goal
 
 pub loop-row-init : goal.loop-row-init
-loop-row-init g c = record { follows = follows_first c.args.reaches.now; rows = refl; columns = refl }
+loop-row-init g c = record { follows = follows_first c.args.reaches.now; shape = record { rows = refl; columns = refl } }
 
 pub loop-row-preserved : goal.loop-row-preserved
 loop-row-preserved g c =
@@ -11,8 +12,7 @@ loop-row-preserved g c =
     let now = c.take_in.ensures in
     record {
       follows = follows_before_on c.args.reaches.now c.loop-row.reaches c.take_in.new.reaches c.loop-row.row now.others now.way now.follows before.follows;
-      rows = now.rows ∙ before.rows;
-      columns = now.columns ∙ before.columns;
+      shape = shape_on _ _ _ before.shape now.shape;
     }
 
 pub loop-row-2-init : goal.loop-row-2-init
@@ -21,8 +21,7 @@ loop-row-2-init g c =
     let count = c.rows-rows.ensures.value in
     record {
       follows = follows_again c.args.reaches.now c.loop-row.reaches c.loop-row.row (omega (arith, count, c.loop-row.auto.row-end, c.loop-row-test.false)) before.follows;
-      rows = before.rows;
-      columns = before.columns;
+      shape = before.shape;
     }
 
 pub loop-row-2-preserved : goal.loop-row-2-preserved
@@ -33,8 +32,7 @@ loop-row-2-preserved g c =
     record {
       follows = follows_all_on c.args.reaches.now c.loop-row-2.reaches c.take_in-in-loop-row-2.new.reaches c.loop-row-2.row
           now.others now.way (rw count at now.follows) (omega (arith, count, c.loop-row-2-test.true)) before.follows;
-      rows = now.rows ∙ before.rows;
-      columns = now.columns ∙ before.columns;
+      shape = shape_on _ _ _ before.shape now.shape;
     }
 
 pub returns-clause-closure : goal.returns-clause-closure

@@ -1,17 +1,15 @@
-use Rattle.std.proofs.Common.{◌≡◌, length}
+use Rattle.bit_matrix.specs.Matrices.{KeepsShape}
 use Rattle.graph_walks.proofs.FollowLemmas.{FollowsAll, FollowsBefore}
 use Rattle.graph_walks.proofs.matrix.transitive_closure.Given as goal
 
 abbrev pub invariant-loop-row : goal.invariant-loop-row
 invariant-loop-row g l = record {
   follows : FollowsBefore l.fn.reaches l.reaches l.row;
-  rows : length l.reaches.rows ≡ length l.fn.reaches.rows;
-  columns : l.reaches.columns ≡ l.fn.reaches.columns;
+  shape : KeepsShape l.fn.reaches l.reaches;
 }
 
 abbrev pub invariant-loop-row-2 : goal.invariant-loop-row-2
 invariant-loop-row-2 g l = record {
   follows : FollowsAll l.fn.reaches l.reaches l.row;
-  rows : length l.reaches.rows ≡ length l.fn.reaches.rows;
-  columns : l.reaches.columns ≡ l.fn.reaches.columns;
+  shape : KeepsShape l.fn.reaches l.reaches;
 }

@@ -1,5 +1,4 @@
-use Rattle.std.proofs.Common.{◌∙◌}
-use Rattle.bit_matrix.proofs.CopyLemmas.{strip_more}
+use Rattle.bit_matrix.proofs.CopyLemmas.{strip_more, turned_on}
 use Rattle.bit_matrix.proofs.matrix.BitMatrix.transpose.Goals as goal
 
 pub loop-k-preserved : goal.loop-k-preserved
@@ -8,6 +7,5 @@ loop-k-preserved g c =
     let now = c.transpose_columns.ensures in
     record {
       bits = strip_more c.loop-k.transposed c.transpose_columns.new.self c.args.self.now g.B.BitBlock.width c.loop-k.k before.bits now.inside now.others;
-      rows = now.rows ∙ before.rows;
-      columns = now.columns ∙ before.columns;
+      shape = turned_on _ _ _ before.shape now.shape;
     }

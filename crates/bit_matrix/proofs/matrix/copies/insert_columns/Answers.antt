@@ -1,5 +1,4 @@
-use Rattle.std.proofs.Common.{◌∙◌}
-use Rattle.bit_matrix.proofs.CopyLemmas.{row_more}
+use Rattle.bit_matrix.proofs.CopyLemmas.{row_more, shape_on}
 use Rattle.bit_matrix.proofs.matrix.copies.insert_columns.Goals as goal
 
 pub loop-row-preserved : goal.loop-row-preserved
@@ -7,6 +6,5 @@ loop-row-preserved g c =
     let before = c.loop-row.invariant in
     record {
       bits = row_more c.args.transposed.now c.loop-row.transposed c.insert_in_each.new.transposed c.args.matrix.now c.args.from c.loop-row.row before.bits c.insert_in_each.ensures.bits;
-      rows = c.insert_in_each.ensures.rows ∙ before.rows;
-      columns = c.insert_in_each.ensures.columns ∙ before.columns;
+      shape = shape_on _ _ _ before.shape c.insert_in_each.ensures.shape;
     }

@@ -14,8 +14,7 @@ loop-column-init g c =
     record {
       bits = λ r k. ap (λ b. has_at c.args.transposed.now k r || (r == c.args.row && b)) (left k);
       inside = λ k is_in. sym (left k) ∙ is_in;
-      rows = refl;
-      columns = refl;
+      shape = record { rows = refl; columns = refl };
     }
 
 pub insert-requires-clause-row : goal.insert-requires-clause-row
@@ -23,7 +22,7 @@ insert-requires-clause-row g c =
     let column = c.in-Some.column in
     let is_in = c.loop-column.invariant.inside column (ap (λ xs. has xs column) c.in-Some.ensures.steps.item ∙ has-first column c.next.new.self) in
     let below = c.iter_from-column-items.ensures.columns column (in_row (nat_le c.args.from column) _ is_in) in
-    omega (arith, below, c.requires.rows, c.loop-column.invariant.rows)
+    omega (arith, below, c.requires.shape.rows, c.loop-column.invariant.shape.rows)
 
 pub loop-column-preserved : goal.loop-column-preserved
 loop-column-preserved g c =
@@ -33,6 +32,5 @@ loop-column-preserved g c =
     record {
       bits = put_more c.args.transposed.now _ _ c.args.row c.in-Some.column f _ c.next.new.self c.in-Some.ensures.steps.item now before.bits;
       inside = rest_inside f c.in-Some.column _ c.next.new.self c.in-Some.ensures.steps.item before.inside;
-      rows = now.rows ∙ before.rows;
-      columns = now.columns ∙ before.columns;
+      shape = record { rows = now.rows ∙ before.shape.rows; columns = now.columns ∙ before.shape.columns };
     }
