@@ -1,6 +1,6 @@
 -- How many elements a walk may have left, by the blocks from the one in hand at the front to the one at the back.
 use Rattle.std.proofs.Common.{◌≡◌, ℕ, ◌+◌, ◌-◌, ◌*◌, ◌/◌, ◌^◌, ◌<◌, ◌≤◌, List, [], ◌∷◌, ◌++◌, map, length, All, Option, Some, None, ap, arith, mul-le-mul_right}
-use Rattle.std.proofs.lemmas.{Bool.Decides.nat_tests, List.Elements.{All-nil, All-cons, All-head, All-tail, All-append}}
+use Rattle.std.proofs.lemmas.{Bool.Decides.nat_tests, List.Elements.{All-nil, All-cons, All-head, All-tail, All-append, All-weaker}}
 use Rattle.std.specs.Option.{SomeIff}
 use Rattle.bit_words.specs.Nonzero.{Hand, Nonzeros}
 use Rattle.set_algebra.specs.Sets.{AscendsFrom, IsAscending}
@@ -13,19 +13,12 @@ pub record LiesWithin (low high n : ℕ) : Type 0 where
   pub from : low ≤ n
   pub below : n < high
 
-All-weaker : (P Q : ℕ → Type 0) (xs : List ℕ) → ((n : ℕ) → P n → Q n) → All P xs → All Q xs
-All-weaker P Q [] weaker each = All-nil Q
-All-weaker P Q (x ∷ xs) weaker each = All-cons Q x xs (weaker x (All-head P x xs each)) (All-weaker P Q xs weaker (All-tail P x xs each))
-
 each_from : (low : ℕ) (xs : List ℕ) (lower : ℕ) → lower ≤ low → AscendsFrom low xs → All (λ n. lower ≤ n) xs
 each_from low [] lower le up = All-nil (λ n. lower ≤ n)
 each_from low (x ∷ xs) lower le up = All-cons (λ n. lower ≤ n) x xs (omega (arith, le, up.0)) (each_from (x + 1) xs lower (omega (arith, le, up.0)) up.1)
 
 both : (low high : ℕ) (xs : List ℕ) → All (λ n. low ≤ n) xs → All (λ n. n < high) xs → All (LiesWithin low high) xs
-both low high [] from below = All-nil (LiesWithin low high)
-both low high (x ∷ xs) from below =
-    All-cons (LiesWithin low high) x xs (record { from = All-head (λ n. low ≤ n) x xs from; below = All-head (λ n. n < high) x xs below })
-    (both low high xs (All-tail (λ n. low ≤ n) x xs from) (All-tail (λ n. n < high) x xs below))
+both low high xs from below = λ k d inside. record { from = from k d inside; below = below k d inside }
 
 -- what ascends within a range is no more than its numbers
 fewer_from : (low high : ℕ) (xs : List ℕ) → AscendsFrom low xs → All (LiesWithin low high) xs → length xs ≤ high - low
@@ -33,7 +26,7 @@ fewer_from low high [] up each = omega arith
 fewer_from low high (x ∷ xs) up each =
     let here = All-head (LiesWithin low high) x xs each in
     let others = All-tail (LiesWithin low high) x xs each in
-    let above = both (x + 1) high xs (each_from (x + 1) xs (x + 1) (omega arith) up.1) (All-weaker (LiesWithin low high) (λ n. n < high) xs (λ n is. is.below) others) in
+    let above = both (x + 1) high xs (each_from (x + 1) xs (x + 1) (omega arith) up.1) (All-weaker (LiesWithin low high) (λ n. n < high) (λ n is. is.below) xs others) in
     let rest = fewer_from (x + 1) high xs up.1 above in
     omega (arith, rest, here.from, here.below)
 
@@ -44,7 +37,7 @@ fewer low high (x ∷ xs) up each = let here = All-head (LiesWithin low high) x 
 -- the indexes of a block
 block_within : (w p m low high : ℕ) → low ≤ p → p + w ≤ high → All (LiesWithin low high) (indexes w p m [])
 block_within w p m low high from to =
-    both low high _ (each_from p _ low from (AscendsFrom-indexes w p m [])) (All-weaker (λ n. n < p + w) (λ n. n < high) _ (λ n below. omega (arith, below, to)) (indexes-below w p m))
+    both low high _ (each_from p _ low from (AscendsFrom-indexes w p m [])) (All-weaker (λ n. n < p + w) (λ n. n < high) (λ n below. omega (arith, below, to)) _ (indexes-below w p m))
 
 module _ {X : Type 0} (w : ℕ) (number : X → ℕ) where
   entries_within : (f b low high : ℕ) (entries : List (ℕ × X)) → low ≤ f * w → (b + 1) * w ≤ high

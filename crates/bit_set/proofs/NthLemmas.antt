@@ -8,7 +8,7 @@ use Rattle.bit_words.specs.Nonzero.{Hand, Nonzeros, SkipsBlocks}
 use Rattle.set_algebra.specs.Sets.{AscendsFrom, IsAscending}
 use Rattle.bit_set.specs.{Indexes.{indexes, indexes_of, left_between, seen_of, IsSparseWalk, Passes}, Walk.{Walk, Advances, PullsBlocks, PullsBlocksAlong, Skips}}
 use Rattle.set_algebra.proofs.SetLemmas.{AscendsFrom-lower}
-use Rattle.bit_set.proofs.{IndexLemmas.{indexes-none, length-indexes}, LeftLemmas.ones_of_entries, PartLaws.rank_of, PartLemmas.indexes_of-append}
+use Rattle.bit_set.proofs.{IndexLemmas.{indexes-none, length-indexes}, LeftLemmas.ones_of_entries, PartLaws.rank_of, SparseLemmas.indexes_of-append}
 
 -- ---- lists
 

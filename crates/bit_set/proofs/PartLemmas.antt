@@ -2,14 +2,14 @@
 use Rattle.std.proofs.Common.{◌≡◌, ℕ, zero, suc, ◌+◌, ◌-◌, ◌*◌, ◌/◌, ◌^◌, ◌<◌, ◌≤◌, ◌&&◌, if◌then◌else◌, nat_lt, Bool, true, false, List, [], ◌∷◌, ◌++◌, map, length, drop, ◌==◌, max, nat_le, All, min}
 use Rattle.std.proofs.Common.{refl, sym, ap, ap₂, ◌∙◌, subst, inl, inr, arith, mul-le-mul_right, mod-lt, div-add-mod', ◌⊎◌}
 use Rattle.std.proofs.lemmas.Bool.{cond_both, eqb-false, cases_lt, Decides.nat_tests}
-use Rattle.std.proofs.lemmas.List.{append-nil, append_assoc, map-append, Elements.{All-nil, All-cons, All-head, All-tail, All-filter, filter-append}, Sums.{count_by-le-length, length-filter}}
+use Rattle.std.proofs.lemmas.List.{append-nil, append_assoc, map-append, Elements.{All-nil, All-cons, All-head, All-tail, All-filter, All-map, All-weaker, filter-append}, Sums.{count_by-le-length, length-filter}}
 use Rattle.bit_blocks.specs.{Bits.blocks_for, Ranges.in_range, Digits.is_one}
 use Rattle.bit_words.specs.Nonzero.{CutsAt, Hand, Nonzeros, nonzero_from}
 use Rattle.set_algebra.specs.{Sets.{AscendsFrom, IsAscending, elements, elements_from, those_below, those_from}, Ranges.those_in_range}
 use Rattle.bit_set.specs.{Indexes.{digits_from, indexes, indexes_of, left_between, seen_of, IsSparseWalk}, Walk.{blocks_past, IsAtBlockOf, IsAtBlocksOf, IsAtStartOfPart}}
 use Rattle.bit_set.proofs.{EntryLemmas.{blocks_of_entry, passed_in_block, some_index}, IndexLemmas.{AscendsFrom-indexes, indexes-below, indexes-none}}
 use Rattle.set_algebra.proofs.SetLemmas.{AscendsFrom-filter, AscendsFrom-reach, IsAscending-elements, has-filter, same_members}
-use Rattle.bit_set.proofs.{FromLemmas.BeginsFrom, SparseLemmas.{ends_apart, whole_index}}
+use Rattle.bit_set.proofs.{FromLemmas.BeginsFrom, SparseLemmas.{ends_apart, indexes_of-append, whole_index}}
 
 -- ---- those of a block below a number
 
@@ -50,10 +50,7 @@ none_kept end low (x ∷ xs) past up =
     rw test (none_kept end (x + 1) xs (omega (arith, past, from)) up.1)
 
 all_less : (a b : ℕ) (xs : List ℕ) → a ≤ b → All (λ n. n < a) xs → All (λ n. n < b) xs
-all_less a b [] to below = All-nil (λ n. n < b)
-all_less a b (x ∷ xs) to below =
-    let first = All-head (λ n. n < a) x xs below in
-    All-cons (λ n. n < b) x xs (omega (arith, first, to)) (all_less a b xs to (All-tail (λ n. n < a) x xs below))
+all_less a b xs to below = All-weaker (λ n. n < a) (λ n. n < b) (λ n less. omega (arith, less, to)) xs below
 
 module _ {X : Type 0} (w : ℕ) (number : X → ℕ) where
   entries_before : (end k : ℕ) (entries : List (ℕ × X)) → k * w ≤ end → All (λ (entry : ℕ × X). entry.0 < k) entries → those_below (indexes_of w number entries) end ≡ indexes_of w number entries
@@ -77,12 +74,6 @@ module _ {X : Type 0} (w : ℕ) (number : X → ℕ) where
       filter-append (λ x. nat_lt x end) here (indexes_of w number entries)
       ∙ ap₂ ◌++◌ (none_kept end (entry.0 * w) here (omega (arith, first, from)) (AscendsFrom-indexes w (entry.0 * w) (number entry.1) []))
       (entries_past end k entries from (All-tail (λ (e : ℕ × X). k < e.0) entry entries past))
-
-  pub indexes_of-append : (xs ys : List (ℕ × X)) → indexes_of w number (xs ++ ys) ≡ indexes_of w number xs ++ indexes_of w number ys
-  indexes_of-append [] ys = refl
-  indexes_of-append (entry ∷ entries) ys =
-      ap (λ zs. indexes w (entry.0 * w) (number entry.1) [] ++ zs) (indexes_of-append entries ys)
-      ∙ sym (append_assoc (indexes w (entry.0 * w) (number entry.1) []) (indexes_of w number entries) (indexes_of w number ys))
 
 -- ---- the indexes of the blocks
 
@@ -131,9 +122,7 @@ module _ {X : Type 0} (w : ℕ) (number : X → ℕ) (is_block : X → Type 0) (
       ∙ ap (λ ys. map index_of t ++ ys) (append_assoc (map index_of at) (map index_of past) (last ∷ []))
 
   each_before : (k : ℕ) (entries : List (ℕ × X)) → All (λ (entry : ℕ × X). entry.0 < k) entries → All (λ x. x < k) (map index_of entries)
-  each_before k [] each = All-nil (λ x. x < k)
-  each_before k (entry ∷ entries) each = All-cons (λ x. x < k) entry.0 _ (All-head (λ (e : ℕ × X). e.0 < k) entry entries each)
-      (each_before k entries (All-tail (λ (e : ℕ × X). e.0 < k) entry entries each))
+  each_before k entries each = All-map (λ x. x < k) index_of entries each
 
   kept_before : (first k end : ℕ) (entries : List (ℕ × X)) (more : List ℕ) → AscendsFrom (first + 1) (map index_of entries ++ more)
       → All (λ (entry : ℕ × X). entry.0 < k) entries → (first < k → k * w ≤ end) → those_below (indexes_of w number entries) end ≡ indexes_of w number entries

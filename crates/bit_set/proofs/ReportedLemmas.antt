@@ -5,6 +5,7 @@ use Rattle.std.proofs.Common.{arith, ⊎_elim, Result, Ok, Err, get_or-take}
 use Rattle.std.proofs.lemmas.{Bool.{cases_lt}, List.{get_or_past, length-replicate}}
 use Rattle.std.specs.{Cmp.Lexicographic.bytes_decides, List.list_all, Prelude.{IfOk, OnOk}}
 use Rattle.bit_blocks.{specs.{Merges.merge_of, declared.block.merge.Merge.TheVariants.{Difference, Symmetric, Union}}, proofs.MergeLemmas.{get_or-merged, length-merged}}
+use Rattle.bit_set.specs.Effects.{TellsChange}
 use Rattle.set_algebra.specs.{Members.IsUnionWithDifference, Order.same_sets, Sets.{IsAscending, difference, elements, has, intersection, is_disjoint, is_subset, symmetric_difference, those_new, union}}
 use Rattle.set_algebra.proofs.{AlgebraLemmas.{IsAscending-merge_of_sets, has-difference, has-symmetric, has-union}, MemberLemmas.none_from_members, SetLaws.{IsAscending-put_all, same_values}}
 use Rattle.set_algebra.proofs.SetLemmas.{AscendsFrom-filter, elements-padded, IsAscending-elements, elements-by_members, has-elements, has-filter, same_members}
@@ -14,19 +15,19 @@ use Rattle.set_algebra.proofs.{SizeLemmas.{has-those_new, length-put_all}, Subse
 
 -- what it reported, in other words
 pub reported_as : {E : Type 0} (s t new : List ℕ) (kept : Bool) (r : Result Bool E) → OnOk r (new ≡ t)
-    → IfOk r (λ changed. changed ≡ not (same_sets s new)) → same_sets s t ≡ kept → IfOk r (λ changed. changed ≡ not kept)
-reported_as s t new kept (Ok changed) made tells same = tells ∙ ap (λ u. not (same_sets s u)) made ∙ ap not same
+    → IfOk r (λ changed. TellsChange changed s new) → same_sets s t ≡ kept → IfOk r (λ changed. changed ≡ not kept)
+reported_as s t new kept (Ok changed) made tells same = tells.changed ∙ ap (λ u. not (same_sets s u)) made ∙ ap not same
 reported_as s t new kept (Err fault) made tells same = tt
 
 -- how many there are more, and how many fewer
-pub reported_more : {E : Type 0} (s t new : List ℕ) (kept : Bool) (r : Result Bool E) → OnOk r (new ≡ t) → IfOk r (λ changed. changed ≡ not (same_sets s new))
+pub reported_more : {E : Type 0} (s t new : List ℕ) (kept : Bool) (r : Result Bool E) → OnOk r (new ≡ t) → IfOk r (λ changed. TellsChange changed s new)
     → same_sets s t ≡ kept → length s + cond (not kept) 1 0 ≤ length t → IfOk r (λ changed. length s + cond changed 1 0 ≤ length new)
-reported_more s t new kept (Ok changed) made tells same more = rw (tells ∙ ap (λ u. not (same_sets s u)) made ∙ ap not same, made) more
+reported_more s t new kept (Ok changed) made tells same more = rw (tells.changed ∙ ap (λ u. not (same_sets s u)) made ∙ ap not same, made) more
 reported_more s t new kept (Err fault) made tells same more = tt
 
-pub reported_fewer : {E : Type 0} (s t new : List ℕ) (kept : Bool) (r : Result Bool E) → OnOk r (new ≡ t) → IfOk r (λ changed. changed ≡ not (same_sets s new))
+pub reported_fewer : {E : Type 0} (s t new : List ℕ) (kept : Bool) (r : Result Bool E) → OnOk r (new ≡ t) → IfOk r (λ changed. TellsChange changed s new)
     → same_sets s t ≡ kept → length t + cond (not kept) 1 0 ≤ length s → IfOk r (λ changed. length new + cond changed 1 0 ≤ length s)
-reported_fewer s t new kept (Ok changed) made tells same fewer = rw (tells ∙ ap (λ u. not (same_sets s u)) made ∙ ap not same, made) fewer
+reported_fewer s t new kept (Ok changed) made tells same fewer = rw (tells.changed ∙ ap (λ u. not (same_sets s u)) made ∙ ap not same, made) fewer
 reported_fewer s t new kept (Err fault) made tells same fewer = tt
 
 -- what was reported of lists of one length is so of their sets
@@ -46,8 +47,8 @@ reported_of_lengthened old mid new len changed is long tells =
     (omega (arith, long, ap length is, length-append old (replicate (len - length old) false), length-replicate (len - length old) false)) tells
 
 -- and where no change was reported there was none
-pub reported_unchanged : (s t : List ℕ) (changed : Bool) → changed ≡ not (same_sets s t) → changed ≡ false → t ≡ s
-reported_unchanged s t changed tells none = let lists = bytes_decides s t in grind arith
+pub told : (s t : List ℕ) (changed : Bool) → changed ≡ not (same_sets s t) → TellsChange changed s t
+told s t changed tells = record { changed = tells; unchanged = λ none. let lists = bytes_decides s t in grind arith }
 
 -- ---- whether a set stays
 

@@ -3,7 +3,7 @@
 use Rattle.std.proofs.Common.{◌≡◌, ℕ, ◌+◌, ◌-◌, ◌*◌, ◌/◌, ◌^◌, ◌<◌, ◌≤◌, ◌==◌, min, Bool, true, false, if◌then◌else◌, List, [], ◌∷◌, ◌++◌, map, length, All, Some, None, refl, sym, ap, ◌∙◌}
 use Rattle.std.proofs.Common.{subst, arith, inl, inr, ap₂, length-append}
 use Rattle.std.proofs.lemmas.{Bool.{ne_eqb, eq-eqb, true≢false, Decides.nat_tests}, Nat.div-mul-add}
-use Rattle.std.proofs.lemmas.List.{append-nil, append_assoc, map-append, Elements.{All-nil, All-cons, All-head, All-tail}}
+use Rattle.std.proofs.lemmas.List.{append-nil, append_assoc, map-append, Elements.{All-nil, All-head, All-pop, All-tail}}
 use Rattle.std.proofs.Math.Nat.{mul-div_cancel}
 use Rattle.bit_blocks.specs.{Highest.IsHighest, Lowest.{IsLowest, IsCleared}}
 use Rattle.bit_words.specs.Nonzero.{Hand, Nonzeros, PullsLast, PullsNonzero, Refills, RunsOut, TakesFirst, TakesLast}
@@ -17,13 +17,8 @@ whole_index w q pos = mul-div_cancel q pos
 
 -- ---- lists without their last item
 
-All-init : {X : Type 0} (P : X → Type 0) (xs : List X) (x : X) → All P (xs ++ x ∷ []) → All P xs
-All-init P [] x each = All-nil P
-All-init P (y ∷ ys) x each = All-cons P y ys (All-head P y (ys ++ x ∷ []) each) (All-init P ys x (All-tail P y (ys ++ x ∷ []) each))
-
-All-last : {X : Type 0} (P : X → Type 0) (xs : List X) (x : X) → All P (xs ++ x ∷ []) → P x
-All-last P [] x each = All-head P x [] each
-All-last P (y ∷ ys) x each = All-last P ys x (All-tail P y (ys ++ x ∷ []) each)
+last_apart : {X : Type 0} (P : X → Type 0) (xs : List X) (x : X) → All P (xs ++ x ∷ []) → All P xs × P x
+last_apart P xs x each = All-pop P (xs ++ x ∷ []) xs (Some x) refl each
 
 -- the one above the last but one is enough
 ascends-cut : (low k s : ℕ) (xs : List ℕ) → AscendsFrom low (xs ++ k ∷ [] ++ s ∷ []) → AscendsFrom low (xs ++ (k + 1) ∷ []) × (k < s)
@@ -33,11 +28,14 @@ ascends-cut low k s (x ∷ xs) up = let rest = ascends-cut (x + 1) k s xs up.1 i
 -- ---- what is left
 
 module _ {X : Type 0} (w : ℕ) (number : X → ℕ) where
+  pub indexes_of-append : (xs ys : List (ℕ × X)) → indexes_of w number (xs ++ ys) ≡ indexes_of w number xs ++ indexes_of w number ys
+  indexes_of-append [] ys = refl
+  indexes_of-append (entry ∷ entries) ys =
+      ap (λ zs. indexes w (entry.0 * w) (number entry.1) [] ++ zs) (indexes_of-append entries ys)
+      ∙ sym (append_assoc (indexes w (entry.0 * w) (number entry.1) []) (indexes_of w number entries) (indexes_of w number ys))
+
   indexes_of-pushed : (entries : List (ℕ × X)) (entry : ℕ × X) → indexes_of w number (entries ++ entry ∷ []) ≡ indexes_of w number entries ++ indexes w (entry.0 * w) (number entry.1) []
-  indexes_of-pushed [] entry = append-nil (indexes w (entry.0 * w) (number entry.1) [])
-  indexes_of-pushed (first ∷ entries) entry =
-      ap (λ xs. indexes w (first.0 * w) (number first.1) [] ++ xs) (indexes_of-pushed entries entry)
-      ∙ sym (append_assoc (indexes w (first.0 * w) (number first.1) []) (indexes_of w number entries) (indexes w (entry.0 * w) (number entry.1) []))
+  indexes_of-pushed entries entry = indexes_of-append entries (entry ∷ []) ∙ ap (λ xs. indexes_of w number entries ++ xs) (append-nil (indexes w (entry.0 * w) (number entry.1) []))
 
 -- A walk s has these blocks in hand now, and the same is left.
 pub record Reaches {X : Type 0} (w : ℕ) (number : X → ℕ) (is_block : X → Type 0) (s : Walk) (front : Hand X) (it : Nonzeros X) (back : Hand X) : Type 0 where
@@ -324,8 +322,8 @@ module _ {X : Type 0} (w : ℕ) (number : X → ℕ) (is_block : X → Type 0) (
       let count = ap length pull.item ∙ length-append t.left ((k, new.block) ∷ []) in
       record {
         reached = record {
-          walk = moved front back front new s t is is.in_hand lawful (All-init (λ (entry : ℕ × X). is_block entry.1) t.left (k, new.block)
-              (subst (All (λ (entry : ℕ × X). is_block entry.1)) pull.item is.each)) pull.same is.whole (index ∙ ap (λ n. n * w) (sym at))
+          walk = moved front back front new s t is is.in_hand lawful (last_apart (λ (entry : ℕ × X). is_block entry.1) t.left (k, new.block)
+              (subst (All (λ (entry : ℕ × X). is_block entry.1)) pull.item is.each)).0 pull.same is.whole (index ∙ ap (λ n. n * w) (sym at))
               (subst (λ n. AscendsFrom (front.index / w + 1) (map (λ entry. entry.0) t.left ++ (n + 1) ∷ [])) (sym at) up.0) (omega (arith, at, up.1)) same;
           same = same;
           kept = omega (arith, pull.counted, count);
@@ -459,14 +457,14 @@ module _ {X : Type 0} (w : ℕ) (number : X → ℕ) (is_block : X → Type 0) (
           inside = is.inside;
           fits = is.fits;
           ascends = AscendsFrom-init 0 _ x up;
-          below = All-init (λ n. n < 2 ^ 64 - 1) (left_between w number front it.left new) x below;
+          below = (last_apart (λ n. n < 2 ^ 64 - 1) (left_between w number front it.left new) x below).0;
           count_fits = omega (arith, is.count_fits, ap length taken ∙ length-append (left_between w number front it.left new) (x ∷ []));
         },
-        All-last (λ n. n < 2 ^ 64 - 1) (left_between w number front it.left new) x below,
+        (last_apart (λ n. n < 2 ^ 64 - 1) (left_between w number front it.left new) x below).1,
         record {
           item = item;
           last = takes_greatest s.left _ x (subst IsAscending to.reached.same is.ascends) item;
-          fits = All-last (λ n. n < 2 ^ 64 - 1) (left_between w number front it.left new) x below;
+          fits = (last_apart (λ n. n < 2 ^ 64 - 1) (left_between w number front it.left new) x below).1;
           pulls = record {
             pulled = to.reached.kept;
             goes_on = to.goes_on;

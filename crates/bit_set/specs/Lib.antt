@@ -11,6 +11,7 @@ pub use Rattle.set_algebra.specs.Mismatches
 pub use Rattle.bit_words.specs.Bounds
 pub mod Faults
 pub mod Effects
+pub mod Sizes
 pub mod Changes
 pub mod Capacity
 pub mod Walk

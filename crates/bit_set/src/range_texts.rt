@@ -4,6 +4,7 @@ ghost use Rattle.std.specs.declared.ops.Range.{Range};
 ghost use Rattle.bit_blocks.specs.Bits.{blocks_for, capacity_of};
 ghost use Rattle.set_algebra.specs.{Members.HasNone, Runs.in_ranges, Sets.{elements, has}};
 ghost use Rattle.bit_set.specs.RangeReading.{IsRangesFault, end_of, items_of, number_of, range_between, range_of, ranges_in, without_space};
+ghost use Rattle.bit_set.specs.Sizes.{KeepsSize};
 
 use crate::{BitBlock, BitSet};
 use std::alloc::{AllocError, Global};
@@ -58,8 +59,7 @@ impl<B: BitBlock> BitSet<B> {
         requires none { HasNone (elements self.old.values) }
         ensures members { (rs : List (Range ℕ)) → ranges_in text.now ≡ Ok rs
             → (n : ℕ) → has (elements self.new.values) n ≡ in_ranges rs n }
-        ensures length { length self.new.values ≡ length self.old.values }
-        ensures capacity { self.new.capacity ≡ self.old.capacity }
+        ensures size { KeepsSize self.old self.new }
     {
         let mut rest = all_items(text);
         'items: while let Some(items) = rest {

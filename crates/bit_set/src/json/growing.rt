@@ -1,7 +1,8 @@
 // Making the bits that were read.
 ghost use Rattle.std.specs.{Prelude.{◌≡◌, ◌≢◌, ◌+◌, ◌^◌, ◌<◌, ℕ, All, IfOk, IsOk, false, get_or, length}, Int.bit_at};
-ghost use Rattle.bit_blocks.specs.{Bits.{blocks_for, blocks_of, capacity_of}, Digits.is_one};
+ghost use Rattle.bit_blocks.specs.{Bits.{blocks_for, blocks_of}, Digits.is_one};
 ghost use Rattle.bit_set.specs.{Json.HasZeroTail, Entries.{IsEntry, numbers_of}};
+ghost use Rattle.bit_set.specs.Sizes.{IsJustOf, KeepsSize};
 
 use super::JsonBlock;
 use super::checking::block_of;
@@ -20,8 +21,7 @@ pub(super) fn bits_of_entries<B: JsonBlock>(
     requires count { length entries.now ≡ blocks_for B.width len }
     requires zero_tail { HasZeroTail B.width (numbers_of entries.now) len }
     ensures blocks { IfOk result (λ bits. blocks_of B.width bits.values ≡ numbers_of entries.now) }
-    ensures length { IfOk result (λ bits. length bits.values ≡ len) }
-    ensures capacity { IfOk result (λ bits. bits.capacity ≡ capacity_of B.width (blocks_for B.width len)) }
+    ensures size { IfOk result (λ bits. IsJustOf B.width len bits) }
     ensures empty { len ≡ 0 → IsOk result }
 {
     let mut bits = BitVec::from_elem_general(alloc, len, false)?;
@@ -40,8 +40,7 @@ fn put_ones<B: BitBlock>(bits: &mut BitVec<B>, index: usize, mut block: B)
     ensures values { (j : ℕ) → j < B.width → get_or bits.new.values (index + j) false ≡ is_one (B.number block) j }
     ensures others { (i : ℕ) → ((j : ℕ) → j < B.width → i ≢ index + j)
         → get_or bits.new.values i false ≡ get_or bits.old.values i false }
-    ensures length { length bits.new.values ≡ length bits.old.values }
-    ensures capacity { bits.new.capacity ≡ bits.old.capacity }
+    ensures size { KeepsSize bits.old bits.new }
 {
     while block != B::zero() {
         let lowest = take_lowest_one(&mut block);

@@ -1,7 +1,8 @@
 // A set of bytes, and its bytes.
-ghost use Rattle.std.specs.{Prelude.{◌≡◌, ◌≢◌, ℕ, ◌+◌, ◌-◌, ◌*◌, ◌<◌, ◌↔◌, IfErr, IfOk, IsErrOf, IsOk, IsTrue, length, slice_index}, Int.bit_at};
-ghost use Rattle.bit_blocks.specs.Bits.{blocks_for, blocks_of, capacity_of, values_of_bytes};
+ghost use Rattle.std.specs.{Prelude.{◌≡◌, ℕ, ◌+◌, ◌-◌, ◌*◌, ◌<◌, ◌↔◌, IfOk, IsOk, IsTrue, length, slice_index}, Int.bit_at};
+ghost use Rattle.bit_blocks.specs.Bits.{blocks_for, blocks_of, values_of_bytes};
 ghost use Rattle.set_algebra.specs.{Members.{HasBitsOf, HasLowBitsOf}, Sets.{elements, has}};
+ghost use Rattle.bit_set.specs.{Faults.FailsForBytes, Sizes.IsJustOf};
 
 use crate::bit_vec::BitVec;
 use crate::{BitBlock, BitSet, SetError};
@@ -20,12 +21,8 @@ impl<B: BitBlock> BitSet<B> {
         ensures elements { IfOk result (λ set. (q r : ℕ) → r < 8
             → IsTrue (has (elements set.values) (8 * q + r)) ↔ (bit_at (slice_index bytes.now q) (7 - r) ≡ 1)) }
         ensures members { IfOk result (λ set. HasBitsOf (elements set.values) bytes.now) }
-        ensures length { IfOk result (λ set. length set.values ≡ 8 * length bytes.now) }
-        ensures capacity { IfOk result (λ set. set.capacity
-            ≡ capacity_of B.width (blocks_for B.width (8 * length bytes.now))) }
-        ensures too_long { IsErrOf result SetError.Length ↔ (usize.MAX < 8 * length bytes.now) }
-        ensures fits { IfErr result (λ fault. fault ≢ SetError.Element) }
-        ensures empty { length bytes.now ≡ 0 → IsOk result }
+        ensures size { IfOk result (λ set. IsJustOf B.width (8 * length bytes.now) set) }
+        ensures fails { FailsForBytes (length bytes.now) result }
     {
         let bits = BitVec::from_bytes_general(alloc, bytes)?;
         Ok(BitSet { bits })
@@ -62,12 +59,8 @@ impl<B: BitBlock> BitSet<B> {
         ensures elements { IfOk result (λ set. (q r : ℕ) → r < 8
             → IsTrue (has (elements set.values) (8 * q + r)) ↔ (bit_at (slice_index bytes.now q) r ≡ 1)) }
         ensures members { IfOk result (λ set. HasLowBitsOf (elements set.values) bytes.now) }
-        ensures length { IfOk result (λ set. length set.values ≡ 8 * length bytes.now) }
-        ensures capacity { IfOk result (λ set. set.capacity
-            ≡ capacity_of B.width (blocks_for B.width (8 * length bytes.now))) }
-        ensures too_long { IsErrOf result SetError.Length ↔ (usize.MAX < 8 * length bytes.now) }
-        ensures fits { IfErr result (λ fault. fault ≢ SetError.Element) }
-        ensures empty { length bytes.now ≡ 0 → IsOk result }
+        ensures size { IfOk result (λ set. IsJustOf B.width (8 * length bytes.now) set) }
+        ensures fails { FailsForBytes (length bytes.now) result }
     {
         let bits = BitVec::from_bytes_lsb_general(alloc, bytes)?;
         Ok(BitSet { bits })
@@ -98,11 +91,8 @@ impl BitSet<u32> {
         ensures elements { IfOk result (λ set. (q r : ℕ) → r < 8
             → IsTrue (has (elements set.values) (8 * q + r)) ↔ (bit_at (slice_index bytes.now q) (7 - r) ≡ 1)) }
         ensures members { IfOk result (λ set. HasBitsOf (elements set.values) bytes.now) }
-        ensures length { IfOk result (λ set. length set.values ≡ 8 * length bytes.now) }
-        ensures capacity { IfOk result (λ set. set.capacity ≡ capacity_of 32 (blocks_for 32 (8 * length bytes.now))) }
-        ensures too_long { IsErrOf result SetError.Length ↔ (usize.MAX < 8 * length bytes.now) }
-        ensures fits { IfErr result (λ fault. fault ≢ SetError.Element) }
-        ensures empty { length bytes.now ≡ 0 → IsOk result }
+        ensures size { IfOk result (λ set. IsJustOf 32 (8 * length bytes.now) set) }
+        ensures fails { FailsForBytes (length bytes.now) result }
     {
         BitSet::from_bytes_general(alloc, bytes)
     }
@@ -113,11 +103,8 @@ impl BitSet<u32> {
         ensures elements { IfOk result (λ set. (q r : ℕ) → r < 8
             → IsTrue (has (elements set.values) (8 * q + r)) ↔ (bit_at (slice_index bytes.now q) r ≡ 1)) }
         ensures members { IfOk result (λ set. HasLowBitsOf (elements set.values) bytes.now) }
-        ensures length { IfOk result (λ set. length set.values ≡ 8 * length bytes.now) }
-        ensures capacity { IfOk result (λ set. set.capacity ≡ capacity_of 32 (blocks_for 32 (8 * length bytes.now))) }
-        ensures too_long { IsErrOf result SetError.Length ↔ (usize.MAX < 8 * length bytes.now) }
-        ensures fits { IfErr result (λ fault. fault ≢ SetError.Element) }
-        ensures empty { length bytes.now ≡ 0 → IsOk result }
+        ensures size { IfOk result (λ set. IsJustOf 32 (8 * length bytes.now) set) }
+        ensures fails { FailsForBytes (length bytes.now) result }
     {
         BitSet::from_bytes_lsb_general(alloc, bytes)
     }

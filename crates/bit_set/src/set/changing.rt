@@ -8,6 +8,7 @@ ghost use Rattle.set_algebra.specs.{Sets.{bound_of, elements, has, put, those_be
 ghost use Rattle.bit_set.specs.{Effects.TakesIn, Faults.IsInsertFault};
 ghost use Rattle.bit_set.specs.Changes.{Change, Changes};
 ghost use Rattle.bit_set.specs.{Changes.{outcome_of_result, outcome_of_insert, Outcome.{Done, Returned}}, Capacity.IsPastBlocks};
+ghost use Rattle.bit_set.specs.Sizes.{KeepsMembers, KeepsSize, Lengthens};
 
 use crate::{BitBlock, BitSet, SetError};
 use std::alloc::AllocError;
@@ -29,12 +30,11 @@ impl<B: BitBlock> BitSet<B> {
         ensures members { OnOk result (Updates (elements self.old.values) (elements self.new.values) value true) }
         ensures count { IfOk result (λ new. length (elements self.new.values)
             ≡ length (elements self.old.values) + (if new then 1 else 0)) }
-        ensures length { OnOk result (length self.new.values ≡ max (length self.old.values) (value + 1)) }
         ensures counted { IsCounted self.new.values }
 
         ensures unfit { IsErrOf result SetError.Element ↔ (value ≡ usize.MAX) }
         ensures fails { IfErr result (λ fault. IsInsertFault fault value self.old.capacity) }
-        ensures grows { Grows (value + 1) result self.old self.new }
+        ensures grows { Lengthens (value + 1) result self.old self.new }
         ensures past_blocks { IfErr result (λ fault. IsPastBlocks fault B.width (length self.old.values) value) }
         ensures changes { Changes (Change.Insert value) self.old.values (outcome_of_insert result) self.new.values }
     {
@@ -140,10 +140,9 @@ impl<B: BitBlock> BitSet<B> {
     // few.
     #[inline]
     fn go_ahead(&mut self, most: usize)
-        ensures elements { elements self.new.values ≡ elements self.old.values }
+        ensures kept { KeepsMembers self.old self.new }
         ensures longer { length self.old.values ≤ length self.new.values }
         ensures few { most < LEAST_GROWN → self.new ≡ self.old }
-        ensures capacity { self.new.capacity ≡ self.old.capacity }
     {
         if most >= LEAST_GROWN {
             self.grow_within(most);
@@ -154,9 +153,8 @@ impl<B: BitBlock> BitSet<B> {
     #[cold]
     #[inline(never)]
     fn grow_within(&mut self, most: usize)
-        ensures elements { elements self.new.values ≡ elements self.old.values }
+        ensures kept { KeepsMembers self.old self.new }
         ensures longer { length self.old.values ≤ length self.new.values }
-        ensures capacity { self.new.capacity ≡ self.old.capacity }
     {
         let free = self.bits.capacity() - self.bits.len();
         let ahead = most.min(MOST_AHEAD).min(free);
@@ -169,11 +167,10 @@ impl<B: BitBlock> BitSet<B> {
     #[inline]
     fn cut_ahead(&mut self, start: usize)
         requires { start ≤ length self.old.values }
-        ensures elements { elements self.new.values ≡ elements self.old.values }
+        ensures kept { KeepsMembers self.old self.new }
         ensures few { length self.old.values ≤ start + LEAST_GROWN → self.new ≡ self.old }
         ensures cut { start + LEAST_GROWN < length self.old.values
             → length self.new.values ≡ max start (bound_of (elements self.old.values)) }
-        ensures capacity { self.new.capacity ≡ self.old.capacity }
     {
         if self.bits.len() - start > LEAST_GROWN {
             self.cut_to_last(start);
@@ -185,9 +182,8 @@ impl<B: BitBlock> BitSet<B> {
     #[inline(never)]
     fn cut_to_last(&mut self, least: usize)
         requires { least ≤ length self.old.values }
-        ensures elements { elements self.new.values ≡ elements self.old.values }
+        ensures kept { KeepsMembers self.old self.new }
         ensures length { length self.new.values ≡ max least (bound_of (elements self.old.values)) }
-        ensures capacity { self.new.capacity ≡ self.old.capacity }
     {
         let len = match self.last() {
             Some(last) => least.max(last + 1),
@@ -204,9 +200,8 @@ impl<B: BitBlock> BitSet<B> {
         ensures members { Updates (elements self.old.values) (elements self.new.values) value false }
         ensures count { length (elements self.new.values) + (if result then 1 else 0)
             ≡ length (elements self.old.values) }
-        ensures length { length self.new.values ≡ length self.old.values }
+        ensures size { KeepsSize self.old self.new }
         ensures unchanged { result ≡ false → self.new ≡ self.old }
-        ensures capacity { self.new.capacity ≡ self.old.capacity }
         ensures changes { Changes (Change.Remove value) self.old.values (Returned result) self.new.values }
     {
         if value >= self.bits.len() {
@@ -232,10 +227,9 @@ impl<B: BitBlock> BitSet<B> {
             else put (elements self.old.values) value)) }
         ensures members { OnOk result (Updates (elements self.old.values) (elements self.new.values) value
             (not (has (elements self.old.values) value))) }
-        ensures length { OnOk result (length self.new.values ≡ max (length self.old.values) (value + 1)) }
         ensures unfit { IsErrOf result SetError.Element ↔ (value ≡ usize.MAX) }
         ensures fails { IfErr result (λ fault. IsInsertFault fault value self.old.capacity) }
-        ensures grows { Grows (value + 1) result self.old self.new }
+        ensures grows { Lengthens (value + 1) result self.old self.new }
         ensures changes { Changes (Change.Toggle value) self.old.values (outcome_of_insert result) self.new.values }
     {
         prove!(self.bits.len() <= usize::MAX);

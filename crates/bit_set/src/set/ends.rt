@@ -2,6 +2,7 @@
 ghost use Rattle.std.specs.{Prelude.{◌≡◌, ◌+◌, MatchOption, if◌then◌else◌, is_some, length}, Iterator.{YieldsFirst, YieldsLast}};
 ghost use Rattle.set_algebra.specs.{Members.{HasNone, TakesGreatest, TakesLeast}, Sets.elements};
 ghost use Rattle.bit_set.specs.Changes.{Change, Changes, Outcome.Gave};
+ghost use Rattle.bit_set.specs.Sizes.{KeepsSize};
 
 use crate::{BitBlock, BitSet};
 
@@ -23,8 +24,7 @@ impl<B: BitBlock> BitSet<B> {
             (λ x. TakesLeast (elements self.old.values) x (elements self.new.values)) }
         ensures count { length (elements self.new.values) + (if is_some result then 1 else 0)
             ≡ length (elements self.old.values) }
-        ensures length { length self.new.values ≡ length self.old.values }
-        ensures capacity { self.new.capacity ≡ self.old.capacity }
+        ensures size { KeepsSize self.old self.new }
         ensures changes { Changes Change.PopFirst self.old.values (Gave result) self.new.values }
     {
         self.bits.take_first_one()
@@ -44,8 +44,7 @@ impl<B: BitBlock> BitSet<B> {
             (λ x. TakesGreatest (elements self.old.values) x (elements self.new.values)) }
         ensures count { length (elements self.new.values) + (if is_some result then 1 else 0)
             ≡ length (elements self.old.values) }
-        ensures length { length self.new.values ≡ length self.old.values }
-        ensures capacity { self.new.capacity ≡ self.old.capacity }
+        ensures size { KeepsSize self.old self.new }
         ensures changes { Changes Change.PopLast self.old.values (Gave result) self.new.values }
     {
         let value = self.last()?;

@@ -1,11 +1,11 @@
 // Calls that merge a set with two others, and return whether that changed it. They write no block before the first
 // that changes.
-ghost use Rattle.std.specs.Prelude.{◌≡◌, ◌+◌, ◌≤◌, max, not, if◌then◌else◌, IfOk, OnOk, length, false};
-ghost use Rattle.bit_words.specs.Growth.{Grows};
+ghost use Rattle.std.specs.Prelude.{◌≡◌, ◌+◌, ◌≤◌, not, if◌then◌else◌, IfOk, OnOk, length};
 ghost use Rattle.set_algebra.specs.Members.{IsCounted, IsDifference, IsUnionWithIntersection};
 ghost use Rattle.set_algebra.specs.Sets.{elements, union, intersection, difference, is_subset};
 ghost use Rattle.set_algebra.specs.Order.{same_sets};
 ghost use Rattle.bit_set.specs.Changes.{Change, Changes, outcome_of_flag};
+ghost use Rattle.bit_set.specs.{Effects.TellsChange, Sizes.Lengthens};
 
 use crate::bit_vec::Merge;
 use crate::{BitBlock, BitSet};
@@ -26,18 +26,15 @@ impl<B: BitBlock> BitSet<B> {
             (intersection (elements other.now.values) (elements also.now.values))) }
         ensures members { OnOk result (IsUnionWithIntersection (elements self.old.values) (elements other.now.values)
             (elements also.now.values) (elements self.new.values)) }
-        ensures changed { IfOk result (λ changed. changed
-            ≡ not (same_sets (elements self.old.values) (elements self.new.values))) }
-        ensures unchanged { IfOk result (λ changed. changed ≡ false
-            → elements self.new.values ≡ elements self.old.values) }
+        ensures changed { IfOk result (λ changed. TellsChange changed (elements self.old.values)
+            (elements self.new.values)) }
         ensures were_in { IfOk result (λ changed. changed
             ≡ not (is_subset (intersection (elements other.now.values) (elements also.now.values))
             (elements self.old.values))) }
         ensures count { IfOk result (λ changed. length (elements self.old.values) + (if changed then 1 else 0)
             ≤ length (elements self.new.values)) }
         ensures counted { OnOk result (IsCounted self.new.values) }
-        ensures length { OnOk result (length self.new.values ≡ max (length self.old.values) (length other.now.values)) }
-        ensures grows { Grows (length other.now.values) result self.old self.new }
+        ensures grows { Lengthens (length other.now.values) result self.old self.new }
         ensures changes { Changes (Change.MergeChanges Merge.Union
             (intersection (elements other.now.values) (elements also.now.values)))
             self.old.values (outcome_of_flag result) self.new.values }
@@ -63,13 +60,10 @@ impl<B: BitBlock> BitSet<B> {
             ≡ difference (elements other.now.values) (elements except.now.values)) }
         ensures members { OnOk result (IsDifference (elements other.now.values) (elements except.now.values)
             (elements self.new.values)) }
-        ensures changed { IfOk result (λ changed. changed
-            ≡ not (same_sets (elements self.old.values) (elements self.new.values))) }
-        ensures unchanged { IfOk result (λ changed. changed ≡ false
-            → elements self.new.values ≡ elements self.old.values) }
+        ensures changed { IfOk result (λ changed. TellsChange changed (elements self.old.values)
+            (elements self.new.values)) }
         ensures counted { OnOk result (IsCounted self.new.values) }
-        ensures length { OnOk result (length self.new.values ≡ max (length self.old.values) (length other.now.values)) }
-        ensures grows { Grows (length other.now.values) result self.old self.new }
+        ensures grows { Lengthens (length other.now.values) result self.old self.new }
         ensures changes { Changes (Change.CopyDifference (elements other.now.values) (elements except.now.values))
             self.old.values (outcome_of_flag result) self.new.values }
     {

@@ -1,10 +1,11 @@
 // Calls that merge a set in place with another.
-ghost use Rattle.std.specs.Prelude.{◌≡◌, ◌-◌, ◌++◌, max, OnOk, length, replicate, false};
+ghost use Rattle.std.specs.Prelude.{◌≡◌, ◌-◌, ◌++◌, OnOk, length, replicate, false};
 ghost use Rattle.bit_words.specs.Growth.{Grows};
 ghost use Rattle.set_algebra.specs.Members.{IsDifference, IsIntersection, IsMerged, IsSymmetricDifference, IsUnion};
 ghost use Rattle.set_algebra.specs.Sets.{elements, union, intersection, difference, symmetric_difference, merge_of_sets};
 ghost use Rattle.bit_set.specs.Changes.{Change};
 ghost use Rattle.bit_set.specs.Changes.{Changes, outcome_of_result};
+ghost use Rattle.bit_set.specs.Sizes.{Lengthens};
 
 use crate::bit_vec::Merge;
 use crate::{BitBlock, BitSet};
@@ -32,8 +33,7 @@ impl<B: BitBlock> BitSet<B> {
             ≡ merge_of_sets merge (elements self.old.values) (elements other.now.values)) }
         ensures members { OnOk result (IsMerged merge (elements self.old.values) (elements other.now.values)
             (elements self.new.values)) }
-        ensures length { OnOk result (length self.new.values ≡ max (length self.old.values) (length other.now.values)) }
-        ensures grows { Grows (length other.now.values) result self.old self.new }
+        ensures grows { Lengthens (length other.now.values) result self.old self.new }
     {
         self.lengthen(other.bits.len())?;
         self.bits.merge(&other.bits, merge);
@@ -48,8 +48,7 @@ impl<B: BitBlock> BitSet<B> {
             ≡ union (elements self.old.values) (elements other.now.values)) }
         ensures members { OnOk result (IsUnion (elements self.old.values) (elements other.now.values)
             (elements self.new.values)) }
-        ensures length { OnOk result (length self.new.values ≡ max (length self.old.values) (length other.now.values)) }
-        ensures grows { Grows (length other.now.values) result self.old self.new }
+        ensures grows { Lengthens (length other.now.values) result self.old self.new }
         ensures changes { Changes (Change.UnionWith (elements other.now.values))
             self.old.values (outcome_of_result result) self.new.values }
     {
@@ -65,8 +64,7 @@ impl<B: BitBlock> BitSet<B> {
             ≡ intersection (elements self.old.values) (elements other.now.values)) }
         ensures members { OnOk result (IsIntersection (elements self.old.values) (elements other.now.values)
             (elements self.new.values)) }
-        ensures length { OnOk result (length self.new.values ≡ max (length self.old.values) (length other.now.values)) }
-        ensures grows { Grows (length other.now.values) result self.old self.new }
+        ensures grows { Lengthens (length other.now.values) result self.old self.new }
         ensures changes { Changes (Change.IntersectWith (elements other.now.values))
             self.old.values (outcome_of_result result) self.new.values }
     {
@@ -81,8 +79,7 @@ impl<B: BitBlock> BitSet<B> {
             ≡ difference (elements self.old.values) (elements other.now.values)) }
         ensures members { OnOk result (IsDifference (elements self.old.values) (elements other.now.values)
             (elements self.new.values)) }
-        ensures length { OnOk result (length self.new.values ≡ max (length self.old.values) (length other.now.values)) }
-        ensures grows { Grows (length other.now.values) result self.old self.new }
+        ensures grows { Lengthens (length other.now.values) result self.old self.new }
         ensures changes { Changes (Change.DifferenceWith (elements other.now.values))
             self.old.values (outcome_of_result result) self.new.values }
     {
@@ -97,8 +94,7 @@ impl<B: BitBlock> BitSet<B> {
             ≡ symmetric_difference (elements self.old.values) (elements other.now.values)) }
         ensures members { OnOk result (IsSymmetricDifference (elements self.old.values) (elements other.now.values)
             (elements self.new.values)) }
-        ensures length { OnOk result (length self.new.values ≡ max (length self.old.values) (length other.now.values)) }
-        ensures grows { Grows (length other.now.values) result self.old self.new }
+        ensures grows { Lengthens (length other.now.values) result self.old self.new }
         ensures changes { Changes (Change.SymmetricDifferenceWith (elements other.now.values))
             self.old.values (outcome_of_result result) self.new.values }
     {

@@ -4,6 +4,7 @@ ghost use Rattle.bit_blocks.specs.Bits.{blocks_for, capacity_of};
 ghost use Rattle.bit_words.specs.Bounds.{greatest};
 ghost use Rattle.set_algebra.specs.{Sets.{bound_of, elements, put_all}, Members.{HasNone, HasTrueOf, IsSameSet}};
 ghost use Rattle.bit_set.specs.Capacity.{IsPastBlocks};
+ghost use Rattle.bit_set.specs.Sizes.{IsJustOf};
 
 use crate::bit_vec::BitVec;
 use crate::{BitBlock, BitSet, SetError};
@@ -27,9 +28,8 @@ impl<B: BitBlock> BitSet<B> {
     pub fn with_capacity_general(alloc: Global, len: usize) -> Result<Self, AllocError>
         ensures elements { IfOk result (λ set. elements set.values ≡ []) }
         ensures members { IfOk result (λ set. HasNone (elements set.values)) }
-        ensures length { IfOk result (λ set. length set.values ≡ len) }
+        ensures size { IfOk result (λ set. IsJustOf B.width len set) }
         ensures capacity { IfOk result (λ set. len ≤ set.capacity) }
-        ensures exact { IfOk result (λ set. set.capacity ≡ capacity_of B.width (blocks_for B.width len)) }
         ensures empty { len ≡ 0 → IsOk result }
     {
         let bits = BitVec::from_elem_general(alloc, len, false)?;
@@ -102,9 +102,8 @@ impl BitSet<u32> {
     pub fn with_capacity(alloc: Global, len: usize) -> Result<Self, AllocError>
         ensures elements { IfOk result (λ set. elements set.values ≡ []) }
         ensures members { IfOk result (λ set. HasNone (elements set.values)) }
-        ensures length { IfOk result (λ set. length set.values ≡ len) }
+        ensures size { IfOk result (λ set. IsJustOf 32 len set) }
         ensures capacity { IfOk result (λ set. len ≤ set.capacity) }
-        ensures exact { IfOk result (λ set. set.capacity ≡ capacity_of 32 (blocks_for 32 len)) }
         ensures empty { len ≡ 0 → IsOk result }
     {
         BitSet::with_capacity_general(alloc, len)

@@ -1,8 +1,9 @@
 // Calls that make a set of many.
 ghost use Rattle.std.specs.Prelude.{◌≡◌, ◌≢◌, ℕ, ◌+◌, ◌*◌, ◌<◌, ◌≤◌, ◌↔◌, All, Any, IfOk, IsOk, IsTrue, [], false, get_or, length, map, true};
-ghost use Rattle.bit_blocks.specs.{Bits.{blocks_for, capacity_of}, Merges.merge_of_values};
+ghost use Rattle.bit_blocks.specs.{Bits.{capacity_of}, Merges.merge_of_values};
 ghost use Rattle.set_algebra.specs.Sets.{elements, has};
 ghost use Rattle.bit_set.specs.Many.{HasEach, HasSome, intersection_all, longest, merged_at, shortest, union_all};
+ghost use Rattle.bit_set.specs.Sizes.{IsJustOf, KeepsSize};
 
 use crate::bit_vec::{BitVec, Merge};
 use crate::{BitBlock, BitSet};
@@ -26,9 +27,7 @@ impl<B: BitBlock> BitSet<B> {
         ensures members { IfOk result (λ set. HasSome sets.now (elements set.values)) }
         ensures some { IfOk result (λ set. (n : ℕ) → IsTrue (has (elements set.values) n)
             ↔ Any (λ s. IsTrue (has (elements s.values) n)) sets.now) }
-        ensures length { IfOk result (λ set. length set.values ≡ longest sets.now) }
-        ensures capacity { IfOk result (λ set. set.capacity
-            ≡ capacity_of B.width (blocks_for B.width (longest sets.now))) }
+        ensures size { IfOk result (λ set. IsJustOf B.width (longest sets.now) set) }
         ensures empty { longest sets.now ≡ 0 → IsOk result }
     {
         let bits = merged(alloc, sets, Merge::Union, longest(sets), false)?;
@@ -51,9 +50,7 @@ impl<B: BitBlock> BitSet<B> {
         ensures members { IfOk result (λ set. HasEach sets.now (elements set.values)) }
         ensures each { IfOk result (λ set. sets.now ≢ [] → (n : ℕ) → IsTrue (has (elements set.values) n)
             ↔ All (λ s. IsTrue (has (elements s.values) n)) sets.now) }
-        ensures length { IfOk result (λ set. length set.values ≡ shortest sets.now) }
-        ensures capacity { IfOk result (λ set. set.capacity
-            ≡ capacity_of B.width (blocks_for B.width (shortest sets.now))) }
+        ensures size { IfOk result (λ set. IsJustOf B.width (shortest sets.now) set) }
         ensures empty { shortest sets.now ≡ 0 → IsOk result }
     {
         let bits = merged(alloc, sets, Merge::Intersection, shortest(sets), true)?;
@@ -97,10 +94,9 @@ fn merged<B: BitBlock>(
     value: bool,
 ) -> Result<BitVec<B>, AllocError>
     requires fits { All (λ s. len < length s.values → merge_of_values merge false true ≡ false) sets.now }
-    ensures len { IfOk result (λ bits. length bits.values ≡ len) }
+    ensures size { IfOk result (λ bits. IsJustOf B.width len bits) }
     ensures values { IfOk result (λ bits. (i : ℕ) → i < len
         → get_or bits.values i false ≡ merged_at merge sets.now i value) }
-    ensures capacity { IfOk result (λ bits. bits.capacity ≡ capacity_of B.width (blocks_for B.width len)) }
     ensures empty { len ≡ 0 → IsOk result }
 {
     let mut bits = BitVec::from_elem_general(alloc, len, value)?;
@@ -116,14 +112,13 @@ fn merge_chunk<B: BitBlock>(bits: &mut BitVec<B>, sets: &[BitSet<B>], merge: Mer
     requires some { chunk * B.width * B.width < length bits.old.values }
     requires fits { All (λ s. length bits.old.values < length s.values
         → merge_of_values merge false true ≡ false) sets.now }
-    ensures len { length bits.new.values ≡ length bits.old.values }
+    ensures size { KeepsSize bits.old bits.new }
     ensures inside { (i : ℕ) → chunk * B.width * B.width ≤ i → i < (chunk + 1) * B.width * B.width
         → get_or bits.new.values i false ≡ merged_at merge sets.now i (get_or bits.old.values i false) }
     ensures before { (i : ℕ) → i < chunk * B.width * B.width
         → get_or bits.new.values i false ≡ get_or bits.old.values i false }
     ensures after { (i : ℕ) → (chunk + 1) * B.width * B.width ≤ i
         → get_or bits.new.values i false ≡ get_or bits.old.values i false }
-    ensures capacity { bits.new.capacity ≡ bits.old.capacity }
 {
     for set in sets {
         bits.merge_chunk_with(set.get_ref(), merge, chunk);

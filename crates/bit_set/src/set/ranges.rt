@@ -4,6 +4,7 @@ ghost use Rattle.bit_words.specs.Growth.{Grows};
 ghost use Rattle.set_algebra.specs.{Members.UpdatesRange, Ranges.{span, span_end, those_in_range}};
 ghost use Rattle.bit_set.specs.{Changes.{Change, Changes, Outcome.Done, outcome_of_result}, Faults.IsInsertFault};
 ghost use Rattle.set_algebra.specs.Sets.{elements, has, is_disjoint, is_subset, symmetric_difference, those_below, those_from, union};
+ghost use Rattle.bit_set.specs.Sizes.{KeepsSize, Lengthens};
 
 use crate::{BitBlock, BitSet, SetError};
 use std::ops::Range;
@@ -14,10 +15,8 @@ impl<B: BitBlock> BitSet<B> {
     fn lengthen_for(&mut self, range: &Range<usize>) -> Result<(), SetError>
         ensures same { OnOk result (elements self.new.values ≡ elements self.old.values) }
         ensures within { OnOk result (range.now.start < range.now.end → range.now.end ≤ length self.new.values) }
-        ensures length { OnOk result (length self.new.values
-            ≡ max (length self.old.values) (span_end range.now.start range.now.end)) }
         ensures fails { IfErr result (λ fault. IsInsertFault fault (range.now.end - 1) self.old.capacity) }
-        ensures grows { Grows (span_end range.now.start range.now.end) result self.old self.new }
+        ensures grows { Lengthens (span_end range.now.start range.now.end) result self.old self.new }
     {
         let end = if range.start < range.end {
             range.end
@@ -70,10 +69,8 @@ impl<B: BitBlock> BitSet<B> {
         ensures count { OnOk result (length (elements self.new.values)
             + length (those_in_range (elements self.old.values) range.start range.end)
             ≡ length (elements self.old.values) + (range.end - range.start)) }
-        ensures length { OnOk result (length self.new.values
-            ≡ max (length self.old.values) (span_end range.start range.end)) }
         ensures fails { IfErr result (λ fault. IsInsertFault fault (range.end - 1) self.old.capacity) }
-        ensures grows { Grows (span_end range.start range.end) result self.old self.new }
+        ensures grows { Lengthens (span_end range.start range.end) result self.old self.new }
         ensures changes { Changes (Change.InsertRange range.start range.end)
             self.old.values (outcome_of_result result) self.new.values }
     {
@@ -94,8 +91,7 @@ impl<B: BitBlock> BitSet<B> {
         ensures count { length (elements self.new.values)
             + length (those_in_range (elements self.old.values) range.start range.end)
             ≡ length (elements self.old.values) }
-        ensures length { length self.new.values ≡ length self.old.values }
-        ensures capacity { self.new.capacity ≡ self.old.capacity }
+        ensures size { KeepsSize self.old self.new }
         ensures changes { Changes (Change.RemoveRange range.start range.end) self.old.values Done self.new.values }
     {
         let end = range.end.min(self.bits.len());
@@ -119,10 +115,8 @@ impl<B: BitBlock> BitSet<B> {
             range.start range.end) }
         ensures count { OnOk result (length (those_in_range (elements self.new.values) range.start range.end)
             + length (those_in_range (elements self.old.values) range.start range.end) ≡ range.end - range.start) }
-        ensures length { OnOk result (length self.new.values
-            ≡ max (length self.old.values) (span_end range.start range.end)) }
         ensures fails { IfErr result (λ fault. IsInsertFault fault (range.end - 1) self.old.capacity) }
-        ensures grows { Grows (span_end range.start range.end) result self.old self.new }
+        ensures grows { Lengthens (span_end range.start range.end) result self.old self.new }
         ensures changes { Changes (Change.ToggleRange range.start range.end)
             self.old.values (outcome_of_result result) self.new.values }
     {

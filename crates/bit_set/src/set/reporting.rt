@@ -1,11 +1,10 @@
 // Calls that merge a set in place with others, and return whether that changed it. They write no block before the
 // first that changes.
-ghost use Rattle.std.specs.Prelude.{◌≡◌, ◌+◌, ◌≤◌, max, not, if◌then◌else◌, IfOk, OnOk, length, false};
-ghost use Rattle.bit_words.specs.Growth.{Grows};
+ghost use Rattle.std.specs.Prelude.{◌≡◌, ◌+◌, ◌≤◌, not, if◌then◌else◌, IfOk, OnOk, length};
 ghost use Rattle.set_algebra.specs.Members.{IsCounted, IsDifference, IsIntersection, IsMerged, IsSymmetricDifference, IsUnion, IsUnionWithDifference};
 ghost use Rattle.set_algebra.specs.Sets.{elements, union, intersection, difference, symmetric_difference, merge_of_sets, is_subset};
-ghost use Rattle.set_algebra.specs.Order.{same_sets};
 ghost use Rattle.bit_set.specs.Changes.{Change, Changes, outcome_of_flag};
+ghost use Rattle.bit_set.specs.{Effects.TellsChange, Sizes.Lengthens};
 
 use crate::bit_vec::Merge;
 use crate::{BitBlock, BitSet};
@@ -20,13 +19,10 @@ impl<B: BitBlock> BitSet<B> {
             ≡ merge_of_sets merge (elements self.old.values) (elements other.now.values)) }
         ensures members { OnOk result (IsMerged merge (elements self.old.values) (elements other.now.values)
             (elements self.new.values)) }
-        ensures changed { IfOk result (λ changed. changed
-            ≡ not (same_sets (elements self.old.values) (elements self.new.values))) }
-        ensures unchanged { IfOk result (λ changed. changed ≡ false
-            → elements self.new.values ≡ elements self.old.values) }
+        ensures changed { IfOk result (λ changed. TellsChange changed (elements self.old.values)
+            (elements self.new.values)) }
         ensures counted { OnOk result (IsCounted self.new.values) }
-        ensures length { OnOk result (length self.new.values ≡ max (length self.old.values) (length other.now.values)) }
-        ensures grows { Grows (length other.now.values) result self.old self.new }
+        ensures grows { Lengthens (length other.now.values) result self.old self.new }
         ensures changes { Changes (Change.MergeChanges merge (elements other.now.values))
             self.old.values (outcome_of_flag result) self.new.values }
     {
@@ -49,17 +45,14 @@ impl<B: BitBlock> BitSet<B> {
             ≡ union (elements self.old.values) (elements other.now.values)) }
         ensures members { OnOk result (IsUnion (elements self.old.values) (elements other.now.values)
             (elements self.new.values)) }
-        ensures changed { IfOk result (λ changed. changed
-            ≡ not (same_sets (elements self.old.values) (elements self.new.values))) }
-        ensures unchanged { IfOk result (λ changed. changed ≡ false
-            → elements self.new.values ≡ elements self.old.values) }
+        ensures changed { IfOk result (λ changed. TellsChange changed (elements self.old.values)
+            (elements self.new.values)) }
         ensures were_in { IfOk result (λ changed. changed
             ≡ not (is_subset (elements other.now.values) (elements self.old.values))) }
         ensures count { IfOk result (λ changed. length (elements self.old.values) + (if changed then 1 else 0)
             ≤ length (elements self.new.values)) }
         ensures counted { OnOk result (IsCounted self.new.values) }
-        ensures length { OnOk result (length self.new.values ≡ max (length self.old.values) (length other.now.values)) }
-        ensures grows { Grows (length other.now.values) result self.old self.new }
+        ensures grows { Lengthens (length other.now.values) result self.old self.new }
         ensures changes { Changes (Change.MergeChanges Merge.Union (elements other.now.values))
             self.old.values (outcome_of_flag result) self.new.values }
     {
@@ -74,14 +67,11 @@ impl<B: BitBlock> BitSet<B> {
             ≡ intersection (elements self.old.values) (elements other.now.values)) }
         ensures members { OnOk result (IsIntersection (elements self.old.values) (elements other.now.values)
             (elements self.new.values)) }
-        ensures changed { IfOk result (λ changed. changed
-            ≡ not (same_sets (elements self.old.values) (elements self.new.values))) }
-        ensures unchanged { IfOk result (λ changed. changed ≡ false
-            → elements self.new.values ≡ elements self.old.values) }
+        ensures changed { IfOk result (λ changed. TellsChange changed (elements self.old.values)
+            (elements self.new.values)) }
         ensures count { IfOk result (λ changed. length (elements self.new.values) + (if changed then 1 else 0)
             ≤ length (elements self.old.values)) }
-        ensures length { OnOk result (length self.new.values ≡ max (length self.old.values) (length other.now.values)) }
-        ensures grows { Grows (length other.now.values) result self.old self.new }
+        ensures grows { Lengthens (length other.now.values) result self.old self.new }
         ensures changes { Changes (Change.MergeChanges Merge.Intersection (elements other.now.values))
             self.old.values (outcome_of_flag result) self.new.values }
     {
@@ -96,14 +86,11 @@ impl<B: BitBlock> BitSet<B> {
             ≡ difference (elements self.old.values) (elements other.now.values)) }
         ensures members { OnOk result (IsDifference (elements self.old.values) (elements other.now.values)
             (elements self.new.values)) }
-        ensures changed { IfOk result (λ changed. changed
-            ≡ not (same_sets (elements self.old.values) (elements self.new.values))) }
-        ensures unchanged { IfOk result (λ changed. changed ≡ false
-            → elements self.new.values ≡ elements self.old.values) }
+        ensures changed { IfOk result (λ changed. TellsChange changed (elements self.old.values)
+            (elements self.new.values)) }
         ensures count { IfOk result (λ changed. length (elements self.new.values) + (if changed then 1 else 0)
             ≤ length (elements self.old.values)) }
-        ensures length { OnOk result (length self.new.values ≡ max (length self.old.values) (length other.now.values)) }
-        ensures grows { Grows (length other.now.values) result self.old self.new }
+        ensures grows { Lengthens (length other.now.values) result self.old self.new }
         ensures changes { Changes (Change.MergeChanges Merge.Difference (elements other.now.values))
             self.old.values (outcome_of_flag result) self.new.values }
     {
@@ -119,12 +106,9 @@ impl<B: BitBlock> BitSet<B> {
             ≡ symmetric_difference (elements self.old.values) (elements other.now.values)) }
         ensures members { OnOk result (IsSymmetricDifference (elements self.old.values) (elements other.now.values)
             (elements self.new.values)) }
-        ensures changed { IfOk result (λ changed. changed
-            ≡ not (same_sets (elements self.old.values) (elements self.new.values))) }
-        ensures unchanged { IfOk result (λ changed. changed ≡ false
-            → elements self.new.values ≡ elements self.old.values) }
-        ensures length { OnOk result (length self.new.values ≡ max (length self.old.values) (length other.now.values)) }
-        ensures grows { Grows (length other.now.values) result self.old self.new }
+        ensures changed { IfOk result (λ changed. TellsChange changed (elements self.old.values)
+            (elements self.new.values)) }
+        ensures grows { Lengthens (length other.now.values) result self.old self.new }
         ensures changes { Changes (Change.MergeChanges Merge.Symmetric (elements other.now.values))
             self.old.values (outcome_of_flag result) self.new.values }
     {
@@ -145,15 +129,12 @@ impl<B: BitBlock> BitSet<B> {
             (difference (elements other.now.values) (elements except.now.values))) }
         ensures members { OnOk result (IsUnionWithDifference (elements self.old.values) (elements other.now.values)
             (elements except.now.values) (elements self.new.values)) }
-        ensures changed { IfOk result (λ changed. changed
-            ≡ not (same_sets (elements self.old.values) (elements self.new.values))) }
-        ensures unchanged { IfOk result (λ changed. changed ≡ false
-            → elements self.new.values ≡ elements self.old.values) }
+        ensures changed { IfOk result (λ changed. TellsChange changed (elements self.old.values)
+            (elements self.new.values)) }
         ensures count { IfOk result (λ changed. length (elements self.old.values) + (if changed then 1 else 0)
             ≤ length (elements self.new.values)) }
         ensures counted { OnOk result (IsCounted self.new.values) }
-        ensures length { OnOk result (length self.new.values ≡ max (length self.old.values) (length other.now.values)) }
-        ensures grows { Grows (length other.now.values) result self.old self.new }
+        ensures grows { Lengthens (length other.now.values) result self.old self.new }
         ensures changes { Changes (Change.MergeChanges Merge.Union
             (difference (elements other.now.values) (elements except.now.values)))
             self.old.values (outcome_of_flag result) self.new.values }

@@ -2,6 +2,7 @@
 ghost use Rattle.std.specs.{Prelude.{◌≡◌, ℕ, ◌^◌, ◌<◌, ◌≤◌, ◌&&◌, All, Bool, List, [], false, length}, Bool.MatchBool, Fn.Called, Iterator.Runs.CallKeepsClosure, List.Retain.IsFiltered};
 ghost use Rattle.set_algebra.specs.Sets.{elements, has};
 ghost use Rattle.bit_set.specs.{Changes.{Change, Changes, Outcome.Done}, Retained.{HasTested, ones}};
+ghost use Rattle.bit_set.specs.Sizes.{KeepsSize};
 
 use crate::bit_vec::{block_or_zero, take_lowest_one, with_bit};
 use crate::{BitBlock, BitSet};
@@ -48,8 +49,7 @@ impl<B: BitBlock> BitSet<B> {
         ensures asked { CallKeepsClosure F.FnMut keep → (n : ℕ) → MatchBool (has (elements self.old.values) n)
             (Called F.FnMut keep (n, tt) (has (elements self.new.values) n) keep) (has (elements self.new.values) n ≡ false) }
         ensures count { length (elements self.new.values) ≤ length (elements self.old.values) }
-        ensures length { length self.new.values ≡ length self.old.values }
-        ensures capacity { self.new.capacity ≡ self.old.capacity }
+        ensures size { KeepsSize self.old self.new }
         ensures changes { (answers : List Bool)
             × Changes (Change.Retain answers) self.old.values Done self.new.values }
     {

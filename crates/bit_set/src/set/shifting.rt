@@ -1,10 +1,10 @@
 // Calls that move each element by one distance, and the one that copies those of a range.
-ghost use Rattle.std.specs.Prelude.{◌≡◌, ◌<◌, ◌≤◌, ◌↔◌, max, min, IfErr, IfOk, IsErrOf, IsOk, OnOk, length};
-ghost use Rattle.bit_blocks.specs.Bits.{blocks_for, capacity_of, IsWithinCapacity};
-ghost use Rattle.bit_words.specs.Growth.{Grows};
+ghost use Rattle.std.specs.Prelude.{◌≡◌, ◌<◌, ◌≤◌, ◌↔◌, min, IfErr, IfOk, IsErrOf, IsOk, OnOk, length};
+ghost use Rattle.bit_blocks.specs.Bits.{IsWithinCapacity};
 ghost use Rattle.set_algebra.specs.{Moved.{IsLowered, IsRaised, KeepsRange, lowered, raised}, Ranges.{span_end, those_in_range}};
 ghost use Rattle.bit_set.specs.Changes.{Change, Changes, Outcome.Done, outcome_of_shift};
 ghost use Rattle.set_algebra.specs.Sets.{bound_of, elements};
+ghost use Rattle.bit_set.specs.Sizes.{IsJustOf, KeepsSize, Lengthens};
 
 use crate::{BitBlock, BitSet, SetError};
 use std::alloc::{AllocError, Global};
@@ -24,12 +24,10 @@ impl<B: BitBlock> BitSet<B> {
     pub fn shift_up(&mut self, distance: usize) -> Result<(), SetError>
         ensures elements { OnOk result (elements self.new.values ≡ raised (elements self.old.values) distance) }
         ensures members { OnOk result (IsRaised (elements self.old.values) (elements self.new.values) distance) }
-        ensures length { OnOk result (length self.new.values
-            ≡ max (length self.old.values) (bound_of (raised (elements self.old.values) distance))) }
         ensures unfit { IsErrOf result SetError.Element
             ↔ (usize.MAX < bound_of (raised (elements self.old.values) distance)) }
         ensures never_long { IsErrOf result SetError.Length → ⊥ }
-        ensures grows { Grows (bound_of (raised (elements self.old.values) distance)) result self.old self.new }
+        ensures grows { Lengthens (bound_of (raised (elements self.old.values) distance)) result self.old self.new }
         ensures changes { Changes (Change.ShiftUp distance) self.old.values (outcome_of_shift result) self.new.values }
     {
         let end = self.end_of_raised(distance)?;
@@ -68,8 +66,7 @@ impl<B: BitBlock> BitSet<B> {
     pub fn shift_down(&mut self, distance: usize)
         ensures elements { elements self.new.values ≡ lowered (elements self.old.values) distance }
         ensures members { IsLowered (elements self.old.values) (elements self.new.values) distance }
-        ensures length { length self.new.values ≡ length self.old.values }
-        ensures capacity { self.new.capacity ≡ self.old.capacity }
+        ensures size { KeepsSize self.old self.new }
         ensures changes { Changes (Change.ShiftDown distance) self.old.values Done self.new.values }
     {
         self.bits.shift_down(distance);
@@ -90,10 +87,8 @@ impl<B: BitBlock> BitSet<B> {
             ≡ those_in_range (elements self.now.values) range.start range.end) }
         ensures members { IfOk result (λ part. KeepsRange (elements self.now.values) (elements part.values)
             range.start range.end) }
-        ensures length { IfOk result (λ part. length part.values
-            ≡ span_end range.start (min range.end (length self.now.values))) }
-        ensures capacity { IfOk result (λ part. part.capacity
-            ≡ capacity_of B.width (blocks_for B.width (length part.values))) }
+        ensures size { IfOk result (λ part. IsJustOf B.width
+            (span_end range.start (min range.end (length self.now.values))) part) }
         ensures empty { min range.end (length self.now.values) ≤ range.start → IsOk result }
     {
         let end = range.end.min(self.bits.len());

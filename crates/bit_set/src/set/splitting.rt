@@ -1,9 +1,9 @@
 // Calls that move elements from one set to another.
-ghost use Rattle.std.specs.Prelude.{◌≡◌, ◌<◌, ◌≤◌, if◌then◌else◌, nat_lt, max, min, IfOk, OnOk, OnErr, IsOk, [], length};
+ghost use Rattle.std.specs.Prelude.{◌≡◌, ◌<◌, ◌≤◌, if◌then◌else◌, nat_lt, min, IfOk, OnOk, OnErr, IsOk, [], length};
 ghost use Rattle.bit_blocks.specs.Bits.{blocks_for, capacity_of};
-ghost use Rattle.bit_words.specs.Growth.{Grows};
 ghost use Rattle.set_algebra.specs.{Sets.{elements, those_below, those_from, union}, Members.{HasNone, IsUnion, KeepsBelow, KeepsFrom}};
 ghost use Rattle.bit_set.specs.Changes.{Change, Changes, outcome_of_result};
+ghost use Rattle.bit_set.specs.Sizes.{KeepsSize, Lengthens};
 
 use crate::{BitBlock, BitSet};
 use std::alloc::{AllocError, Global};
@@ -26,13 +26,11 @@ impl<B: BitBlock> BitSet<B> {
             ≡ union (elements self.old.values) (elements other.old.values)) }
         ensures members { OnOk result (IsUnion (elements self.old.values) (elements other.old.values)
             (elements self.new.values)) }
-        ensures length { OnOk result (length self.new.values ≡ max (length self.old.values) (length other.old.values)) }
         ensures emptied { OnOk result (elements other.new.values ≡ []) }
         ensures other_members { OnOk result (HasNone (elements other.new.values)) }
-        ensures other_length { length other.new.values ≡ length other.old.values }
-        ensures other_capacity { other.new.capacity ≡ other.old.capacity }
+        ensures other_size { KeepsSize other.old other.new }
         ensures err_other { OnErr result (other.new ≡ other.old) }
-        ensures grows { Grows (length other.old.values) result self.old self.new }
+        ensures grows { Lengthens (length other.old.values) result self.old self.new }
         ensures changes { Changes (Change.Append (elements other.old.values))
             self.old.values (outcome_of_result result) self.new.values }
     {

@@ -22,7 +22,7 @@ returns-in_err-union_with-in-Some-get-clause-succeeds g c within =
     let long : length c.in-Some-get.successors.now.values ≡ length (set_at c.args.row.now c.in-Some.state).values = ap (λ (r : Bits). length r.values) read in
     let short = within c.in-Some.state in
     let same = c.loop-state.invariant.capacity within in
-    absurd (omega (arith, long, short, same, c.in_err-union_with-in-Some-get.ensures.grows.full))
+    absurd (omega (arith, long, short, same, c.in_err-union_with-in-Some-get.ensures.grows.grows.full))
 
 pub loop-state-preserved-in-Continue-1 : goal.loop-state-preserved-in-Continue-1
 loop-state-preserved-in-Continue-1 g c =
@@ -39,7 +39,7 @@ loop-state-preserved-in-Continue-1 g c =
       capacity = λ within.
           let short = within x in
           let before = c.loop-state.invariant.capacity within in
-          c.in_ok-union_with-in-Some-get.ensures.grows.within (omega (arith, long, short, before)) ∙ before;
+          c.in_ok-union_with-in-Some-get.ensures.grows.grows.within (omega (arith, long, short, before)) ∙ before;
     }
 
 pub loop-state-preserved : goal.loop-state-preserved

@@ -19,7 +19,7 @@ loop-number-preserved g c =
       | then-not-is_disjoint w ↦
           let apart : false ≡ is_disjoint (set_of sets i) accepting = rw (c.set.ensures, c.accepting.ensures) at w.if-not-is_disjoint.ensures.returned in
           let updates : Updates (elements c.loop-number.numbers.values) (elements w.insert.new.self.values) i true = rw w.unwrap.ensures at w.insert.ensures.members in
-          let capacity : w.insert.new.self.capacity ≡ c.loop-number.numbers.capacity = w.insert.ensures.grows.within (omega arith) in
+          let capacity : w.insert.new.self.capacity ≡ c.loop-number.numbers.capacity = w.insert.ensures.grows.grows.within (omega arith) in
           let larger : length sets ≤ w.insert.new.self.capacity = omega (arith, capacity, it.capacity) in
           record {
             end = it.end;
@@ -46,7 +46,7 @@ pub set-requires : goal.set-requires
 set-requires g c = omega (arith, c.loop-number-test.true, c.len-number-end.ensures)
 
 pub unwrap-requires : goal.unwrap-requires
-unwrap-requires g c = c.insert.ensures.grows.succeeds (omega (arith, c.loop-number-test.true, c.len-number-end.ensures, c.loop-number.invariant.capacity))
+unwrap-requires g c = c.insert.ensures.grows.grows.succeeds (omega (arith, c.loop-number-test.true, c.len-number-end.ensures, c.loop-number.invariant.capacity))
 
 pub returns : goal.returns
 returns g c =

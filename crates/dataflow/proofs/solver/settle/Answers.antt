@@ -97,7 +97,7 @@ loop-next-preserved g c =
     mapped g.N.Block.flow blocks number c.index-blocks-number.result
     (record { sources = []; generated = []; killed = [] }) inside c.index-blocks-number.is in
     let takes : TakesIn (block_at flows number) number old new = rw at c.in_ok-take_in.ensures.takes in
-    let capacity = c.remove.ensures.capacity in
+    let capacity = c.remove.ensures.size.capacity in
     let enough = it.capacity in
     elim c.if-branch.branch [
       | then-branch w ↦
@@ -157,7 +157,7 @@ pub place-number-requires : goal.place-number-requires
 place-number-requires g c = c.loop-next.invariant.below c.in-Some.next c.in-Some.ensures.some
 
 pub put_back-requires-clause-capacity : goal.put_back-requires-clause-capacity
-put_back-requires-clause-capacity g c = omega (arith, c.loop-next.invariant.capacity, c.remove.ensures.capacity)
+put_back-requires-clause-capacity g c = omega (arith, c.loop-next.invariant.capacity, c.remove.ensures.size.capacity)
 
 pub bounds-blocks-number : goal.bounds-blocks-number
 bounds-blocks-number g c = c.place-number.ensures.inside

@@ -26,7 +26,7 @@ loop-source-preserved g c =
           (elements w.union_with_difference.new.self.values) = rw read at w.in_ok-grew.ensures.members in
           rw (longer, w.into-is, w.grew-is) (record {
             transfers = transfers_on (take i sources) killed (lists_of sets) old (elements c.loop-source.into.values) it.transfers x _ members;
-            same = same_on c.loop-source.grew w.in_ok-grew.field-0 old _ _ it.same w.in_ok-grew.ensures.changed;
+            same = same_on c.loop-source.grew w.in_ok-grew.field-0 old _ _ it.same w.in_ok-grew.ensures.changed.changed;
             grew = grew_on c.loop-source.grew w.in_ok-grew.field-0 old _ _ it.same it.grew w.in_ok-grew.ensures.count;
           })
       | in_default w ↦

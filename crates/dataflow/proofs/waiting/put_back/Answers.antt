@@ -25,5 +25,5 @@ loop-dependent-preserved c =
     let enough = c.requires.capacity in
     record {
       back = rw longer (puts_on (place_of count c.args.from_last) (take i dependents) _ _ _ x c.loop-dependent.invariant.back updates);
-      capacity = c.insert.ensures.grows.within (omega (arith, below, same, enough)) ∙ same;
+      capacity = c.insert.ensures.grows.grows.within (omega (arith, below, same, enough)) ∙ same;
     }

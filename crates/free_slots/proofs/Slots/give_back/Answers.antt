@@ -18,7 +18,7 @@ happens g c =
     let again = put_again s slot ascends c.sets_are_their_members.ensures.set (c.sets_ascend.ensures.put s slot ascends) (c.members_of_sets.ensures.put s slot) in
     let ok = c.unwrap.ensures in
     subst (λ (t : SlotTable). Happens t (GiveBack slot c.unwrap.result) (table_of c.insert.new.self.values)) c.self.view_is
-    (given_back values c.insert.new.self.values slot c.unwrap.result inside (rw ok at c.insert.ensures.returned) (rw ok at c.insert.ensures.elements) (rw ok at c.insert.ensures.length) again)
+    (given_back values c.insert.new.self.values slot c.unwrap.result inside (rw ok at c.insert.ensures.returned) (rw ok at c.insert.ensures.elements) (rw ok at c.insert.ensures.grows.long) again)
 
 pub returns-then-slot-len-clause-happens : goal.returns-then-slot-len-clause-happens
 returns-then-slot-len-clause-happens g c = happens g c
@@ -46,9 +46,9 @@ invariant_of-self-then-slot-len g c =
     let then = c.after_giving.result in
     let ok = c.unwrap.ensures in
     let inside : slot < length values = omega (arith, c.len.ensures.value, c.if-slot-len.true, ap (λ (t : SlotTable). t.len) c.self.view_is) in
-    let long = rw ok at c.insert.ensures.length in
+    let long = rw ok at c.insert.ensures.grows.long in
     let added = rw ok at c.insert.ensures.elements in (
-      omega (arith, long, inside, c.insert.ensures.grows.capacity, c.self.invariant.0),
+      omega (arith, long, inside, c.insert.ensures.grows.grows.capacity, c.self.invariant.0),
       subst (λ t. HasNoneBut t then.0 then.1) (sym added)
           (none_but_given s c.self.inside.given c.self.inside.searched slot then.0 then.1 c.contains-is_free.result
           (c.members_of_sets.ensures.put s slot) c.self.invariant.1 c.contains-is_free.ensures.value c.after_giving.ensures),

@@ -25,7 +25,7 @@ returns-clause-happens g c =
       lowest_from values from taken _ (c.members_of_sets.ensures.those_from s from)
           (c.sets_ascend.ensures.those_from s from (c.sets_ascend.ensures.elements values))
           (c.members_of_sets.ensures.elements values) at,
-      left values c.remove.new.self.values (without s taken) c.remove.ensures.length c.remove.ensures.elements,
+      left values c.remove.new.self.values (without s taken) c.remove.ensures.size.long c.remove.ensures.elements,
     )
 
 pub returns-in_err-taken-clause-happens : goal.returns-in_err-taken-clause-happens
@@ -44,7 +44,7 @@ invariant_of-self g c =
     let from = c.args.slot in
     let at = c.in_ok-taken.ensures.elements.1 in
     let least = least_from s from (c.members_of_sets.ensures.those_from s from) taken _ (c.sets_ascend.ensures.those_from s from (c.sets_ascend.ensures.elements values)) at in (
-      omega (arith, c.remove.ensures.length, c.remove.ensures.capacity, c.self.invariant.0),
+      omega (arith, c.remove.ensures.size.long, c.remove.ensures.size.capacity, c.self.invariant.0),
       subst (λ t. HasNoneBut t given c.after_taking-self-inside.result) (sym c.remove.ensures.elements)
           (none_but_taken s given c.self.inside.searched from c.after_taking-self-inside.result taken
           (c.members_of_sets.ensures.without s taken) c.self.invariant.1 least.2 c.after_taking-self-inside.ensures),

@@ -36,8 +36,8 @@ loop-k-preserved g c =
       filled = filled_more g.B.BitBlock.width c.loop-k.k _ c.loop-k.bits.values _ g.met.B.BitBlock.width_law.positive c.loop-k.invariant.filled
           (λ j within. ap (λ p. get_or c.put_ones.new.bits.values (p + j) false) (sym at.1) ∙ c.put_ones.ensures.values j within ∙ ap (λ m. is_one m j) at.0)
           (λ i apart. c.put_ones.ensures.others i (λ j within is. apart j within (is ∙ ap (λ p. p + j) at.1)));
-      long = c.put_ones.ensures.length ∙ c.loop-k.invariant.long;
-      capacity = c.put_ones.ensures.capacity ∙ c.loop-k.invariant.capacity;
+      long = c.put_ones.ensures.size.long ∙ c.loop-k.invariant.long;
+      capacity = c.put_ones.ensures.size.capacity ∙ c.loop-k.invariant.capacity;
     }
 
 pub returns : goal.returns
@@ -48,8 +48,7 @@ returns g c =
     record {
       blocks = blocks_of_filled g.B.BitBlock.width c.args.len _ c.loop-k.bits.values g.met.B.BitBlock.width_law.positive invariant.long (counted vs ∙ c.requires.count)
           (below_of_entries _ vs c.requires.each) c.requires.zero_tail invariant.filled;
-      length = invariant.long;
-      capacity = invariant.capacity;
+      size = record { long = invariant.long; capacity = invariant.capacity };
       empty = λ none. refl;
     }
 

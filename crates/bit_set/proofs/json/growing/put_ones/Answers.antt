@@ -43,4 +43,4 @@ returns g c =
     let same = g.met.B.BitBlock.eq_law c.loop-block.block c.zero.result c.loop-block.invariant.of_block c.zero.ensures.of_block in
     let none = same.0 (not-false _ (sym c.ne.ensures ∙ c.loop-block-test.false)) ∙ c.zero.ensures.of_number in
     let put = c.loop-block.invariant.put in
-    record { values = put_all _ _ _ _ _ _ put none; others = put.others; length = put.long; capacity = c.loop-block.invariant.capacity }
+    record { values = put_all _ _ _ _ _ _ put none; others = put.others; size = record { long = put.long; capacity = c.loop-block.invariant.capacity } }

@@ -10,9 +10,6 @@ returns-clause-changes g c = (c.in_ok-union_with.ensures.elements, refl)
 pub returns-clause-other_members : goal.returns-clause-other_members
 returns-clause-other_members g c = c.make_empty.ensures.members
 
-pub returns-clause-length : goal.returns-clause-length
-returns-clause-length g c = c.in_ok-union_with.ensures.length
-
 pub returns-clause-elements : goal.returns-clause-elements
 returns-clause-elements g c = c.in_ok-union_with.ensures.elements
 
@@ -22,14 +19,12 @@ returns-clause-members g c = c.in_ok-union_with.ensures.members
 pub returns-clause-emptied : goal.returns-clause-emptied
 returns-clause-emptied g c = c.make_empty.ensures.elements
 
-pub returns-clause-other_length : goal.returns-clause-other_length
-returns-clause-other_length g c = rw c.make_empty.ensures.whole (length-replicate _ _)
-
-pub returns-clause-other_capacity : goal.returns-clause-other_capacity
-returns-clause-other_capacity g c = ap (λ bits. bits.capacity) c.make_empty.ensures.whole
+pub returns-clause-other_size : goal.returns-clause-other_size
+returns-clause-other_size g c = record { long = rw c.make_empty.ensures.whole (length-replicate _ _); capacity = ap (λ bits. bits.capacity) c.make_empty.ensures.whole }
 
 pub returns-clause-grows : goal.returns-clause-grows
 returns-clause-grows g c = c.in_ok-union_with.ensures.grows
 
 pub returns-in_err-union_with-clause-grows : goal.returns-in_err-union_with-clause-grows
-returns-in_err-union_with-clause-grows g c = rw (err_from_is_err_and c.from_residual.result c.from_residual.ensures.1).1 (Grows-failed _ _ _ _ _ c.in_err-union_with.ensures.grows)
+returns-in_err-union_with-clause-grows g c = 
+    rw (err_from_is_err_and c.from_residual.result c.from_residual.ensures.1).1 record { long = tt; grows = Grows-failed _ _ _ _ _ c.in_err-union_with.ensures.grows.grows }

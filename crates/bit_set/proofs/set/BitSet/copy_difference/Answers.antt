@@ -1,7 +1,7 @@
-use Rattle.std.proofs.{Common.{◌∙◌, ap, length, not}}
+use Rattle.std.proofs.{Common.{◌∙◌, ap, length, not, rules}}
 use Rattle.set_algebra.proofs.MemberLemmas.{counted_within}
 use Rattle.bit_set.proofs.FusedLemmas.{elements-replaced, length-replaced, members-replaced}
-use Rattle.bit_set.proofs.ReportedLemmas.{reported_of_lengthened, reported_unchanged}
+use Rattle.bit_set.proofs.ReportedLemmas.{reported_of_lengthened, told}
 use Rattle.set_algebra.specs.{Order.same_sets, Sets.elements}
 use Rattle.bit_set.specs.Changes.{Changes, Outcome.Returned}
 use Rattle.bit_set.proofs.set.BitSet.copy_difference.Goals as goal
@@ -14,25 +14,24 @@ returns-clause-elements g c =
 pub returns-clause-members : goal.returns-clause-members
 returns-clause-members g c = members-replaced (elements c.args.other.now.values) (elements c.args.except.now.values) _ (returns-clause-elements g c)
 
-pub returns-clause-length : goal.returns-clause-length
-returns-clause-length g c =
+pub returns-clause-grows : goal.returns-clause-grows
+returns-clause-grows g c =
     let values = c.args.self.now.values in
     let others = c.args.other.now.values in
     let except = c.args.except.now.values in
-    rw (c.become_difference-changed.ensures.values, c.self.view_is, c.in_ok-lengthen.ensures.ok, c.len.ensures.value, c.other.view_is, c.except.view_is)
-    (length-replaced values others except)
+    record {
+      long = rw (c.become_difference-changed.ensures.values, c.self.view_is, c.in_ok-lengthen.ensures.ok, c.len.ensures.value, c.other.view_is, c.except.view_is)
+          (length-replaced values others except);
+      grows = search rules;
+    }
 
 pub returns-clause-changed : goal.returns-clause-changed
 returns-clause-changed g c =
-    let long = returns-clause-length g c in
+    let long = (returns-clause-grows g c).long in
     let len = c.len.ensures.value ∙ ap (λ bits. length bits.values) c.other.view_is in
-    reported_of_lengthened c.args.self.now.values c.self.inside.bits.values c.become_difference-changed.new.self.values
+    told _ _ _ (reported_of_lengthened c.args.self.now.values c.self.inside.bits.values c.become_difference-changed.new.self.values
     c.len.result c.become_difference-changed.result (ap (λ bits. bits.values) c.self.view_is ∙ c.in_ok-lengthen.ensures.ok)
-    (rw len long) c.become_difference-changed.ensures.kept
-
-pub returns-clause-unchanged : goal.returns-clause-unchanged
-returns-clause-unchanged g c =
-    reported_unchanged (elements c.args.self.now.values) (elements c.become_difference-changed.new.self.values) c.become_difference-changed.result (returns-clause-changed g c)
+    (rw len long) c.become_difference-changed.ensures.kept)
 
 pub returns-clause-counted : goal.returns-clause-counted
 returns-clause-counted g c = counted_within c.become_difference-changed.new.self c.len-2.ensures.fits
@@ -41,4 +40,4 @@ pub returns-clause-changes : goal.returns-clause-changes
 unfolding Changes
 returns-clause-changes g c =
     let made = returns-clause-elements g c in
-    (made, ap (λ changed. Returned changed) (returns-clause-changed g c ∙ ap (λ s. not (same_sets (elements c.args.self.now.values) s)) made))
+    (made, ap (λ changed. Returned changed) ((returns-clause-changed g c).changed ∙ ap (λ s. not (same_sets (elements c.args.self.now.values) s)) made))

@@ -1,4 +1,4 @@
-use Rattle.std.proofs.Common.{◌≡◌, length, take, max, length-take, ap, ◌∙◌, arith}
+use Rattle.std.proofs.Common.{◌≡◌, length, take, max, length-take, ap, ◌∙◌, arith, rules}
 use Rattle.set_algebra.{specs.Sets.{bound_of, elements}, proofs.MemberLemmas.none_from_members}
 use Rattle.bit_set.proofs.ItemLemmas.{bound-elements, bound_of_greatest, elements-cut}
 use Rattle.bit_set.proofs.set.BitSet.cut_to_last.Goals.{in-Some, in-None}
@@ -16,8 +16,8 @@ reach g c =
 cut : (g : _) (c : goal.After-truncate g) → c.truncate.new.self.values ≡ take c.match-last.len c.args.self.now.values
 cut g c = c.truncate.ensures.values ∙ ap (λ bits. take c.match-last.len bits.values) c.self.view_is
 
-pub returns-clause-elements : goal.returns-clause-elements
-returns-clause-elements g c = rw (cut g c) (elements-cut c.args.self.now.values c.match-last.len (omega (arith, reach g c)))
+pub returns-clause-kept : goal.returns-clause-kept
+returns-clause-kept g c = record { members = rw (cut g c) (elements-cut c.args.self.now.values c.match-last.len (omega (arith, reach g c))); capacity = search rules }
 
 pub returns-clause-length : goal.returns-clause-length
 returns-clause-length g c =

@@ -30,7 +30,7 @@ taken_before : (g : _) (c : goal.After-drop-item-iterator g) → TakesIn c.loop-
 taken_before g c =
     let start = c.len-start.ensures.value ∙ ap (λ bits. length bits.values) c.self.view_is in
     let cut = rw c.in-Err.ensures.grows.err at c.cut_ahead.ensures in
-    cut_ahead LEAST_GROWN c.loop-item.yielded c.args.self.now.values c.loop-item.self.values c.cut_ahead.new.self.values c.loop-item.invariant.ahead cut.elements
+    cut_ahead LEAST_GROWN c.loop-item.yielded c.args.self.now.values c.loop-item.self.values c.cut_ahead.new.self.values c.loop-item.invariant.ahead cut.kept.members
     (λ short. ap (λ bits. length bits.values) (cut.few (omega (arith, short, start)))) (λ long. omega (arith, cut.cut (omega (arith, long, start)), start))
 
 pub returns-in-Err-clause-err : goal.returns-in-Err-clause-err
@@ -39,7 +39,7 @@ returns-in-Err-clause-err g c =
     let refused = c.in-Err.ensures in
     let calls = rw c.into_iter-item-iterator.ensures.into_iter_gives at c.loop-item.yielded_by in
     let took = taken_before g c in
-    let capacity = c.cut_ahead.ensures.capacity ∙ ap (λ bits. bits.capacity) refused.grows.err in
+    let capacity = c.cut_ahead.ensures.kept.capacity ∙ ap (λ bits. bits.capacity) refused.grows.err in
     let shorter : length c.cut_ahead.new.self.values ≤ length c.loop-item.self.values = omega (arith, took.long, c.loop-item.invariant.ahead.within) in (
       items,
       c.in-Some.item,
@@ -54,7 +54,7 @@ returns-in-Err-clause-err g c =
 
 pub returns-in-Err-clause-kept : goal.returns-in-Err-clause-kept
 returns-in-Err-clause-kept g c = λ short.
-    let capacity = c.cut_ahead.ensures.capacity ∙ ap (λ bits. bits.capacity) c.in-Err.ensures.grows.err in
+    let capacity = c.cut_ahead.ensures.kept.capacity ∙ ap (λ bits. bits.capacity) c.in-Err.ensures.grows.err in
     let took = taken_before g c in
     capacity ∙ c.loop-item.invariant.kept (omega (arith, short, took.long))
 
@@ -74,7 +74,7 @@ taken : (g : _) (c : After-cut_ahead-2 g) → TakesIn c.loop-item.yielded c.args
 taken g c =
     let start = c.len-start.ensures.value ∙ ap (λ bits. length bits.values) c.self.view_is in
     let cut = c.cut_ahead-2.ensures in
-    cut_ahead LEAST_GROWN c.loop-item.yielded c.args.self.now.values c.loop-item.self.values c.cut_ahead-2.new.self.values c.loop-item.invariant.ahead cut.elements
+    cut_ahead LEAST_GROWN c.loop-item.yielded c.args.self.now.values c.loop-item.self.values c.cut_ahead-2.new.self.values c.loop-item.invariant.ahead cut.kept.members
     (λ short. ap (λ bits. length bits.values) (cut.few (omega (arith, short, start)))) (λ long. omega (arith, cut.cut (omega (arith, long, start)), start))
 
 pub returns-clause-ok : goal.returns-clause-ok
@@ -88,4 +88,4 @@ returns-clause-runs g c =
     run_to_end g.I.Iterator.next_gives _ _ c.loop-item.yielded (c.next.new.self, (c.loop-item.item-iterator, calls, c.in-None.ensures.steps)) (taken g c)
 
 pub returns-clause-kept : goal.returns-clause-kept
-returns-clause-kept g c = λ short. let took = taken g c in c.cut_ahead-2.ensures.capacity ∙ c.loop-item.invariant.kept (omega (arith, short, took.long))
+returns-clause-kept g c = λ short. let took = taken g c in c.cut_ahead-2.ensures.kept.capacity ∙ c.loop-item.invariant.kept (omega (arith, short, took.long))

@@ -34,6 +34,6 @@ pub returns-clause-members : goal.returns-clause-members
 returns-clause-members g c values other n =
     let w = g.B.BitBlock.width in
     let bits = c.in_ok-bits.bits in
-    let spelt : Spells w (view c.args.value.now) (blocks_of w bits.values) (length bits.values) = rw (c.in_ok-bits.ensures.blocks, c.in_ok-bits.ensures.length) c.in_ok-entries.ensures.ok in
+    let spelt : Spells w (view c.args.value.now) (blocks_of w bits.values) (length bits.values) = rw (c.in_ok-bits.ensures.blocks, c.in_ok-bits.ensures.size.long) c.in_ok-entries.ensures.ok in
     let same : c.from_bit_vec_general.result.values ≡ bits.values = ap (λ (b : Bits). b.values) c.from_bit_vec_general.ensures.value in
     ap (λ (list : List Bool). has (elements list) n) (same ∙ one_list w (view c.args.value.now) bits.values values g.met.B.BitBlock.width_law.positive spelt other)

@@ -67,16 +67,16 @@ pub returns-clause-counted : goal.returns-clause-counted
 returns-clause-counted g c = counted c.replace.new.self.values (rw (c.replace.ensures.values, c.self-2.view_is) (simp length-set (long g c).fits))
 
 pub returns-clause-grows : goal.returns-clause-grows
-returns-clause-grows g c = Grows-changed _ _ _ _ _ _ (c.replace.ensures.capacity ∙ ap (λ bits. bits.capacity) c.self-2.view_is) (long g c).grows
+returns-clause-grows g c = record {
+  long = rw (c.replace.ensures.values, c.self-2.view_is) (simp length-set (long g c).long);
+  grows = Grows-changed _ _ _ _ _ _ (c.replace.ensures.capacity ∙ ap (λ bits. bits.capacity) c.self-2.view_is) (long g c).grows;
+}
 
 pub returns-in_err-lengthen_past-clause-counted : goal.returns-in_err-lengthen_past-clause-counted
 returns-in_err-lengthen_past-clause-counted g c = rw (c.in_err-lengthen_past.ensures.grows.err, ← c.self.view_is) (counted_within c.self.inside.bits c.len.ensures.fits)
 
 pub returns-in_err-lengthen_past-clause-grows : goal.returns-in_err-lengthen_past-clause-grows
-returns-in_err-lengthen_past-clause-grows g c = rw (err_from_is_err_and c.from_residual.result c.from_residual.ensures.1).1 (Grows-failed _ _ _ _ _ c.in_err-lengthen_past.ensures.grows)
-
-pub returns-clause-length : goal.returns-clause-length
-returns-clause-length g c = rw (c.replace.ensures.values, c.self-2.view_is) (simp length-set (long g c).long)
+returns-in_err-lengthen_past-clause-grows g c = rw (err_from_is_err_and c.from_residual.result c.from_residual.ensures.1).1 record { long = tt; grows = Grows-failed _ _ _ _ _ c.in_err-lengthen_past.ensures.grows }
 
 pub returns-clause-unfit : goal.returns-clause-unfit
 returns-clause-unfit g c = (λ none. cc, λ greatest. absurd (omega (arith, greatest, (long g c).within, (long g c).fits)))

@@ -41,21 +41,21 @@ pub unwrap-requires : goal.unwrap-requires
 unwrap-requires g c =
     let end = within g (goal.at.unwrap-requires g c).After-insert_range
     (fills g (goal.at.unwrap-requires g c).After-first_item) in
-    c.insert_range.ensures.grows.succeeds
-    (omega (arith, end, c.items.invariant.len, c.insert_range.ensures.grows.holds_values))
+    c.insert_range.ensures.grows.grows.succeeds
+    (omega (arith, end, c.items.invariant.len, c.insert_range.ensures.grows.grows.holds_values))
 
 pub items-preserved : goal.items-preserved
 items-preserved g c =
     let at = goal.at.items-preserved g c in
     let end = within g at.After-insert_range (fills g at.After-first_item) in
-    let long = rw c.unwrap.ensures at c.insert_range.ensures.length in
+    let long = rw c.unwrap.ensures at c.insert_range.ensures.grows.long in
     record {
       fills = fills_more c.args.text.now c.first_item.result.0.now _ _ _ _ c.unwrap-range.result
           (fills g at.After-first_item) (sym c.read_range.ensures ∙ c.unwrap-range.ensures)
           (rw c.unwrap.ensures at c.insert_range.ensures.members);
       len = omega (arith, long, end, c.items.invariant.len);
-      capacity = c.insert_range.ensures.grows.within
-          (omega (arith, end, c.items.invariant.len, c.insert_range.ensures.grows.holds_values))
+      capacity = c.insert_range.ensures.grows.grows.within
+          (omega (arith, end, c.items.invariant.len, c.insert_range.ensures.grows.grows.holds_values))
           ∙ c.items.invariant.capacity;
     }
 

@@ -6,7 +6,7 @@ use Rattle.bit_set.proofs.set.BitSet.intersection_of.Goals as goal
 
 -- which numbers are in
 members : (g : Over) (c : In_ok-bits g) → HasEach c.args.sets.now (elements c.in_ok-bits.bits.values)
-members g c = intersection_members c.args.sets.now _ (rw c.shortest.ensures at c.in_ok-bits.ensures.len)
+members g c = intersection_members c.args.sets.now _ (rw c.shortest.ensures at c.in_ok-bits.ensures.size.long)
     (rw c.shortest.ensures at c.in_ok-bits.ensures.values)
 
 pub returns-clause-members : goal.returns-clause-members

@@ -1,6 +1,6 @@
-use Rattle.std.proofs.Common.{◌-◌, ◌∙◌, ap, length, not}
+use Rattle.std.proofs.Common.{◌-◌, ◌∙◌, ap, length, not, rules}
 use Rattle.set_algebra.proofs.{AlgebraLemmas.{elements-lengthened, length-lengthened}, MemberLemmas.{counted_within, members_merged}}
-use Rattle.bit_set.proofs.ReportedLemmas.{reported_of_lengthened, reported_unchanged}
+use Rattle.bit_set.proofs.ReportedLemmas.{reported_of_lengthened, told}
 use Rattle.set_algebra.specs.{Order.same_sets, Sets.elements}
 use Rattle.bit_set.specs.Changes.{Changes, Outcome.Returned}
 use Rattle.bit_set.proofs.set.BitSet.merge_changes.Goals as goal
@@ -15,25 +15,25 @@ pub returns-clause-members : goal.returns-clause-members
 returns-clause-members g c = members_merged c.args.merge (elements c.args.self.now.values)
     (elements c.args.other.now.values) (elements c.merge_changes-changed.new.self.values) (returns-clause-elements g c)
 
-pub returns-clause-length : goal.returns-clause-length
-returns-clause-length g c =
-    rw (
-      c.merge_changes-changed.ensures.values,
-      c.self.view_is,
-      c.in_ok-lengthen.ensures.ok,
-      c.len.ensures.value,
-      c.other.view_is,
-    ) (length-lengthened c.args.merge c.args.self.now.values c.args.other.now.values)
+pub returns-clause-grows : goal.returns-clause-grows
+returns-clause-grows g c =
+    record {
+      long = rw (
+            c.merge_changes-changed.ensures.values,
+            c.self.view_is,
+            c.in_ok-lengthen.ensures.ok,
+            c.len.ensures.value,
+            c.other.view_is,
+          ) (length-lengthened c.args.merge c.args.self.now.values c.args.other.now.values);
+      grows = search rules;
+    }
 
 pub returns-clause-changed : goal.returns-clause-changed
 returns-clause-changed g c =
-    let long = returns-clause-length g c in
+    let long = (returns-clause-grows g c).long in
     let len = c.len.ensures.value ∙ ap (λ bits. length bits.values) c.other.view_is in
-    reported_of_lengthened c.args.self.now.values c.self.inside.bits.values c.merge_changes-changed.new.self.values c.len.result c.merge_changes-changed.result
-    (ap (λ bits. bits.values) c.self.view_is ∙ c.in_ok-lengthen.ensures.ok) (rw len long) c.merge_changes-changed.ensures.kept
-
-pub returns-clause-unchanged : goal.returns-clause-unchanged
-returns-clause-unchanged g c = reported_unchanged (elements c.args.self.now.values) (elements c.merge_changes-changed.new.self.values) c.merge_changes-changed.result (returns-clause-changed g c)
+    told _ _ _ (reported_of_lengthened c.args.self.now.values c.self.inside.bits.values c.merge_changes-changed.new.self.values c.len.result c.merge_changes-changed.result
+    (ap (λ bits. bits.values) c.self.view_is ∙ c.in_ok-lengthen.ensures.ok) (rw len long) c.merge_changes-changed.ensures.kept)
 
 pub returns-clause-counted : goal.returns-clause-counted
 returns-clause-counted g c = counted_within c.merge_changes-changed.new.self c.len-2.ensures.fits
@@ -42,4 +42,4 @@ pub returns-clause-changes : goal.returns-clause-changes
 unfolding Changes
 returns-clause-changes g c =
     let made = returns-clause-elements g c in
-    (made, ap (λ changed. Returned changed) (returns-clause-changed g c ∙ ap (λ s. not (same_sets (elements c.args.self.now.values) s)) made))
+    (made, ap (λ changed. Returned changed) ((returns-clause-changed g c).changed ∙ ap (λ s. not (same_sets (elements c.args.self.now.values) s)) made))

@@ -19,7 +19,7 @@ long g c =
           let grown = w.in_ok-lengthen_past.ensures.values in
           let size = simp (length-append, length-replicate) at (ap length grown) in
           rw w.self-is record {
-            same = w.go_ahead.ensures.elements ∙ ap elements grown ∙ elements-padded c.args.self.now.values _;
+            same = w.go_ahead.ensures.kept.members ∙ ap elements grown ∙ elements-padded c.args.self.now.values _;
             within = omega (arith, size, w.go_ahead.ensures.longer);
             exact = λ short.
                 let few = λ (is : c.args.len - c.args.start < LEAST_GROWN). ap (λ bits. length bits.values) (w.go_ahead.ensures.few is) in

@@ -3,10 +3,6 @@ use Rattle.set_algebra.proofs.ValueLemmas.{has-within}
 use Rattle.bit_set.proofs.{CapacityLemmas.Grows-there, ChangeLemmas.changes_toggled}
 use Rattle.bit_set.proofs.set.BitSet.toggle.Goals as goal
 
-pub returns-then-remove-clause-length : goal.returns-then-remove-clause-length
-returns-then-remove-clause-length g c =
-    omega (arith, c.remove.ensures.length, has-within c.args.self.now.values c.args.value (sym c.remove.ensures.returned ∙ c.if-remove.true))
-
 pub returns-then-remove-clause-unfit : goal.returns-then-remove-clause-unfit
 returns-then-remove-clause-unfit g c =
     let within = has-within c.args.self.now.values c.args.value (sym c.remove.ensures.returned ∙ c.if-remove.true) in
@@ -17,7 +13,10 @@ pub returns-then-remove-clause-grows : goal.returns-then-remove-clause-grows
 returns-then-remove-clause-grows g c =
     let within = has-within c.args.self.now.values c.args.value (sym c.remove.ensures.returned ∙ c.if-remove.true) in
     let fits = rw c.self.view_is at c.len.ensures.fits in
-    Grows-there _ _ _ _ (omega (arith, within, fits.holds_values)) fits.holds_values c.remove.ensures.capacity
+    record {
+      long = omega (arith, c.remove.ensures.size.long, within);
+      grows = Grows-there _ _ _ _ (omega (arith, within, fits.holds_values)) fits.holds_values c.remove.ensures.size.capacity;
+    }
 
 pub returns-then-remove-clause-changes : goal.returns-then-remove-clause-changes
 returns-then-remove-clause-changes g c =

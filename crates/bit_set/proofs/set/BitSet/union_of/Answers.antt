@@ -9,7 +9,7 @@ merged-requires g c = record { fits = rw c.longest.ensures (none_longer _ c.args
 
 -- which numbers are in
 members : (g : Over) (c : In_ok-bits g) → HasSome c.args.sets.now (elements c.in_ok-bits.bits.values)
-members g c = union_members c.args.sets.now _ (rw c.longest.ensures at c.in_ok-bits.ensures.len)
+members g c = union_members c.args.sets.now _ (rw c.longest.ensures at c.in_ok-bits.ensures.size.long)
     (rw c.longest.ensures at c.in_ok-bits.ensures.values)
 
 pub returns-clause-members : goal.returns-clause-members
