@@ -1,9 +1,10 @@
 -- What the answers of calls say to C.
-use Rattle.std.specs.Prelude.{ℕ, ℤ, zero, suc, pos, negsuc, Bool, true, false, ◌==◌, if◌then◌else◌, Option, Some, None, Result, Ok, Err, alloc_error, ⊤}
+use Rattle.std.specs.Prelude.{◌≡◌, ℕ, ℤ, zero, suc, pos, negsuc, Bool, true, false, not, ◌==◌, if◌then◌else◌, List, Option, Some, None, Result, Ok, Err, IfOk, alloc_error, ⊤}
 use Rattle.std.specs.declared.alloc.AllocError.{AllocError}
 use Rattle.std.specs.declared.ops.Range.{Range}
 use Rattle.std.specs.declared.cmp.Ordering.{Ordering, TheVariants.{Less, Equal, Greater}}
 use Rattle.bit_words.specs.Bounds.{greatest}
+use Rattle.bit_set.specs.{Order.same_sets}
 use Rattle.bit_set.specs.declared.faults.SetError.{SetError, TheVariants.{Element, Length, Memory}}
 
 -- of a call that fails for memory alone: whether it was done
@@ -37,6 +38,12 @@ abbrev pub spelled : Result Bool AllocError → ℤ
 spelled (Ok false) = pos 0
 spelled (Ok true) = pos 1
 spelled (Err fault) = negsuc 0
+
+-- Such an answer says whether the members changed, which were `old` and are `new`, and is the one number that says so.
+pub record TellsChange (answer : ℤ) (old new : List ℕ) : Type 0 where
+  pub told : IfOk (changed answer) (λ it. it ≡ not (same_sets old new))
+  pub unchanged : IfOk (changed answer) (λ it. it ≡ false → new ≡ old)
+  pub exact : answer ≡ spelled (changed answer)
 
 -- of a call that looks for a member: the greatest number stands for none
 abbrev pub found : ℕ → Option ℕ

@@ -43,3 +43,13 @@ shares X life halvings null_ptr value = ffalse
 -- the address of a reference is that of the pointer
 abbrev pub IsAt : ℕ × ℕ → Ptr → Type 0
 IsAt address at = at ≡ block_ptr address.0 address.1
+
+-- so are those of two references
+pub record AreAt (address : ℕ × ℕ) (at : Ptr) (other_address : ℕ × ℕ) (other_at : Ptr) : Type 0 where
+  pub here : IsAt address at
+  pub there : IsAt other_address other_at
+
+-- two values are what they were
+pub record BothStay {X Y : Type 0} (old new : X) (other_old other_new : Y) : Type 0 where
+  pub kept : new ≡ old
+  pub other_kept : other_new ≡ other_old

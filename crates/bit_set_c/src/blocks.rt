@@ -1,9 +1,9 @@
 // The blocks of a set, lent for reading, and copied out and in.
-ghost use Rattle.std.specs.Prelude.{◌≡◌, ◌≢◌, ℕ, ◌+◌, ◌*◌, ◌^◌, ◌<◌, ◌≤◌, ◌-◌, ◌++◌, false, drop, get_or, length, max, min, replicate, slice_index, take, OnErr, OnOk};
+ghost use Rattle.std.specs.Prelude.{◌≡◌, ◌≢◌, ℕ, ◌+◌, ◌*◌, ◌^◌, ◌<◌, ◌-◌, ◌++◌, false, drop, get_or, length, min, replicate, slice_index, OnErr, OnOk};
 ghost use Rattle.bit_blocks.specs.{Bits.blocks_of, Digits.is_one, Ranges.in_range};
 ghost use Rattle.bit_words.specs.Growth.{Grows};
 ghost use Rattle.bit_set.specs.{Ranges.span_end, Sets.{elements, has}};
-ghost use Rattle.bit_set_c.specs.{Answers.done, Block.width, Handed.IsAt};
+ghost use Rattle.bit_set_c.specs.{Answers.done, Block.width, Copies.CopiesFront, Handed.IsAt, Sizes.Lengthens};
 
 use crate::block::{Block, WIDTH};
 use crate::handed::{Exclusive, Shared};
@@ -39,9 +39,7 @@ pub(crate) fn blocks_from(set: &BitSet<Block>, from: usize) -> &[Block]
 }
 
 fn copy_front(from: &[Block], to: &mut [Block]) -> usize
-    ensures count { result ≡ min (length to.old) (length from.now) }
-    ensures values { take result to.new ≡ take result from.now }
-    ensures others { drop result to.new ≡ drop result to.old }
+    ensures { CopiesFront result from.now to.old to.new }
 {
     let count = from.len().min(to.len());
     to[..count].copy_from_slice(&from[..count]);
@@ -52,9 +50,7 @@ fn copy_front(from: &[Block], to: &mut [Block]) -> usize
 #[unsafe(no_mangle)]
 pub extern "C" fn bit_set_copy_blocks(set: &mut Shared, from: usize, blocks: &mut [Block]) -> usize
     requires here { IsAt set.ref_ptr set.old.at }
-    ensures count { result ≡ min (length blocks.old) (length (drop from (blocks_of width set.old.bits.values))) }
-    ensures values { take result blocks.new ≡ take result (drop from (blocks_of width set.old.bits.values)) }
-    ensures others { drop result blocks.new ≡ drop result blocks.old }
+    ensures copied { CopiesFront result (drop from (blocks_of width set.old.bits.values)) blocks.old blocks.new }
     ensures kept { set.new ≡ set.old }
 {
     copy_front(blocks_from(set.get(), from), blocks)
@@ -79,11 +75,8 @@ fn put_blocks(bits: &mut BitVec<Block>, from: usize, blocks: &[Block]) -> bool
     ensures others { OnOk (done result) ((i : ℕ)
         → in_range (from * width) ((from + length blocks.now) * width) i ≡ false
         → get_or bits.new.values i false ≡ get_or bits.old.values i false) }
-    ensures length { OnOk (done result) (length bits.new.values
-        ≡ max (length bits.old.values) (span_end (from * width) ((from + length blocks.now) * width))) }
     ensures too_long { usize.MAX < span_end (from * width) ((from + length blocks.now) * width) → result ≡ false }
-    ensures grows { Grows (span_end (from * width) ((from + length blocks.now) * width)) (done result)
-        bits.old bits.new }
+    ensures grows { Lengthens (span_end (from * width) ((from + length blocks.now) * width)) (done result) bits.old bits.new }
 {
     // Only for the proof: the capacity holds the list, and is a `usize`.
     prove!(bits.len() <= bits.capacity());
@@ -114,11 +107,8 @@ pub extern "C" fn bit_set_put_blocks(set: &mut Exclusive, from: usize, blocks: &
     ensures others { OnOk (done result) ((n : ℕ)
         → in_range (from * width) ((from + length blocks.now) * width) n ≡ false
         → has (elements set.new.bits.values) n ≡ has (elements set.old.bits.values) n) }
-    ensures length { OnOk (done result) (length set.new.bits.values
-        ≡ max (length set.old.bits.values) (span_end (from * width) ((from + length blocks.now) * width))) }
     ensures too_long { usize.MAX < span_end (from * width) ((from + length blocks.now) * width) → result ≡ false }
-    ensures grows { Grows (span_end (from * width) ((from + length blocks.now) * width)) (done result)
-        set.old.bits set.new.bits }
+    ensures grows { Lengthens (span_end (from * width) ((from + length blocks.now) * width)) (done result) set.old.bits set.new.bits }
     ensures place { set.new.at ≡ set.old.at }
 {
     put_blocks(set.get().get_mut(), from, blocks)

@@ -2,7 +2,7 @@
 ghost use Rattle.std.specs.Prelude.{◌≡◌, ℕ, ◌+◌, ◌*◌, ◌-◌, ◌/◌, ◌%◌, ◌<◌, ◌≤◌, drop, get_or, length, min, slice_index};
 ghost use Rattle.bit_blocks.specs.{Bits.blocks_for, Digits.is_one};
 ghost use Rattle.bit_set.specs.Sets.{elements, has};
-ghost use Rattle.bit_set_c.specs.{Block.width, Handed.IsAt};
+ghost use Rattle.bit_set_c.specs.{Block.width, Copies.FillsFront, Handed.IsAt};
 
 use crate::block::{Block, WIDTH};
 use crate::blocks::blocks_from;
@@ -62,10 +62,9 @@ fn put_range(blocks: &[Block], from: usize, bytes: &mut [u8], count: usize)
 }
 
 fn copy_bytes(set: &BitSet<Block>, from: usize, bytes: &mut [u8]) -> usize
-    ensures count { result ≡ min (length bytes.old) (blocks_for 8 (length set.now.values) - from) }
+    ensures fills { FillsFront result (blocks_for 8 (length set.now.values) - from) bytes.old bytes.new }
     ensures members { (q j : ℕ) → q < result → j < 8 → is_one (slice_index bytes.new q) j
         ≡ has (elements set.now.values) (8 * (from + q) + j) }
-    ensures others { drop result bytes.new ≡ drop result bytes.old }
 {
     let all = set.get_ref().len().div_ceil(8);
     let from = from.min(all);
@@ -91,10 +90,9 @@ fn turn_bytes(bytes: &mut [u8], count: usize)
 #[unsafe(no_mangle)]
 pub extern "C" fn bit_set_copy_bytes(set: &mut Shared, from: usize, bytes: &mut [u8]) -> usize
     requires here { IsAt set.ref_ptr set.old.at }
-    ensures count { result ≡ min (length bytes.old) (blocks_for 8 (length set.old.bits.values) - from) }
+    ensures fills { FillsFront result (blocks_for 8 (length set.old.bits.values) - from) bytes.old bytes.new }
     ensures members { (q j : ℕ) → q < result → j < 8 → is_one (slice_index bytes.new q) (7 - j)
         ≡ has (elements set.old.bits.values) (8 * (from + q) + j) }
-    ensures others { drop result bytes.new ≡ drop result bytes.old }
     ensures kept { set.new ≡ set.old }
 {
     let count = copy_bytes(set.get(), from, bytes);
@@ -107,10 +105,9 @@ pub extern "C" fn bit_set_copy_bytes(set: &mut Shared, from: usize, bytes: &mut 
 #[unsafe(no_mangle)]
 pub extern "C" fn bit_set_copy_bytes_lsb(set: &mut Shared, from: usize, bytes: &mut [u8]) -> usize
     requires here { IsAt set.ref_ptr set.old.at }
-    ensures count { result ≡ min (length bytes.old) (blocks_for 8 (length set.old.bits.values) - from) }
+    ensures fills { FillsFront result (blocks_for 8 (length set.old.bits.values) - from) bytes.old bytes.new }
     ensures members { (q j : ℕ) → q < result → j < 8 → is_one (slice_index bytes.new q) j
         ≡ has (elements set.old.bits.values) (8 * (from + q) + j) }
-    ensures others { drop result bytes.new ≡ drop result bytes.old }
     ensures kept { set.new ≡ set.old }
 {
     copy_bytes(set.get(), from, bytes)

@@ -3,7 +3,7 @@ ghost use Rattle.std.specs.Prelude.{◌≡◌, max, min, OnOk, false, [], length
 ghost use Rattle.bit_blocks.specs.Bits.{blocks_for, capacity_of};
 ghost use Rattle.bit_words.specs.Growth.{Grows};
 ghost use Rattle.bit_set.specs.{Members.{HasNone, IsSameSet, KeepsBelow}, Sets.{elements, those_below}};
-ghost use Rattle.bit_set_c.specs.{Answers.done, Block.width, Handed.IsAt};
+ghost use Rattle.bit_set_c.specs.{Answers.done, Block.width, Handed.{AreAt, BothStay, IsAt}};
 
 use crate::handed::{Exclusive, Shared};
 
@@ -48,16 +48,14 @@ pub extern "C" fn bit_set_reset(set: &mut Exclusive)
 /// Becomes equal to the other set, and returns whether it could.
 #[unsafe(no_mangle)]
 pub extern "C" fn bit_set_copy(set: &mut Exclusive, other: &mut Shared) -> bool
-    requires here { IsAt set.ref_ptr set.old.at }
-    requires there { IsAt other.ref_ptr other.old.at }
+    requires here { AreAt set.ref_ptr set.old.at other.ref_ptr other.old.at }
     ensures ok { OnOk (done result) (set.new.bits.values ≡ other.old.bits.values) }
     ensures members { OnOk (done result)
         (IsSameSet (elements set.new.bits.values) (elements other.old.bits.values)) }
     ensures grows { Grows (length other.old.bits.values) (done result) set.old.bits set.new.bits }
     ensures exact { OnOk (done result) (set.new.bits.capacity ≡ max set.old.bits.capacity
         (capacity_of width (blocks_for width (length other.old.bits.values)))) }
-    ensures place { set.new.at ≡ set.old.at }
-    ensures other_kept { other.new ≡ other.old }
+    ensures kept { BothStay set.old.at set.new.at other.old other.new }
 {
     set.get().clone_from(other.get()).is_ok()
 }

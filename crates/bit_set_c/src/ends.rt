@@ -1,7 +1,7 @@
 // Calls that remove the least or the greatest member.
 ghost use Rattle.std.specs.{Prelude.{◌≡◌, ◌+◌, MatchOption, if◌then◌else◌, is_some, length}, Iterator.{YieldsFirst, YieldsLast}};
 ghost use Rattle.bit_set.specs.{Members.{HasNone, TakesGreatest, TakesLeast}, Sets.elements};
-ghost use Rattle.bit_set_c.specs.{Answers.found, Handed.IsAt};
+ghost use Rattle.bit_set_c.specs.{Answers.found, Handed.IsAt, Sizes.KeepsSize};
 
 use crate::handed::Exclusive;
 use crate::searching::or_max;
@@ -16,8 +16,7 @@ pub extern "C" fn bit_set_pop_first(set: &mut Exclusive) -> usize
         (λ m. TakesLeast (elements set.old.bits.values) m (elements set.new.bits.values)) }
     ensures count { length (elements set.new.bits.values) + (if is_some (found result) then 1 else 0)
         ≡ length (elements set.old.bits.values) }
-    ensures length { length set.new.bits.values ≡ length set.old.bits.values }
-    ensures capacity { set.new.bits.capacity ≡ set.old.bits.capacity }
+    ensures size { KeepsSize set.old.bits set.new.bits }
     ensures place { set.new.at ≡ set.old.at }
 {
     let set = set.get();
@@ -35,8 +34,7 @@ pub extern "C" fn bit_set_pop_last(set: &mut Exclusive) -> usize
         (λ m. TakesGreatest (elements set.old.bits.values) m (elements set.new.bits.values)) }
     ensures count { length (elements set.new.bits.values) + (if is_some (found result) then 1 else 0)
         ≡ length (elements set.old.bits.values) }
-    ensures length { length set.new.bits.values ≡ length set.old.bits.values }
-    ensures capacity { set.new.bits.capacity ≡ set.old.bits.capacity }
+    ensures size { KeepsSize set.old.bits set.new.bits }
     ensures place { set.new.at ≡ set.old.at }
 {
     let set = set.get();

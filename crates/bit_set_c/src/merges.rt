@@ -1,8 +1,8 @@
 // The blocks of a merge of two sets, copied out. Both may be the same set.
-ghost use Rattle.std.specs.Prelude.{◌≡◌, ℕ, ◌+◌, ◌*◌, ◌<◌, drop, get_or, length, max, min, slice_index};
+ghost use Rattle.std.specs.Prelude.{◌≡◌, ℕ, ◌+◌, ◌*◌, ◌<◌, drop, get_or, length, max, slice_index};
 ghost use Rattle.bit_blocks.specs.{Bits.blocks_of, Digits.is_one, Merges.merge_of_values};
 ghost use Rattle.bit_set.specs.Sets.{elements, has};
-ghost use Rattle.bit_set_c.specs.{Block.width, Handed.IsAt};
+ghost use Rattle.bit_set_c.specs.{Block.width, Copies.FillsFront, Handed.{AreAt, BothStay}};
 
 use crate::block::Block;
 use crate::blocks::blocks_from;
@@ -11,10 +11,9 @@ use bit_set::BitSet;
 use bit_set::bit_vec::{Merge, block_or_zero};
 
 fn merge_front(a: &[Block], b: &[Block], merge: Merge, to: &mut [Block]) -> usize
-    ensures count { result ≡ min (length to.old) (max (length a.now) (length b.now)) }
+    ensures fills { FillsFront result (max (length a.now) (length b.now)) to.old to.new }
     ensures digits { (k j : ℕ) → k < result → j < width → is_one (get_or to.new k 0) j
         ≡ merge_of_values merge (is_one (get_or a.now k 0) j) (is_one (get_or b.now k 0) j) }
-    ensures others { drop result to.new ≡ drop result to.old }
 {
     let count = to.len().min(a.len().max(b.len()));
     for k in 0..count {
@@ -30,12 +29,11 @@ fn copy_merged(
     from: usize,
     blocks: &mut [Block],
 ) -> usize
-    ensures count { result ≡ min (length blocks.old) (max (length (drop from (blocks_of width set.now.values)))
-        (length (drop from (blocks_of width other.now.values)))) }
+    ensures fills { FillsFront result (max (length (drop from (blocks_of width set.now.values)))
+        (length (drop from (blocks_of width other.now.values)))) blocks.old blocks.new }
     ensures members { (k j : ℕ) → k < result → j < width → is_one (slice_index blocks.new k) j
         ≡ merge_of_values merge (has (elements set.now.values) ((from + k) * width + j))
         (has (elements other.now.values) ((from + k) * width + j)) }
-    ensures others { drop result blocks.new ≡ drop result blocks.old }
 {
     merge_front(
         blocks_from(set, from),
@@ -53,16 +51,13 @@ pub extern "C" fn bit_set_copy_union(
     from: usize,
     blocks: &mut [Block],
 ) -> usize
-    requires here { IsAt set.ref_ptr set.old.at }
-    requires there { IsAt other.ref_ptr other.old.at }
-    ensures count { result ≡ min (length blocks.old) (max (length (drop from (blocks_of width set.old.bits.values)))
-        (length (drop from (blocks_of width other.old.bits.values)))) }
+    requires here { AreAt set.ref_ptr set.old.at other.ref_ptr other.old.at }
+    ensures fills { FillsFront result (max (length (drop from (blocks_of width set.old.bits.values)))
+        (length (drop from (blocks_of width other.old.bits.values)))) blocks.old blocks.new }
     ensures members { (k j : ℕ) → k < result → j < width → is_one (slice_index blocks.new k) j
         ≡ merge_of_values Merge.Union (has (elements set.old.bits.values) ((from + k) * width + j))
         (has (elements other.old.bits.values) ((from + k) * width + j)) }
-    ensures others { drop result blocks.new ≡ drop result blocks.old }
-    ensures kept { set.new ≡ set.old }
-    ensures other_kept { other.new ≡ other.old }
+    ensures kept { BothStay set.old set.new other.old other.new }
 {
     copy_merged(set.get(), other.get(), Merge::Union, from, blocks)
 }
@@ -75,16 +70,13 @@ pub extern "C" fn bit_set_copy_intersection(
     from: usize,
     blocks: &mut [Block],
 ) -> usize
-    requires here { IsAt set.ref_ptr set.old.at }
-    requires there { IsAt other.ref_ptr other.old.at }
-    ensures count { result ≡ min (length blocks.old) (max (length (drop from (blocks_of width set.old.bits.values)))
-        (length (drop from (blocks_of width other.old.bits.values)))) }
+    requires here { AreAt set.ref_ptr set.old.at other.ref_ptr other.old.at }
+    ensures fills { FillsFront result (max (length (drop from (blocks_of width set.old.bits.values)))
+        (length (drop from (blocks_of width other.old.bits.values)))) blocks.old blocks.new }
     ensures members { (k j : ℕ) → k < result → j < width → is_one (slice_index blocks.new k) j
         ≡ merge_of_values Merge.Intersection (has (elements set.old.bits.values) ((from + k) * width + j))
         (has (elements other.old.bits.values) ((from + k) * width + j)) }
-    ensures others { drop result blocks.new ≡ drop result blocks.old }
-    ensures kept { set.new ≡ set.old }
-    ensures other_kept { other.new ≡ other.old }
+    ensures kept { BothStay set.old set.new other.old other.new }
 {
     copy_merged(set.get(), other.get(), Merge::Intersection, from, blocks)
 }
@@ -97,16 +89,13 @@ pub extern "C" fn bit_set_copy_difference(
     from: usize,
     blocks: &mut [Block],
 ) -> usize
-    requires here { IsAt set.ref_ptr set.old.at }
-    requires there { IsAt other.ref_ptr other.old.at }
-    ensures count { result ≡ min (length blocks.old) (max (length (drop from (blocks_of width set.old.bits.values)))
-        (length (drop from (blocks_of width other.old.bits.values)))) }
+    requires here { AreAt set.ref_ptr set.old.at other.ref_ptr other.old.at }
+    ensures fills { FillsFront result (max (length (drop from (blocks_of width set.old.bits.values)))
+        (length (drop from (blocks_of width other.old.bits.values)))) blocks.old blocks.new }
     ensures members { (k j : ℕ) → k < result → j < width → is_one (slice_index blocks.new k) j
         ≡ merge_of_values Merge.Difference (has (elements set.old.bits.values) ((from + k) * width + j))
         (has (elements other.old.bits.values) ((from + k) * width + j)) }
-    ensures others { drop result blocks.new ≡ drop result blocks.old }
-    ensures kept { set.new ≡ set.old }
-    ensures other_kept { other.new ≡ other.old }
+    ensures kept { BothStay set.old set.new other.old other.new }
 {
     copy_merged(set.get(), other.get(), Merge::Difference, from, blocks)
 }
@@ -120,16 +109,13 @@ pub extern "C" fn bit_set_copy_symmetric_difference(
     from: usize,
     blocks: &mut [Block],
 ) -> usize
-    requires here { IsAt set.ref_ptr set.old.at }
-    requires there { IsAt other.ref_ptr other.old.at }
-    ensures count { result ≡ min (length blocks.old) (max (length (drop from (blocks_of width set.old.bits.values)))
-        (length (drop from (blocks_of width other.old.bits.values)))) }
+    requires here { AreAt set.ref_ptr set.old.at other.ref_ptr other.old.at }
+    ensures fills { FillsFront result (max (length (drop from (blocks_of width set.old.bits.values)))
+        (length (drop from (blocks_of width other.old.bits.values)))) blocks.old blocks.new }
     ensures members { (k j : ℕ) → k < result → j < width → is_one (slice_index blocks.new k) j
         ≡ merge_of_values Merge.Symmetric (has (elements set.old.bits.values) ((from + k) * width + j))
         (has (elements other.old.bits.values) ((from + k) * width + j)) }
-    ensures others { drop result blocks.new ≡ drop result blocks.old }
-    ensures kept { set.new ≡ set.old }
-    ensures other_kept { other.new ≡ other.old }
+    ensures kept { BothStay set.old set.new other.old other.new }
 {
     copy_merged(set.get(), other.get(), Merge::Symmetric, from, blocks)
 }

@@ -1,8 +1,7 @@
 // Calls on the numbers of a range: from `start` up to `end`, and none if `end` is `start` or below.
 ghost use Rattle.std.specs.Prelude.{◌≡◌, ℕ, ◌+◌, ◌-◌, ◌<◌, ◌≤◌, ◌↔◌, ◌++◌, false, length, max, not, true, IsTrue, OnOk};
-ghost use Rattle.bit_words.specs.Growth.{Grows};
 ghost use Rattle.bit_set.specs.{Members.UpdatesRange, Ranges.{span, span_end, those_in_range}, Sets.{elements, has, is_disjoint, is_subset, symmetric_difference, those_below, those_from, union}};
-ghost use Rattle.bit_set_c.specs.{Answers.done, Handed.IsAt};
+ghost use Rattle.bit_set_c.specs.{Answers.done, Handed.IsAt, Sizes.{KeepsSize, Lengthens}};
 
 use crate::handed::{Exclusive, Shared};
 
@@ -17,9 +16,7 @@ pub extern "C" fn bit_set_insert_range(set: &mut Exclusive, start: usize, end: u
     ensures count { OnOk (done result) (length (elements set.new.bits.values)
         + length (those_in_range (elements set.old.bits.values) start end)
         ≡ length (elements set.old.bits.values) + (end - start)) }
-    ensures length { OnOk (done result) (length set.new.bits.values
-        ≡ max (length set.old.bits.values) (span_end start end)) }
-    ensures grows { Grows (span_end start end) (done result) set.old.bits set.new.bits }
+    ensures grows { Lengthens (span_end start end) (done result) set.old.bits set.new.bits }
     ensures place { set.new.at ≡ set.old.at }
 {
     set.get().insert_range(start..end).is_ok()
@@ -36,8 +33,7 @@ pub extern "C" fn bit_set_remove_range(set: &mut Exclusive, start: usize, end: u
     ensures count { length (elements set.new.bits.values)
         + length (those_in_range (elements set.old.bits.values) start end)
         ≡ length (elements set.old.bits.values) }
-    ensures length { length set.new.bits.values ≡ length set.old.bits.values }
-    ensures capacity { set.new.bits.capacity ≡ set.old.bits.capacity }
+    ensures size { KeepsSize set.old.bits set.new.bits }
     ensures place { set.new.at ≡ set.old.at }
 {
     set.get().remove_range(start..end);
@@ -51,9 +47,7 @@ pub extern "C" fn bit_set_toggle_range(set: &mut Exclusive, start: usize, end: u
         ≡ symmetric_difference (elements set.old.bits.values) (span start end)) }
     ensures members { OnOk (done result) (UpdatesRange not (elements set.old.bits.values)
         (elements set.new.bits.values) start end) }
-    ensures length { OnOk (done result) (length set.new.bits.values
-        ≡ max (length set.old.bits.values) (span_end start end)) }
-    ensures grows { Grows (span_end start end) (done result) set.old.bits set.new.bits }
+    ensures grows { Lengthens (span_end start end) (done result) set.old.bits set.new.bits }
     ensures place { set.new.at ≡ set.old.at }
 {
     set.get().toggle_range(start..end).is_ok()

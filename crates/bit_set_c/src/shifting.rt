@@ -1,8 +1,7 @@
 // Calls that move each member by one distance.
-ghost use Rattle.std.specs.Prelude.{◌≡◌, ◌<◌, ◌↔◌, max, IsErrOf, OnOk, length};
-ghost use Rattle.bit_words.specs.Growth.{Grows};
+ghost use Rattle.std.specs.Prelude.{◌≡◌, ◌<◌, ◌↔◌, IsErrOf, OnOk, length};
 ghost use Rattle.bit_set.specs.{Moved.{IsLowered, IsRaised, lowered, raised}, Sets.{bound_of, elements}};
-ghost use Rattle.bit_set_c.specs.{Answers.moved, Handed.IsAt};
+ghost use Rattle.bit_set_c.specs.{Answers.moved, Handed.IsAt, Sizes.{KeepsSize, Lengthens}};
 
 use crate::handed::Exclusive;
 use bit_set::SetError;
@@ -28,13 +27,10 @@ pub extern "C" fn bit_set_shift_up(set: &mut Exclusive, distance: usize) -> i32
         (elements set.new.bits.values ≡ raised (elements set.old.bits.values) distance) }
     ensures members { OnOk (moved result)
         (IsRaised (elements set.old.bits.values) (elements set.new.bits.values) distance) }
-    ensures length { OnOk (moved result) (length set.new.bits.values
-        ≡ max (length set.old.bits.values) (bound_of (raised (elements set.old.bits.values) distance))) }
     ensures unfit { IsErrOf (moved result) SetError.Element
         ↔ (usize.MAX < bound_of (raised (elements set.old.bits.values) distance)) }
     ensures never_long { IsErrOf (moved result) SetError.Length → ⊥ }
-    ensures grows { Grows (bound_of (raised (elements set.old.bits.values) distance)) (moved result)
-        set.old.bits set.new.bits }
+    ensures grows { Lengthens (bound_of (raised (elements set.old.bits.values) distance)) (moved result) set.old.bits set.new.bits }
     ensures place { set.new.at ≡ set.old.at }
 {
     answer_of(set.get().shift_up(distance))
@@ -46,8 +42,7 @@ pub extern "C" fn bit_set_shift_down(set: &mut Exclusive, distance: usize)
     requires here { IsAt set.ref_ptr set.old.at }
     ensures elements { elements set.new.bits.values ≡ lowered (elements set.old.bits.values) distance }
     ensures members { IsLowered (elements set.old.bits.values) (elements set.new.bits.values) distance }
-    ensures length { length set.new.bits.values ≡ length set.old.bits.values }
-    ensures capacity { set.new.bits.capacity ≡ set.old.bits.capacity }
+    ensures size { KeepsSize set.old.bits set.new.bits }
     ensures place { set.new.at ≡ set.old.at }
 {
     set.get().shift_down(distance);

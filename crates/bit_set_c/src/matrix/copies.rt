@@ -1,9 +1,9 @@
 // The columns of a row, and its blocks, copied out.
-ghost use Rattle.std.specs.Prelude.{◌≡◌, ℕ, ◌+◌, ◌*◌, ◌-◌, ◌<◌, ◌≤◌, drop, false, get_or, length, min, slice_index, take};
+ghost use Rattle.std.specs.Prelude.{◌≡◌, ℕ, ◌+◌, ◌*◌, ◌-◌, ◌<◌, ◌≤◌, length, min, slice_index};
 ghost use Rattle.bit_blocks.specs.{Bits.blocks_for, Digits.is_one};
 ghost use Rattle.bit_set.specs.Sets.{those_from};
 ghost use Rattle.bit_matrix.specs.Matrices.{has_at, row_of};
-ghost use Rattle.bit_set_c.specs.{Block.width, Handed.IsAt};
+ghost use Rattle.bit_set_c.specs.{Block.width, Copies.{CopiesFront, FillsFront}, Handed.IsAt};
 
 use crate::block::{Block, WIDTH};
 use crate::handed::SharedMatrix;
@@ -12,9 +12,7 @@ use bit_matrix::BitMatrix;
 
 fn copy_columns(matrix: &BitMatrix<Block>, row: usize, from: usize, columns: &mut [usize]) -> usize
     requires { row < length matrix.now.rows }
-    ensures count { result ≡ min (length columns.old) (length (those_from (row_of matrix.now row) from)) }
-    ensures values { take result columns.new ≡ take result (those_from (row_of matrix.now row) from) }
-    ensures others { drop result columns.new ≡ drop result columns.old }
+    ensures { CopiesFront result (those_from (row_of matrix.now row) from) columns.old columns.new }
 {
     let mut done = 0;
     for column in matrix.iter_from(row, from) {
@@ -38,10 +36,7 @@ pub extern "C" fn bit_matrix_copy_members(
 ) -> usize
     requires here { IsAt matrix.ref_ptr matrix.old.at }
     requires row { row < length matrix.old.cells.rows }
-    ensures count { result
-        ≡ min (length columns.old) (length (those_from (row_of matrix.old.cells row) from)) }
-    ensures values { take result columns.new ≡ take result (those_from (row_of matrix.old.cells row) from) }
-    ensures others { drop result columns.new ≡ drop result columns.old }
+    ensures copied { CopiesFront result (those_from (row_of matrix.old.cells row) from) columns.old columns.new }
     ensures kept { matrix.new ≡ matrix.old }
 {
     copy_columns(matrix.get(), row, from, columns)
@@ -69,10 +64,9 @@ fn put_columns(matrix: &BitMatrix<Block>, row: usize, from: usize, blocks: &mut 
 
 fn copy_row(matrix: &BitMatrix<Block>, row: usize, from: usize, blocks: &mut [Block]) -> usize
     requires { row < length matrix.now.rows }
-    ensures count { result ≡ min (length blocks.old) (blocks_for width matrix.now.columns - from) }
+    ensures fills { FillsFront result (blocks_for width matrix.now.columns - from) blocks.old blocks.new }
     ensures members { (k j : ℕ) → k < result → j < width
         → is_one (slice_index blocks.new k) j ≡ has_at matrix.now row ((from + k) * width + j) }
-    ensures others { drop result blocks.new ≡ drop result blocks.old }
 {
     let all = matrix.columns().div_ceil(WIDTH);
     let count = blocks.len().min(all.saturating_sub(from));
@@ -93,10 +87,9 @@ pub extern "C" fn bit_matrix_copy_blocks(
 ) -> usize
     requires here { IsAt matrix.ref_ptr matrix.old.at }
     requires row { row < length matrix.old.cells.rows }
-    ensures count { result ≡ min (length blocks.old) (blocks_for width matrix.old.cells.columns - from) }
+    ensures fills { FillsFront result (blocks_for width matrix.old.cells.columns - from) blocks.old blocks.new }
     ensures members { (k j : ℕ) → k < result → j < width
         → is_one (slice_index blocks.new k) j ≡ has_at matrix.old.cells row ((from + k) * width + j) }
-    ensures others { drop result blocks.new ≡ drop result blocks.old }
     ensures kept { matrix.new ≡ matrix.old }
 {
     copy_row(matrix.get(), row, from, blocks)

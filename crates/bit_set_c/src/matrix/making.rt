@@ -1,9 +1,9 @@
 // Calls that make a matrix, or a set of a row, and the one that frees a matrix.
 ghost use Rattle.std.specs.Prelude.{◌≡◌, ◌*◌, ◌<◌, IfSome, None, is_some, [], length};
-ghost use Rattle.bit_blocks.specs.Bits.{blocks_for, capacity_of};
+ghost use Rattle.bit_blocks.specs.Bits.{blocks_for};
 ghost use Rattle.bit_set.specs.{Members.IsSameSet, Sets.elements};
 ghost use Rattle.bit_matrix.specs.Matrices.{IsTransposed, matrix_of, row_of};
-ghost use Rattle.bit_set_c.specs.{Block.width, Handed.IsAt};
+ghost use Rattle.bit_set_c.specs.{Block.width, Handed.IsAt, Sizes.IsJustOf};
 
 use crate::block::Block;
 use crate::handed::{Owned, OwnedMatrix, Shared, SharedMatrix};
@@ -126,9 +126,7 @@ pub extern "C" fn bit_matrix_row_to_set(
     ensures made { result ≡ is_some out.new.held }
     ensures elements { IfSome out.new.held (λ set. elements set.values ≡ row_of matrix.old.cells row) }
     ensures members { IfSome out.new.held (λ set. IsSameSet (elements set.values) (row_of matrix.old.cells row)) }
-    ensures length { IfSome out.new.held (λ set. length set.values ≡ matrix.old.cells.columns) }
-    ensures capacity { IfSome out.new.held (λ set. set.capacity
-        ≡ capacity_of width (blocks_for width matrix.old.cells.columns)) }
+    ensures size { IfSome out.new.held (λ set. IsJustOf width matrix.old.cells.columns set) }
     ensures kept { matrix.new ≡ matrix.old }
 {
     match matrix.get().row_to_set(alloc, row) {

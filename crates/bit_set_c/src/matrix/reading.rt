@@ -3,7 +3,7 @@ ghost use Rattle.std.specs.{Prelude.{◌≡◌, ◌<◌, ◌≤◌, ◌↔◌, I
 ghost use Rattle.bit_blocks.specs.Searches.{FindsFrom};
 ghost use Rattle.bit_set.specs.{Choices.IsFirstOf, Members.{IsDisjoint, IsSubset}, Sets.{is_disjoint, is_subset, those_from}};
 ghost use Rattle.bit_matrix.specs.{Compared.same_matrices, Matrices.{IsMatrix, has_at, row_of}};
-ghost use Rattle.bit_set_c.specs.{Answers.found, Handed.IsAt};
+ghost use Rattle.bit_set_c.specs.{Answers.found, Handed.{AreAt, BothStay, IsAt}};
 
 use crate::block::Block;
 use crate::handed::SharedMatrix;
@@ -115,12 +115,10 @@ pub extern "C" fn bit_matrix_is_disjoint_row(
 /// Whether both matrices have equally many columns and the same rows.
 #[unsafe(no_mangle)]
 pub extern "C" fn bit_matrix_equals(matrix: &mut SharedMatrix, other: &mut SharedMatrix) -> bool
-    requires here { IsAt matrix.ref_ptr matrix.old.at }
-    requires there { IsAt other.ref_ptr other.old.at }
+    requires here { AreAt matrix.ref_ptr matrix.old.at other.ref_ptr other.old.at }
     ensures returned { result ≡ same_matrices matrix.old.cells other.old.cells }
     ensures same { IsTrue result ↔ (matrix.old.cells ≡ other.old.cells) }
-    ensures kept { matrix.new ≡ matrix.old }
-    ensures other_kept { other.new ≡ other.old }
+    ensures kept { BothStay matrix.old matrix.new other.old other.new }
 {
     *matrix.get() == *other.get()
 }

@@ -3,7 +3,7 @@ ghost use Rattle.std.specs.Prelude.{◌≡◌, ℕ, ◌<◌, ◌≤◌, ◌&&◌
 ghost use Rattle.bit_blocks.specs.Ranges.{in_range};
 ghost use Rattle.bit_set.specs.{Order.same_sets, Ranges.span, Sets.{difference, elements, has, intersection, union}};
 ghost use Rattle.bit_matrix.specs.Matrices.{ChangesRow, has_at, row_of, with_row};
-ghost use Rattle.bit_set_c.specs.Handed.{IsAt};
+ghost use Rattle.bit_set_c.specs.Handed.{AreAt, BothStay, IsAt};
 
 use crate::handed::{ExclusiveMatrix, Shared};
 
@@ -78,8 +78,7 @@ pub extern "C" fn bit_matrix_union_row_with(
     set: &mut Shared,
     row: usize,
 ) -> bool
-    requires here { IsAt matrix.ref_ptr matrix.old.at }
-    requires there { IsAt set.ref_ptr set.old.at }
+    requires here { AreAt matrix.ref_ptr matrix.old.at set.ref_ptr set.old.at }
     requires row { row < length matrix.old.cells.rows }
     requires columns { (n : ℕ) → IsTrue (has (elements set.old.bits.values) n) → n < matrix.old.cells.columns }
     ensures matrix { matrix.new.cells ≡ with_row matrix.old.cells row
@@ -88,8 +87,7 @@ pub extern "C" fn bit_matrix_union_row_with(
         (λ c. has_at matrix.old.cells row c || has (elements set.old.bits.values) c) }
     ensures changed { result ≡ not (same_sets (row_of matrix.old.cells row) (row_of matrix.new.cells row)) }
     ensures unchanged { result ≡ false → matrix.new.cells ≡ matrix.old.cells }
-    ensures place { matrix.new.at ≡ matrix.old.at }
-    ensures set_kept { set.new ≡ set.old }
+    ensures kept { BothStay matrix.old.at matrix.new.at set.old set.new }
 {
     matrix.get().union_row_with(set.get(), row)
 }
