@@ -1,6 +1,6 @@
 -- What merges with a span of true values do to the value at every index.
 use Rattle.std.proofs.Common.{◌≡◌, ◌≢◌, ℕ, suc, ◌+◌, ◌-◌, ◌*◌, ◌/◌, ◌%◌, ◌^◌, ◌<◌, ◌≤◌, ◌↔◌, Bool, true, false, ◌&&◌, nat_lt}
-use Rattle.std.proofs.Common.{nat_le, List, get_or, refl, sym, ap, ◌∙◌, arith, mod-lt, div-add-mod', lt_of_mul-lt-mul_right}
+use Rattle.std.proofs.Common.{nat_le, List, get_or, sym, ap, ◌∙◌, arith, mod-lt, div-add-mod', lt_of_mul-lt-mul_right}
 use Rattle.std.proofs.lemmas.{Bool.Decides.nat_tests, Nat.div-mul-add}
 use Rattle.bit_blocks.specs.{declared.block.merge.Merge.Merge, BlockMerges.{IsMergedSpan, MergesSpanToFalse}, Digits.is_one, Merges.merge_of_values, Places.IsPlace, Storage.value_at}
 use Rattle.bit_blocks.proofs.{ChangeLemmas.div_le, Masks.is_one-ones, MergeLemmas.merge_of_values-none, StorageLemmas.{value_at-index, value_at-is}}

@@ -1,6 +1,6 @@
 // Calls that make a set of many.
 ghost use Rattle.std.specs.Prelude.{◌≡◌, ◌≢◌, ℕ, ◌+◌, ◌*◌, ◌<◌, ◌≤◌, ◌↔◌, All, Any, IfOk, IsOk, IsTrue, [], false, get_or, length, map, true};
-ghost use Rattle.bit_blocks.specs.{Bits.{capacity_of}, Merges.merge_of_values};
+ghost use Rattle.bit_blocks.specs.Merges.{merge_of_values};
 ghost use Rattle.set_algebra.specs.Sets.{elements, has};
 ghost use Rattle.bit_set.specs.Many.{HasEach, HasSome, intersection_all, longest, merged_at, shortest, union_all};
 ghost use Rattle.bit_set.specs.Sizes.{IsJustOf, KeepsSize};

@@ -1,5 +1,5 @@
 use Rattle.std.proofs.lemmas.List.Elements.{All-same, All-take, All-drop}
-use Rattle.std.proofs.Common.{◌≡◌, ◌+◌, ◌-◌, ◌*◌, ◌∙◌, refl, map, arith, div-lt_iff_lt-mul, lt_of_mul-lt-mul_right}
+use Rattle.std.proofs.Common.{◌≡◌, ◌+◌, ◌-◌, ◌*◌, ◌∙◌, refl, map, arith, lt_of_mul-lt-mul_right}
 use Rattle.std.proofs.Common.{mul-le-mul_right}
 use Rattle.std.specs.List.{count_by, range_with_len}
 use Rattle.bit_blocks.specs.Storage.{ones_in, value_at}

@@ -1,4 +1,4 @@
-use Rattle.std.proofs.{Common.{◌≡◌, ◌+◌, ◌*◌, ◌↔◌, ◌∙◌, IsTrue, true, refl, sym, map, arith, div-lt_iff_lt-mul, lt_of_mul-lt-mul_right, mul-le-mul_right}, lemmas.Bool.{eq-eqb, false≢true}}
+use Rattle.std.proofs.{Common.{◌≡◌, ◌+◌, ◌*◌, ◌↔◌, ◌∙◌, IsTrue, true, refl, sym, map, arith, lt_of_mul-lt-mul_right, mul-le-mul_right}, lemmas.Bool.{eq-eqb, false≢true}}
 use Rattle.bit_blocks.{specs.BlockMerges.MergesSpanToFalse, proofs.SpanLemmas.{end_within, false-parts, false-within, false_of_mask, mask_below, mask_from, ones_span, past_first, starts_within}}
 use Rattle.bit_blocks.proofs.packed.span_queries.span_merges_to_false.{Given.Over, Goals.{After-masks_to_zero-2, After-ones_merge_to_zero}}
 use Rattle.bit_blocks.proofs.packed.span_queries.span_merges_to_false.Goals as goal

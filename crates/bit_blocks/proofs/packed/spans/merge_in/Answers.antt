@@ -1,4 +1,4 @@
-use Rattle.std.proofs.Common.{◌≡◌, ◌≢◌, ℕ, ◌≤◌, ◌+◌, ◌*◌, ◌/◌, ◌%◌, ◌<◌, refl, arith, map, div-lt_iff_lt-mul, lt_of_mul-lt-mul_right, mul-le-mul_right}
+use Rattle.std.proofs.Common.{◌≡◌, ◌≢◌, ℕ, ◌≤◌, ◌+◌, ◌*◌, ◌<◌, refl, arith, map, lt_of_mul-lt-mul_right, mul-le-mul_right}
 use Rattle.bit_blocks.{specs.{BlockMerges.IsMergedSpan, Places.IsPlace}, proofs.SpanLemmas.{end_within, mask_below, mask_from, ones_span, past_first, starts_within, span_more, span_of_mask}}
 use Rattle.bit_blocks.proofs.packed.spans.merge_in.{Given.Over, Goals.After-merge_with_ones}
 use Rattle.bit_blocks.proofs.packed.spans.merge_in.Goals as goal

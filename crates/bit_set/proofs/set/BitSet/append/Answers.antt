@@ -26,5 +26,5 @@ pub returns-clause-grows : goal.returns-clause-grows
 returns-clause-grows g c = c.in_ok-union_with.ensures.grows
 
 pub returns-in_err-union_with-clause-grows : goal.returns-in_err-union_with-clause-grows
-returns-in_err-union_with-clause-grows g c = 
+returns-in_err-union_with-clause-grows g c =
     rw (err_from_is_err_and c.from_residual.result c.from_residual.ensures.1).1 record { long = tt; grows = Grows-failed _ _ _ _ _ c.in_err-union_with.ensures.grows.grows }
