@@ -200,7 +200,7 @@ start() {
 
 # Says what a build takes from nothing, by the number of cores.
 say_minutes() {
-    local minutes=(0 22 15 11 9)
+    local minutes=(0 32 22 16 13)
     has_said=yes
     echo "bitset: all ${#crates[@]} crates from nothing take about ${minutes[$(cores)]} minutes on $(cores) cores (./look runs them unproved in one or two)" >&2
 }
