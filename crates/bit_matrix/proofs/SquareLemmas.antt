@@ -4,9 +4,9 @@ use Rattle.std.proofs.lemmas.Bool.{cases_eq, Decides.nat_tests}
 use Rattle.std.proofs.lemmas.Nat.{div-add-mod', div-mul-add, div_below, mod-mul-add, mod_below, row_fits, same_from_place}
 use Rattle.std.proofs.lemmas.List.{get_or-set_other, get_or-set_same}
 use Rattle.std.proofs.Math.Nat.{mul_comm}
-use Rattle.bit_blocks.specs.Digits.{IsBoth, IsComplement, IsEither, IsShiftedLeft, IsShiftedRight, is_one}
+use Rattle.bit_blocks.specs.{Digits.{IsBoth, IsComplement, IsEither, IsShiftedLeft, IsShiftedRight, is_one}, Written.WritesBlocks}
 use Rattle.bit_blocks.proofs.Masks.{is_one-both, is_one-complement, is_one-either}
-use Rattle.bit_matrix.specs.Squares.{AreExchanged, IsExchanged, WritesBlocks}
+use Rattle.bit_matrix.specs.Squares.{AreExchanged, IsExchanged}
 
 pub written_on : {X : Type 0} (P : X → Type 0) (xs ys zs : List X) → WritesBlocks P xs ys → WritesBlocks P ys zs → WritesBlocks P xs zs
 written_on P xs ys zs first second = record { each = second.each; len = second.len ∙ first.len }

@@ -2,11 +2,6 @@
 use Rattle.std.specs.Prelude.{◌≡◌, ℕ, ◌+◌, ◌*◌, ◌/◌, ◌<◌, ◌≤◌, ◌⊎◌, All, Bool, false, true, List, get_or, length}
 use Rattle.bit_blocks.specs.Digits.{is_one}
 
--- Some blocks of a list were written: each is a block value, and there are as many.
-pub record WritesBlocks {X : Type 0} (is_block : X → Type 0) (old new : List X) : Type 0 where
-  pub each : All is_block new
-  pub len : length new ≡ length old
-
 -- The blocks are rows of so many each, as many rows as a block has bits.
 pub record IsStrip {X : Type 0} (is_block : X → Type 0) (w width : ℕ) (xs : List X) : Type 0 where
   pub each : All is_block xs

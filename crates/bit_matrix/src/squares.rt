@@ -3,8 +3,8 @@
 // of 8, and no power of two in general: squares are made of four smaller ones as long as these go into all rows, and in the
 // end that of all rows of as many as are left.
 ghost use Rattle.std.specs.Prelude.{◌≡◌, ℕ, ◌+◌, ◌*◌, ◌/◌, ◌%◌, ◌<◌, ◌≤◌, ◌==◌, All, get_or, length, map};
-ghost use Rattle.bit_blocks.specs.Digits.{is_one};
-ghost use Rattle.bit_matrix.specs.Squares.{AreExchanged, AreSquaresExchanged, ArePairsExchanged, AreRowsTransposed, HasColumn, IsExchanged, IsStrip, IsTransposedStrip, WritesBlocks};
+ghost use Rattle.bit_blocks.specs.{Digits.is_one, Written.WritesBlocks};
+ghost use Rattle.bit_matrix.specs.Squares.{AreExchanged, AreSquaresExchanged, ArePairsExchanged, AreRowsTransposed, HasColumn, IsExchanged, IsStrip, IsTransposedStrip};
 
 use crate::BitBlock;
 use bit_blocks::block::masks::with_one_if;

@@ -28,7 +28,7 @@ loop-k-preserved g c =
 pub returns : goal.returns
 returns g c =
     let end : c.loop-k.k ≡ c.args.count = omega arith in
-    let tells = reported_same c.same.result _ _ _ c.same.ensures c.zero-2.ensures.of_number (rw end at c.loop-k.invariant.none) in
+    let tells = reported_same c.same.result _ _ _ c.same.ensures c.zero.ensures.of_number (rw end at c.loop-k.invariant.none) in
     record {
       merged = rw end at c.loop-k.invariant.merged;
       unchanged = (λ no. tells.0 (of_not no), λ all. let yes = tells.1 all in rw yes refl);

@@ -1,5 +1,6 @@
 use Rattle.std.proofs.Common.{map}
-use Rattle.bit_matrix.specs.Squares.{AreExchanged, WritesBlocks}
+use Rattle.bit_blocks.specs.Written.{WritesBlocks}
+use Rattle.bit_matrix.specs.Squares.{AreExchanged}
 use Rattle.bit_matrix.proofs.squares.exchange_rows.Given as goal
 
 abbrev pub invariant-loop-g : goal.invariant-loop-g

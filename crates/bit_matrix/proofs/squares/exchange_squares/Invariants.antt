@@ -1,5 +1,5 @@
 use Rattle.std.proofs.Common.{map}
-use Rattle.bit_matrix.specs.Squares.{WritesBlocks}
+use Rattle.bit_blocks.specs.Written.{WritesBlocks}
 use Rattle.bit_matrix.proofs.TransposeLemmas.{AreRowsExchanged}
 use Rattle.bit_matrix.proofs.squares.exchange_squares.Given as goal
 

@@ -1,5 +1,5 @@
 use Rattle.std.proofs.Common.{◌≡◌, ℕ, ◌+◌, ◌*◌, ◌<◌, get_or, map}
-use Rattle.bit_matrix.specs.Squares.{WritesBlocks}
+use Rattle.bit_blocks.specs.Written.{WritesBlocks}
 use Rattle.bit_matrix.proofs.squares.load_strip.Given as goal
 
 -- the blocks of the rows before this one are there

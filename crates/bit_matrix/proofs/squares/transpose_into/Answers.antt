@@ -1,4 +1,4 @@
-use Rattle.std.proofs.{Common.{◌*◌, ◌++◌, All, length, map, refl, subst, ap, ◌∙◌}, lemmas.List.{length-map}}
+use Rattle.std.proofs.{Common.{◌*◌, ◌++◌, All, length, map, refl, subst, ap, ◌∙◌, rules}, lemmas.List.{length-map}}
 use Rattle.bit_matrix.proofs.{PartLemmas.{is_put}, StripLemmas.{all_put, rows_transposed}}
 use Rattle.bit_matrix.proofs.squares.transpose_into.Goals as goal
 
