@@ -19,12 +19,12 @@ pub returns-clause-grows : goal.returns-clause-grows
 returns-clause-grows g c =
     record {
       long = rw (
-            c.merge_changes-changed.ensures.values,
-            c.self.view_is,
-            c.in_ok-lengthen.ensures.ok,
-            c.len.ensures.value,
-            c.other.view_is,
-          ) (length-lengthened c.args.merge c.args.self.now.values c.args.other.now.values);
+        c.merge_changes-changed.ensures.values,
+        c.self.view_is,
+        c.in_ok-lengthen.ensures.ok,
+        c.len.ensures.value,
+        c.other.view_is,
+      ) (length-lengthened c.args.merge c.args.self.now.values c.args.other.now.values);
       grows = search rules;
     }
 
