@@ -4,4 +4,3 @@ pub mod Copies
 pub mod Handed
 pub mod Hash
 pub mod Lends
-pub mod Sizes

@@ -2,8 +2,8 @@
 ghost use Rattle.std.specs.Prelude.{◌≡◌, ◌≢◌, ℕ, ◌+◌, ◌*◌, ◌^◌, ◌<◌, ◌-◌, ◌++◌, false, drop, get_or, length, min, replicate, slice_index, OnErr, OnOk};
 ghost use Rattle.bit_blocks.specs.{Bits.blocks_of, Digits.is_one, Ranges.in_range};
 ghost use Rattle.bit_words.specs.Growth.{Grows};
-ghost use Rattle.bit_set.specs.{Ranges.span_end, Sets.{elements, has}};
-ghost use Rattle.bit_set_c.specs.{Answers.done, Block.width, Copies.CopiesFront, Handed.IsAt, Sizes.Lengthens};
+ghost use Rattle.bit_set.specs.{Ranges.span_end, Sets.{elements, has}, Sizes.Lengthens};
+ghost use Rattle.bit_set_c.specs.{Answers.done, Block.width, Copies.CopiesFront, Handed.IsAt};
 
 use crate::block::{Block, WIDTH};
 use crate::handed::{Exclusive, Shared};
@@ -76,7 +76,8 @@ fn put_blocks(bits: &mut BitVec<Block>, from: usize, blocks: &[Block]) -> bool
         → in_range (from * width) ((from + length blocks.now) * width) i ≡ false
         → get_or bits.new.values i false ≡ get_or bits.old.values i false) }
     ensures too_long { usize.MAX < span_end (from * width) ((from + length blocks.now) * width) → result ≡ false }
-    ensures grows { Lengthens (span_end (from * width) ((from + length blocks.now) * width)) (done result) bits.old bits.new }
+    ensures grows { Lengthens (span_end (from * width) ((from + length blocks.now) * width)) (done result)
+        bits.old bits.new }
 {
     // Only for the proof: the capacity holds the list, and is a `usize`.
     prove!(bits.len() <= bits.capacity());
@@ -108,7 +109,8 @@ pub extern "C" fn bit_set_put_blocks(set: &mut Exclusive, from: usize, blocks: &
         → in_range (from * width) ((from + length blocks.now) * width) n ≡ false
         → has (elements set.new.bits.values) n ≡ has (elements set.old.bits.values) n) }
     ensures too_long { usize.MAX < span_end (from * width) ((from + length blocks.now) * width) → result ≡ false }
-    ensures grows { Lengthens (span_end (from * width) ((from + length blocks.now) * width)) (done result) set.old.bits set.new.bits }
+    ensures grows { Lengthens (span_end (from * width) ((from + length blocks.now) * width)) (done result)
+        set.old.bits set.new.bits }
     ensures place { set.new.at ≡ set.old.at }
 {
     put_blocks(set.get().get_mut(), from, blocks)

@@ -2,8 +2,8 @@
 // runs out. The set that is changed must differ from the others.
 ghost use Rattle.std.specs.Prelude.{◌≡◌, ◌+◌, ◌≤◌, not, if◌then◌else◌, IfOk, OnOk, length, false};
 ghost use Rattle.bit_set.specs.Members.{IsDifference, IsIntersection, IsSymmetricDifference, IsUnion, IsUnionWithDifference, IsUnionWithIntersection};
-ghost use Rattle.bit_set.specs.{Sets.{elements, union, intersection, difference, symmetric_difference, is_subset}};
-ghost use Rattle.bit_set_c.specs.{Answers.{TellsChange, changed, spelled}, Handed.{AreAt, BothStay, IsAt}, Sizes.Lengthens};
+ghost use Rattle.bit_set.specs.{Sets.{elements, union, intersection, difference, symmetric_difference, is_subset}, Sizes.Lengthens};
+ghost use Rattle.bit_set_c.specs.{Answers.{TellsChange, changed, spelled}, Handed.{AreAt, BothStay, IsAt}};
 
 use crate::handed::{Exclusive, Shared};
 use std::alloc::AllocError;

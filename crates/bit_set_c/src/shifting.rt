@@ -1,7 +1,7 @@
 // Calls that move each member by one distance.
 ghost use Rattle.std.specs.Prelude.{◌≡◌, ◌<◌, ◌↔◌, IsErrOf, OnOk, length};
-ghost use Rattle.bit_set.specs.{Moved.{IsLowered, IsRaised, lowered, raised}, Sets.{bound_of, elements}};
-ghost use Rattle.bit_set_c.specs.{Answers.moved, Handed.IsAt, Sizes.{KeepsSize, Lengthens}};
+ghost use Rattle.bit_set.specs.{Moved.{IsLowered, IsRaised, lowered, raised}, Sets.{bound_of, elements}, Sizes.{KeepsSize, Lengthens}};
+ghost use Rattle.bit_set_c.specs.{Answers.moved, Handed.IsAt};
 
 use crate::handed::Exclusive;
 use bit_set::SetError;
@@ -30,7 +30,8 @@ pub extern "C" fn bit_set_shift_up(set: &mut Exclusive, distance: usize) -> i32
     ensures unfit { IsErrOf (moved result) SetError.Element
         ↔ (usize.MAX < bound_of (raised (elements set.old.bits.values) distance)) }
     ensures never_long { IsErrOf (moved result) SetError.Length → ⊥ }
-    ensures grows { Lengthens (bound_of (raised (elements set.old.bits.values) distance)) (moved result) set.old.bits set.new.bits }
+    ensures grows { Lengthens (bound_of (raised (elements set.old.bits.values) distance)) (moved result)
+        set.old.bits set.new.bits }
     ensures place { set.new.at ≡ set.old.at }
 {
     answer_of(set.get().shift_up(distance))

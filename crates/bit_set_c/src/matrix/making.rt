@@ -1,9 +1,9 @@
 // Calls that make a matrix, or a set of a row, and the one that frees a matrix.
 ghost use Rattle.std.specs.Prelude.{◌≡◌, ◌*◌, ◌<◌, IfSome, None, is_some, [], length};
 ghost use Rattle.bit_blocks.specs.Bits.{blocks_for};
-ghost use Rattle.bit_set.specs.{Members.IsSameSet, Sets.elements};
+ghost use Rattle.bit_set.specs.{Members.IsSameSet, Sets.elements, Sizes.IsJustOf};
 ghost use Rattle.bit_matrix.specs.Matrices.{IsTransposed, matrix_of, row_of};
-ghost use Rattle.bit_set_c.specs.{Block.width, Handed.IsAt, Sizes.IsJustOf};
+ghost use Rattle.bit_set_c.specs.{Block.width, Handed.IsAt};
 
 use crate::block::Block;
 use crate::handed::{Owned, OwnedMatrix, Shared, SharedMatrix};
