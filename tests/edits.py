@@ -24,7 +24,7 @@ MOST = 8
 LIMITS = re.compile(r"(step|depth|time|memory|size) limit|ran out of|could not tell|no verdict|gave up")
 
 # What it says of a file of a proof that names something which is not there.
-NAMES = re.compile(r" has no (?!atom\b|last argument\b)|: no (goal|name|field|module)\b|not in scope|is not (defined|declared)|unknown name")
+NAMES = re.compile(r" has no (?!atom\b|last argument\b)|: no (goal|name|field|module)\b|not in scope(?! here, so)|is not (defined|declared)|unknown name")
 
 
 def rounds_of(edits):

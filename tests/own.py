@@ -38,7 +38,11 @@ FAILS = """\
 ./proofs/packed/put/Answers.antt:20:55: error: `returns-clause-most`: `omega`: the goal does not follow from what it read.
   All of that holds, and the goal fails, at `c.args.most` = 1. 1 of them has no atom in common with the goal
 """
-# An equation that `rw` comes to, and that does not hold.
+# Steps other than a proof goes by, and an equation that `rw` comes to and that does not hold.
+STEPS = """\
+./proofs/packed/put/Proof.antt:54:10: error: `put_spec`: as printed, the two types first differ where one has `seq` (expected)
+  `b` is not in scope here, so what is shown does not paste back as it stands
+"""
 UNEQUAL = """\
 ./proofs/packed/put/Answers.antt:5:13: error: `returns`: give a proof of that as the last argument, `rw L t`
   `rw` has no last argument, so what it leaves must be a path whose two ends are equal, and `c.found ≡ c.usage` is none
@@ -57,6 +61,7 @@ class Verdicts(unittest.TestCase):
     def test_of_a_wrong_value(self):
         self.assertEqual(self.verdict(WRONG + NOT_PROVED), REFUSED)
         self.assertEqual(self.verdict(FAILS + NOT_PROVED), REFUSED)
+        self.assertEqual(self.verdict(STEPS + NOT_PROVED), REFUSED)
         self.assertEqual(self.verdict(UNEQUAL + NOT_PROVED), REFUSED)
 
     def test_of_a_name_that_is_gone(self):
