@@ -1,11 +1,11 @@
 -- Where two lists of blocks differ, run by run of their chunks.
 use Rattle.std.proofs.Common.{◌≡◌, ◌≢◌, ℕ, ◌+◌, ◌-◌, ◌*◌, ◌/◌, ◌%◌, ◌^◌, ◌<◌, ◌≤◌, ◌==◌, Bool, false, true, not, Option, None, Some, MatchOption, is_some, unwrap_or, div-lt_iff_lt-mul, List, map}
-use Rattle.std.proofs.Common.{drop, take, get_or, length, length-take, sym, subst, ap, ◌∙◌, ⊎_elim, arith}
+use Rattle.std.proofs.Common.{drop, take, get_or, length, length-take, sym, subst, ap, ap₂, ◌∙◌, ⊎_elim, arith}
 use Rattle.std.proofs.lemmas.{Bool.{cases_lt, cases_eq, false≢true}, List.{get_or_past, length-map}, Nat.le-div}
-use Rattle.bit_blocks.specs.{Digits.is_one, Lowest.{IsLowest, IsCleared}, Mismatches.IsFirstBlockMismatch, Storage.{value_at, is_used}}
-use Rattle.bit_blocks.proofs.{BitsLemmas.blocks_for-enough, CompareLemmas.digit_from_zero, StorageLemmas.{value_at-is, value_at-past}, UseLemmas.{same_block, zero_from_unused}}
-use Rattle.bit_blocks.proofs.{VectorLemmas.numbers_below, ZeroLemmas.{dropped, front_read}}
-use Rattle.bit_words.specs.Summary.{IsSummary}
+use Rattle.bit_blocks.specs.{Digits.is_one, Lowest.{IsLowest, IsCleared}, Mismatches.IsFirstBlockMismatch, Searches.FindsFrom, Storage.is_used, declared.block.merge.Merge.TheVariants.Union}
+use Rattle.bit_blocks.proofs.{BitsLemmas.blocks_for-enough, CompareLemmas.digit_from_zero, UseLemmas.{used_past, zero_from_unused}}
+use Rattle.bit_blocks.proofs.ZeroLemmas.{dropped, front_read}
+use Rattle.bit_words.specs.{MergedOnes.may_merge, Summary.IsSummary}
 
 module _ {X : Type 0} (w q count : ℕ) (number : X → ℕ) (is_block : X → Type 0) where
   -- block k of the blocks that `count` chunks from chunk q on have
@@ -60,10 +60,6 @@ pub from_none : {A : Type 0} (o : Option A) (P : Type 0) (Q : A → Type 0) → 
 from_none None P Q is match = match
 from_none (Some x) P Q is match = absurd (false≢true (sym is))
 
-pub for_none : {A : Type 0} (o : Option A) (P R : Type 0) (Q : A → Type 0) → (P → R) → MatchOption o P Q → MatchOption o R Q
-for_none None P R Q more match = more match
-for_none (Some x) P R Q more match = match
-
 -- ---- block by block
 
 module _ (w q : ℕ) (ms ns : List ℕ) (before : (k : ℕ) → k < q * w → get_or ms k 0 ≡ get_or ns k 0) where
@@ -112,16 +108,6 @@ ones_but_lowest w i left rest p cleared within one =
 
 -- ---- by summaries
 
--- what zeros of a summary say
-pub zero_chunks : {X : Type 0} (w q n : ℕ) (number : X → ℕ) (ss rest : List X) → 0 < w → rest ≡ drop q ss → ((j : ℕ) → j < n → get_or (map number rest) j 0 ≡ 0) → (k : ℕ) → q * w ≤ k
-    → k < (q + n) * w → value_at w (map number ss) k ≡ false
-zero_chunks w q n number ss rest pos is zeros k reached below =
-    let first : q ≤ k / w = le-div q k w pos reached in
-    let last : k / w < q + n = (div-lt_iff_lt-mul pos).1 below in
-    let place : q + (k / w - q) ≡ k / w = omega arith in
-    let zero = rw place at (sym (dropped number q (k / w - q) ss) ∙ ap (λ ys. get_or (map number ys) (k / w - q) 0) (sym is) ∙ zeros (k / w - q) (omega arith)) in
-    value_at-is w (map number ss) k ∙ digit_from_zero (get_or (map number ss) (k / w) 0) (k % w) zero
-
 -- a summary has a bit of each block
 pub summary_enough : {X : Type 0} (w : ℕ) (number : X → ℕ) (is_block : X → Type 0) (xs ss : List X) → 0 < w → IsSummary w number is_block xs ss → length xs ≤ length ss * w
 summary_enough w number is_block xs ss pos is =
@@ -136,41 +122,40 @@ used_within number xs k some =
     (λ (past : length xs ≤ k). absurd (false≢true (sym (ap (λ m. not (m == 0)) (get_or_past (map number xs) k 0 (rw length-map past))) ∙ some)))
     (cases_lt k (length xs))
 
-module _ {X : Type 0} (w : ℕ) (number : X → ℕ) (is_block : X → Type 0) (xs ys ss ts : List X) (pos : 0 < w) (own : IsSummary w number is_block xs ss) (other : IsSummary w number is_block ys ts) where
-  -- blocks of which neither summary has a bit
-  pub both_zero : (k : ℕ) → get_or (map number ss) (k / w) 0 ≡ get_or (map number ts) (k / w) 0 → value_at w (map number ss) k ≡ false → get_or (map number xs) k 0 ≡ get_or (map number ys) k 0
-  both_zero k same none =
-      let also : value_at w (map number ts) k ≡ false = value_at-is w (map number ts) k ∙ ap (λ m. is_one m (k % w)) (sym same) ∙ sym (value_at-is w (map number ss) k) ∙ none in
-      zero_from_unused _ (sym (own.digit k) ∙ none) ∙ sym (zero_from_unused _ (sym (other.digit k) ∙ also))
+-- blocks that are 0 in both lists are the same
+pub both_zero : (ms ns : List ℕ) (k : ℕ) → may_merge Union (is_used ms k) (is_used ns k) ≡ false → get_or ms k 0 ≡ get_or ns k 0
+both_zero ms ns k none =
+    let own : is_used ms k ≡ false = grind (arith, none) in
+    let other : is_used ns k ≡ false = grind (arith, none) in
+    zero_from_unused _ own ∙ sym (zero_from_unused _ other)
 
-  -- blocks of which a summary has a bit
-  pub in_both : (k : ℕ) → get_or (map number ss) (k / w) 0 ≡ get_or (map number ts) (k / w) 0 → value_at w (map number ss) k ≡ true → (k < length xs) × (k < length ys)
-  in_both k same some =
-      let also : value_at w (map number ts) k ≡ true = value_at-is w (map number ts) k ∙ ap (λ m. is_one m (k % w)) (sym same) ∙ sym (value_at-is w (map number ss) k) ∙ some in
-      (used_within number xs k (sym (own.digit k) ∙ some), used_within number ys k (sym (other.digit k) ∙ also))
+-- and one that may not be is in one of them
+pub in_either : (ms ns : List ℕ) (k n : ℕ) → length ms ≤ n → length ns ≤ n → may_merge Union (is_used ms k) (is_used ns k) ≡ true → k < n
+in_either ms ns k n own other some =
+    ⊎_elim
+    (λ below. below)
+    (λ (past : n ≤ k).
+    let none : is_used ms k ≡ false = used_past ms k (omega arith) in
+    let also : is_used ns k ≡ false = used_past ns k (omega arith) in
+    absurd (false≢true (sym (ap₂ (may_merge Union) none also) ∙ some)))
+    (cases_lt k n)
 
-  -- it is enough to look where a summary reaches
-  pub same_everywhere : ((q : ℕ) → get_or (map number ss) q 0 ≡ get_or (map number ts) q 0) → ((k : ℕ) → k < length ss * w → get_or (map number xs) k 0 ≡ get_or (map number ys) k 0)
-      → (k : ℕ) → get_or (map number xs) k 0 ≡ get_or (map number ys) k 0
-  same_everywhere alike each k =
-      ⊎_elim
-      (each k)
-      (λ past. both_zero k (alike (k / w)) (value_at-past w (map number ss) k (rw length-map (le-div (length ss) k w pos past))))
-      (cases_lt k (length ss * w))
+-- ---- past the end of the shorter list
 
-  -- lists of the same blocks have the same summary
-  pub same_summaries : ((x : X) → is_block x → number x < 2 ^ w) → ((k : ℕ) → get_or (map number xs) k 0 ≡ get_or (map number ys) k 0) → (q : ℕ)
-      → get_or (map number ss) q 0 ≡ get_or (map number ts) q 0
-  same_summaries below same q =
-      same_block w (map number ss) (map number ts) q (numbers_below w number is_block ss below own.packed.each q) (numbers_below w number is_block ts below other.packed.each q)
-      (λ j index. own.digit (q * w + j) ∙ ap (λ m. not (m == 0)) (same (q * w + j)) ∙ sym (other.digit (q * w + j)))
+pub mismatch_from : (n : ℕ) (r : Option ℕ) (ms ns : List ℕ) → length ns ≤ n → ((k : ℕ) → k < n → get_or ms k 0 ≡ get_or ns k 0) → FindsFrom (is_used ms) n r
+    → MatchOption r ((k : ℕ) → get_or ms k 0 ≡ get_or ns k 0) (IsFirstBlockMismatch ms ns)
+mismatch_from n None ms ns ended same none = λ k.
+    ⊎_elim (same k) (λ past. zero_from_unused _ (none k past) ∙ sym (get_or_past ns k 0 (omega (arith, ended, past)))) (cases_lt k n)
+mismatch_from n (Some i) ms ns ended same first = record {
+  below = λ j low. ⊎_elim (same j) (λ past. zero_from_unused _ (first.between j past low) ∙ sym (get_or_past ns j 0 (omega (arith, ended, past)))) (cases_lt j n);
+  here = λ e. false≢true (sym (ap (λ m. not (m == 0)) (e ∙ get_or_past ns i 0 (omega (arith, ended, first.reached)))) ∙ first.passes);
+}
+
+pub mismatch_back : (r : Option ℕ) (ms ns : List ℕ) → MatchOption r ((k : ℕ) → get_or ns k 0 ≡ get_or ms k 0) (IsFirstBlockMismatch ns ms)
+    → MatchOption r ((k : ℕ) → get_or ms k 0 ≡ get_or ns k 0) (IsFirstBlockMismatch ms ns)
+mismatch_back None ms ns same = λ k. sym (same k)
+mismatch_back (Some i) ms ns first = record { below = λ j low. sym (first.below j low); here = λ e. first.here (sym e) }
 
 pub none_since : (o : Option ℕ) (b : Bool) (ms ns : List ℕ) (P : Type 0) → is_some o ≡ not b → MatchOption o P (IsFirstBlockMismatch ms ns) → ((k : ℕ) → get_or ms k 0 ≡ get_or ns k 0) → b ≡ true
 none_since None b ms ns P is match same = grind arith
 none_since (Some k) b ms ns P is match same = absurd (match.here (same k))
-
--- up to where they differ, blocks are the same
-pub same_below : (o : Option ℕ) (most end : ℕ) (ms ns : List ℕ) → end ≡ unwrap_or o most → MatchOption o ((k : ℕ) → get_or ms k 0 ≡ get_or ns k 0) (IsFirstBlockMismatch ms ns) → (k : ℕ)
-    → k < end → get_or ms k 0 ≡ get_or ns k 0
-same_below None most end ms ns is match k below = match k
-same_below (Some at) most end ms ns is match k below = match.below k (omega (arith, is))

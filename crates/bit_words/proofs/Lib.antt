@@ -1,5 +1,6 @@
 mod Chains
 pub mod SourceLemmas
+pub mod PartLemmas
 pub mod SummarySpanLemmas
 mod RangeCountLemmas
 pub mod MovedLemmas
@@ -7,7 +8,7 @@ pub mod RangeQueryLemmas
 pub mod MergedOnesLemmas
 pub mod ComparedLemmas
 pub mod ClearedLemmas
-pub mod CopiedLemmas
+pub mod BecomingLemmas
 pub mod KeepLemmas
 pub mod PutLemmas
 pub mod ChunkLemmas

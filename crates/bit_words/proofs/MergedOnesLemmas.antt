@@ -1,15 +1,15 @@
 -- How many values of the merge of two lists of blocks are true, block by block.
-use Rattle.std.proofs.Common.{◌≡◌, ◌≢◌, ℕ, zero, suc, ◌+◌, ◌-◌, ◌*◌, ◌^◌, ◌<◌, ◌≤◌, ◌==◌, ◌||◌, if◌then◌else◌, Bool, true, false, cond, max, List, map, length, get_or, count_ones, refl}
+use Rattle.std.proofs.Common.{◌≡◌, ◌≢◌, ℕ, zero, suc, ◌+◌, ◌-◌, ◌*◌, ◌/◌, ◌%◌, ◌^◌, ◌<◌, ◌≤◌, ◌==◌, ◌&&◌, ◌||◌, if◌then◌else◌, Bool, true, false, not, cond, max, min, drop, length-drop, div-lt_iff_lt-mul, ◌⊎◌, inl, inr, List, map, length, get_or, count_ones, refl}
 use Rattle.std.proofs.Common.{sym, ap, ap₂, ◌∙◌, ⊎_elim, arith, pow_pos, mul-le-mul_right}
 use Rattle.std.proofs.lemmas.Bool.{cases_lt, false≢true, Decides.nat_tests}
-use Rattle.std.proofs.lemmas.{List.{ext_get_or, FromFn.{get_or-map-range_with_len, length-map-range_with_len}, Sums.{count_by-le-length, sum_by-cons}}, Nat.le-div}
+use Rattle.std.proofs.lemmas.{List.{drop_all, ext_get_or, get_or_past, length-map, take_all, FromFn.{get_or-map-range_with_len, length-map-range_with_len}, Sums.{count_by-le-length, sum_by-cons}}, Nat.le-div}
 use Rattle.std.specs.List.{count_by, range_with_len, sum_by}
-use Rattle.bit_blocks.specs.{declared.block.merge.Merge.Merge, Bits.Bits, BlockMerges.MergesToFalse, Digits.is_one, Lowest.{IsLowest, IsCleared}}
-use Rattle.bit_blocks.specs.{Merges.{merge_of, merge_of_values}, Storage.{values_of, value_at, is_used, IsZeroFrom}}
-use Rattle.bit_blocks.proofs.{CompareLemmas.{digit_from_zero, value_in_view}, LowestLemmas.ones_zero, Masks.is_one-zero, MergeLemmas.{get_or-merged, length-merged, merge_of_values-none}}
-use Rattle.bit_blocks.proofs.{SpanCountLemmas.{count-parts, ones_of_span, sum-parts}, StorageLemmas.{value_at-index, value_at-past}, UseLemmas.{used_past, zero_from_unused}}
+use Rattle.bit_blocks.specs.{declared.block.merge.Merge.{Merge, TheVariants.{Difference, Intersection}}, Bits.Bits, BlockMerges.MergesToFalse, Digits.is_one, Lowest.{IsLowest, IsCleared}}
+use Rattle.bit_blocks.specs.{Merges.{merge_of, merge_of_values}, Storage.{values_of, value_at, is_used, ones_in, IsZeroFrom}}
+use Rattle.bit_blocks.proofs.{CompareLemmas.{digit_from_zero, value_in_view, zero_from_digits}, LowestLemmas.ones_zero, Masks.is_one-zero, MergeLemmas.{get_or-merged, length-merged, merge_of_values-none}}
+use Rattle.bit_blocks.proofs.{SpanCountLemmas.{count-parts, ones_of_blocks, ones_of_span, sum-parts}, StorageLemmas.{value_at-index, value_at-is, value_at-past}, UseLemmas.{unused_from_false, used_past, zero_from_unused}}
 use Rattle.bit_blocks.proofs.VectorLemmas.{length_from_view}
-use Rattle.bit_words.specs.MergedOnes.{may_merge, merged_at, merged_ones, CoversChunks, CoversMerged}
+use Rattle.bit_words.specs.{MergedOnes.{may_merge, merged_at, merged_ones, CoversMerged}, Parts.Passed}
 use Rattle.bit_words.proofs.RangeQueryLemmas.{trues_of_map}
 
 -- ---- sums over a range
@@ -199,6 +199,13 @@ module _ (merge : Merge) (w : ℕ) (ms ns : List ℕ) where
         omega (arith, some, none (i + 1)));
   }
 
+  pub false_where_rest_none : (c : ℕ) → 0 < w → merged_ones merge w ms ns 0 c ≡ 0 → ((i : ℕ) → c * w ≤ i → merged_at merge w ms ns i ≡ false) → MergesToFalse merge w ms ns
+  false_where_rest_none c pos none rest = false_where_none pos (λ n.
+      ⊎_elim
+      (λ (less : n < c). omega (arith, none, merged_le 0 0 n c (omega arith) (omega arith) (omega arith)))
+      (λ (more : c ≤ n). omega (arith, none, merged_parts 0 c n (omega arith) more, count_none (merged_at merge w ms ns) (c * w) (n * w - c * w) (λ i from below. rest i from)))
+      (cases_lt n c))
+
   pub none_where_false : (a b : ℕ) → MergesToFalse merge w ms ns → merged_ones merge w ms ns a b ≡ 0
   none_where_false a b falses = count_none (merged_at merge w ms ns) (a * w) (b * w - a * w) (λ i _ _. falses.value i)
 
@@ -217,57 +224,147 @@ module _ (merge : Merge) (w : ℕ) (ms ns : List ℕ) where
   pub left_all : (start m : ℕ) → CoversMerged merge w ms ns start m → left_of (λ j. merged_ones merge w ms ns (start + j) (start + j + 1)) w m ≡ merged_ones merge w ms ns start (start + w)
   left_all start m covers = left_some start m covers.none
 
-  -- of the chunks at which m has a 1
-  pub left_chunks : (first count m : ℕ) → count ≤ w → CoversChunks merge w ms ns first count m
-      → left_of (λ j. merged_ones merge w ms ns ((first + j) * w) ((first + j + 1) * w)) w m ≡ merged_ones merge w ms ns (first * w) ((first + count) * w)
-  left_chunks first count m le covers =
-      let ones = merged_ones merge w ms ns in
-      left_sums (λ j. ones ((first + j) * w) ((first + j + 1) * w)) (λ n. ones (first * w) ((first + n) * w)) w m count le
-      (ap (λ q. ones (first * w) (q * w)) (let e : first + 0 ≡ first = omega arith in e) ∙ merged_empty (first * w))
-      (λ j below.
-      ap (λ q. ones (first * w) (q * w)) (let e : first + (j + 1) ≡ first + j + 1 = omega arith in e)
-      ∙ merged_parts (first * w) ((first + j) * w) ((first + j + 1) * w) (mul-le-mul_right w (omega arith)) (mul-le-mul_right w (omega arith)))
-      covers.none covers.within
-
   -- ---- which blocks of a chunk are read
 
   none_from : (x y p o : Bool) → (p ≡ false → x ≡ false) → (o ≡ false → y ≡ false) → may_merge merge p o ≡ false → merge_of_values merge x y ≡ false
   none_from x y p o first second none = grind (arith, merge_of_values-none merge)
 
   -- of a block of which the summaries say that it merges to none
-  block_none : (q p o : ℕ) → ((j : ℕ) → j < w → is_one p j ≡ is_used ms (q * w + j)) → ((j : ℕ) → j < w → is_one o j ≡ is_used ns (q * w + j))
-      → (j : ℕ) → j < w → may_merge merge (is_one p j) (is_one o j) ≡ false → merged_ones merge w ms ns (q * w + j) (q * w + j + 1) ≡ 0
-  block_none q p o first second j index none = merged_none (q * w + j) (λ i within.
-      none_from _ _ (is_one p j) (is_one o j)
-      (λ zero. digit_from_zero _ i (zero_from_unused _ (sym (first j index) ∙ zero)))
-      (λ zero. digit_from_zero _ i (zero_from_unused _ (sym (second j index) ∙ zero)))
-      none)
+  block_none : (k j : ℕ) → may_merge merge (is_used ms k) (is_used ns k) ≡ false → merge_of_values merge (is_one (get_or ms k 0) j) (is_one (get_or ns k 0) j) ≡ false
+  block_none k j none =
+      none_from _ _ (is_used ms k) (is_used ns k)
+      (λ zero. digit_from_zero _ j (zero_from_unused _ zero))
+      (λ zero. digit_from_zero _ j (zero_from_unused _ zero))
+      none
 
-  -- and of a chunk of such blocks
-  pub chunk_none : (q p o : ℕ) → ((j : ℕ) → j < w → is_one p j ≡ is_used ms (q * w + j)) → ((j : ℕ) → j < w → is_one o j ≡ is_used ns (q * w + j))
-      → ((j : ℕ) → j < w → may_merge merge (is_one p j) (is_one o j) ≡ false) → merged_ones merge w ms ns (q * w) ((q + 1) * w) ≡ 0
-  chunk_none q p o first second none =
-      let ones = merged_ones merge w ms ns in
-      ap (ones (q * w)) (let e : (q + 1) * w ≡ q * w + w = omega arith in e)
-      ∙ sym (left_some (q * w) 0 (λ j index _. block_none q p o first second j index (none j index)))
-      ∙ left_none (λ j. ones (q * w + j) (q * w + j + 1)) w 0 refl
+  -- and of all that a walk passes over
+  pub merged_passed : (a b : ℕ) → 0 < w → Passed (λ k. may_merge merge (is_used ms k) (is_used ns k)) a b → merged_ones merge w ms ns a b ≡ 0
+  merged_passed a b pos passed = count_none (merged_at merge w ms ns) (a * w) (b * w - a * w) (λ i from below.
+      let before : i / w < b = (div-lt_iff_lt-mul pos).1 (omega (arith, from, below)) in
+      ap₂ (merge_of_values merge) (value_at-is w ms i) (value_at-is w ns i)
+      ∙ block_none (i / w) (i % w) (passed (i / w) (le-div a i w pos from) before))
 
-  pub covers_merged : (q p o u : ℕ) → length ms < 2 ^ 64 → length ns < 2 ^ 64 → ((j : ℕ) → j < w → is_one p j ≡ is_used ms (q * w + j))
-      → ((j : ℕ) → j < w → is_one o j ≡ is_used ns (q * w + j))
-      → ((j : ℕ) → j < w → is_one u j ≡ may_merge merge (is_one p j) (is_one o j)) → CoversMerged merge w ms ns (q * w) u
-  covers_merged q p o u fits also first second digits = record {
-    none = λ j index none. block_none q p o first second j index (sym (digits j index) ∙ none);
+  pub covers_part : (q u : ℕ) → length ms < 2 ^ 64 → length ns < 2 ^ 64
+      → ((j : ℕ) → j < w → is_one u j ≡ may_merge merge (is_used ms (q * w + j)) (is_used ns (q * w + j))) → CoversMerged merge w ms ns (q * w) u
+  covers_part q u fits also digits = record {
+    none = λ j index none. merged_none (q * w + j) (λ i within. block_none (q * w + j) i (sym (digits j index) ∙ none));
     fits = λ j index one. ⊎_elim
         (λ below. below)
         (λ past.
-        let no : is_one p j ≡ false = first j index ∙ used_past ms (q * w + j) (omega arith) in
-        let none : is_one o j ≡ false = second j index ∙ used_past ns (q * w + j) (omega arith) in
-        absurd (false≢true (sym (digits j index ∙ ap₂ (may_merge merge) no none ∙ nothing) ∙ one)))
+        let nothing = ap₂ (may_merge merge) (used_past ms (q * w + j) (omega arith)) (used_past ns (q * w + j) (omega arith)) ∙ may_none in
+        absurd (false≢true (sym (digits j index ∙ nothing) ∙ one)))
         (cases_lt (q * w + j) (2 ^ 64));
   }
     where
-      nothing : may_merge merge false false ≡ false
-      nothing = let none = merge_of_values-none merge in ap (λ b. b || (b || b)) none
+      may_none : may_merge merge false false ≡ false
+      may_none = let none = merge_of_values-none merge in ap (λ b. b || (b || b)) none
+
+-- ---- the ones of one list alone
+
+-- what becomes of a true value, by the block that a block of one 1 becomes
+module _ (f : Bool → Bool) (none : f false ≡ false) (w n : ℕ) (one : ℕ → Bool) (pos : 0 < w) (small : n < 2 ^ w) (first : one 0 ≡ true)
+    (digits : (i : ℕ) → i < w → is_one n i ≡ f (one i)) where
+  lost : f true ≡ false → (b : Bool) → f b ≡ false
+  lost is true = is
+  lost is false = none
+
+  is_kept : (v : Bool) → f true ≡ v → f true ≡ not (n == 0)
+  is_kept true is =
+      let digit : is_one n 0 ≡ true = digits 0 pos ∙ ap f first ∙ is in
+      is ∙ grind (arith, nat_tests, digit, digit_from_zero n 0)
+  is_kept false is = is ∙ sym (ap (λ m. not (m == 0)) (zero_from_digits w n small (λ i within. digits i within ∙ lost is (one i))))
+
+  pub one_kept : (x : Bool) → f x ≡ (x && not (n == 0))
+  one_kept true = is_kept (f true) refl
+  one_kept false = none
+
+module _ {X : Type 0} (w : ℕ) (number : X → ℕ) (pos : 0 < w) where
+  -- the ones from block a on, where the values are those of one list
+  ones_of_drop : (f : ℕ → Bool) (a n : ℕ) (xs : List X) → ((k : ℕ) → get_or (map number xs) k 0 < 2 ^ w) → ((i : ℕ) → a * w ≤ i → f i ≡ value_at w (map number xs) i)
+      → length xs ≤ n → a ≤ n → count_by f (range_with_len (a * w) (n * w - a * w)) ≡ ones_in number (drop a xs)
+  ones_of_drop f a n xs small same within le =
+      let ms = map number xs in
+      let end = length xs in
+      let past : (b : ℕ) → a ≤ b → end ≤ b → count_by f (range_with_len (b * w) (n * w - b * w)) ≡ 0 = λ b from ended. count_none f (b * w) (n * w - b * w) (λ i reached below.
+      same i (omega (arith, reached, mul-le-mul_right w from)) ∙ value_at-past w ms i (rw length-map (omega (arith, ended, le-div b i w pos reached)))) in
+      ⊎_elim
+      (λ (ended : end < a). past a (omega arith) (omega arith) ∙ sym (ap (ones_in number) (drop_all a xs (omega arith))))
+      (λ (longer : a ≤ end).
+      count-parts f (a * w) (end * w) (n * w) (mul-le-mul_right w longer) (mul-le-mul_right w within)
+      ∙ ap₂ (λ x y. x + y)
+      (sums_same (λ i. cond (f i) 1 0) (λ i. cond (value_at w ms i) 1 0) (a * w) (end * w - a * w) (λ i from below. ap (λ b. cond b 1 0) (same i from))
+      ∙ sym (ones_of_blocks number w a end xs (drop a xs) small longer (omega arith) (sym (take_all (end - a) (drop a xs) (omega (arith, length-drop a xs))))))
+      (past end longer (omega arith))
+      ∙ omega arith)
+      (cases_lt end a)
+
+  -- of a merge past the end of a list
+  pub ones_past_end : (merge : Merge) (a n : ℕ) (own other : Bool) (xs ys : List X) → ((k : ℕ) → get_or (map number xs) k 0 < 2 ^ w) → ((k : ℕ) → get_or (map number ys) k 0 < 2 ^ w)
+      → ((x : Bool) → merge_of_values merge x false ≡ (x && own)) → ((x : Bool) → merge_of_values merge false x ≡ (x && other))
+      → min (length xs) (length ys) ≤ a → length xs ≤ n → length ys ≤ n → a ≤ n
+      → merged_ones merge w (map number xs) (map number ys) a n
+      ≡ (if own then ones_in number (drop a xs) else 0) + (if other then ones_in number (drop a ys) else 0)
+  ones_past_end merge a n own other xs ys small also keeps takes end first second le =
+      ⊎_elim
+      (λ (longer : a < length ys).
+      omega (
+        arith,
+        alone (merged_at merge w (map number xs) (map number ys)) other ys also second
+            (λ i from. ap (λ x. merge_of_values merge x (value_at w (map number ys) i)) (none xs (omega arith) i from) ∙ takes (value_at w (map number ys) i)),
+        nothing own xs (omega arith),
+      ))
+      (λ (ended : length ys ≤ a).
+      omega (
+        arith,
+        alone (merged_at merge w (map number xs) (map number ys)) own xs small first
+            (λ i from. ap (merge_of_values merge (value_at w (map number xs) i)) (none ys ended i from) ∙ keeps (value_at w (map number xs) i)),
+        nothing other ys ended,
+      ))
+      (cases_lt a (length ys))
+    where
+      none : (zs : List X) → length zs ≤ a → (i : ℕ) → a * w ≤ i → value_at w (map number zs) i ≡ false
+      none zs ended i from = value_at-past w (map number zs) i (rw length-map (omega (arith, ended, le-div a i w pos from)))
+
+      nothing : (b : Bool) (zs : List X) → length zs ≤ a → (if b then ones_in number (drop a zs) else 0) ≡ 0
+      nothing true zs ended = ap (ones_in number) (drop_all a zs ended)
+      nothing false zs ended = refl
+
+      alone : (f : ℕ → Bool) (b : Bool) (zs : List X) → ((k : ℕ) → get_or (map number zs) k 0 < 2 ^ w) → length zs ≤ n
+          → ((i : ℕ) → a * w ≤ i → f i ≡ (value_at w (map number zs) i && b)) → count_by f (range_with_len (a * w) (n * w - a * w)) ≡ (if b then ones_in number (drop a zs) else 0)
+      alone f true zs fits within same = ones_of_drop f a n zs fits (λ i from. same i from ∙ grind arith) within le
+      alone f false zs fits within same = count_none f (a * w) (n * w - a * w) (λ i from below. same i from ∙ grind arith)
+
+-- ---- inclusion
+
+module _ (w : ℕ) (ms ns : List ℕ) (pos : 0 < w) (c : ℕ) (ends : min (length ms) (length ns) ≤ c) where
+  either_past : (i : ℕ) → c * w ≤ i → (value_at w ms i ≡ false) ⊎ (value_at w ns i ≡ false)
+  either_past i from =
+      let block : c ≤ i / w = le-div c i w pos from in
+      ⊎_elim
+      (λ (own : i / w < length ms). inr (value_at-past w ns i (omega (arith, own, block, ends))))
+      (λ (past : length ms ≤ i / w). inl (value_at-past w ms i past))
+      (cases_lt (i / w) (length ms))
+
+  -- lists that are apart where both have blocks
+  pub apart_where_none : merged_ones Intersection w ms ns 0 c ≡ 0 → MergesToFalse Intersection w ms ns
+  apart_where_none none = false_where_rest_none Intersection w ms ns c pos none (λ i from.
+      ⊎_elim (λ own. grind (arith, own)) (λ other. grind (arith, other)) (either_past i from))
+
+  -- a list within another, where both have blocks, and past the end of that
+  pub within_where_none : merged_ones Difference w ms ns 0 c ≡ 0 → ((k : ℕ) → length ns ≤ k → is_used ms k ≡ false) → MergesToFalse Difference w ms ns
+  within_where_none none past = false_where_rest_none Difference w ms ns c pos none (λ i from.
+      let block : c ≤ i / w = le-div c i w pos from in
+      let own : value_at w ms i ≡ false =
+      ⊎_elim
+      (λ (inside : i / w < length ns). value_at-past w ms i (omega (arith, inside, block, ends)))
+      (λ (ended : length ns ≤ i / w). value_at-is w ms i ∙ digit_from_zero _ (i % w) (zero_from_unused _ (past (i / w) ended)))
+      (cases_lt (i / w) (length ns)) in
+      grind (arith, own))
+
+pub none_past_within : (w k : ℕ) (ms ns : List ℕ) → get_or ms k 0 < 2 ^ w → length ns ≤ k → MergesToFalse Difference w ms ns → is_used ms k ≡ false
+none_past_within w k ms ns small ended falses = unused_from_false w ms k small (λ j index.
+    let none : value_at w ns (k * w + j) ≡ false = value_at-index w ns k j index ∙ digit_from_zero _ j (get_or_past ns k 0 ended) in
+    grind (arith, falses.value (k * w + j), none))
 
 -- ---- lists
 

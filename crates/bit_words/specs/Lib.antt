@@ -7,3 +7,4 @@ pub mod Kept
 pub mod Chunks
 pub mod Growth
 pub mod MergedOnes
+pub mod Parts

@@ -19,8 +19,3 @@ merged_ones merge w ms ns first end =
 pub record CoversMerged (merge : Merge) (w : ℕ) (ms ns : List ℕ) (start m : ℕ) : Type 0 where
   pub none : (j : ℕ) → j < w → is_one m j ≡ false → merged_ones merge w ms ns (start + j) (start + j + 1) ≡ 0
   pub fits : (j : ℕ) → j < w → is_one m j ≡ true → start + j < 2 ^ 64
-
--- Of the `count` chunks from chunk `first` on, w blocks each, those at which m has a 0 merge to 0. It has a 1 at no other.
-pub record CoversChunks (merge : Merge) (w : ℕ) (ms ns : List ℕ) (first count m : ℕ) : Type 0 where
-  pub none : (j : ℕ) → j < count → is_one m j ≡ false → merged_ones merge w ms ns ((first + j) * w) ((first + j + 1) * w) ≡ 0
-  pub within : (j : ℕ) → j < w → is_one m j ≡ true → j < count

@@ -17,6 +17,7 @@ use bit_blocks::packed::groups::{GROUP, LONG_GROUP};
 use bit_blocks::packed::resizing::{append_bits, repeated_bit, truncate_bits};
 use std::alloc::{AllocError, Global};
 
+pub(crate) mod becoming;
 pub(crate) mod changes;
 pub(crate) mod clearing;
 pub(crate) mod comparing;
@@ -25,6 +26,7 @@ pub(crate) mod counts;
 pub(crate) mod differences;
 pub(crate) mod inclusion;
 pub(crate) mod merges;
+pub(crate) mod parts;
 pub(crate) mod queries;
 pub(crate) mod range_queries;
 pub(crate) mod remaking;

@@ -77,8 +77,8 @@ impl<B: BitBlock> BitVec<B> {
         intersection_by_summaries(&self.blocks, &self.summary, &other.blocks, &other.summary)
     }
 
-    /// Whether the same indexes are true in both lists, whichever of them is longer. Of many blocks it compares the
-    /// summaries, and then those blocks alone that are not zero. Stops at the first group of at most 32 blocks that differs.
+    /// Whether the same indexes are true in both lists, whichever of them is longer. Of many blocks it compares the first, and
+    /// then those alone of which a summary says that they are not zero. Stops at the first group of at most 32 blocks that differs.
     ///
     /// ```
     /// // Of three values that at 1 is true, and so it is of 40 in `other`.
@@ -93,7 +93,7 @@ impl<B: BitBlock> BitVec<B> {
     }
 
     /// The first block at which the lists differ, or `None`, where blocks past the end of a list are zero. Of many blocks it
-    /// compares the summaries, and those blocks alone that are not zero, up to the chunk in which the lists differ.
+    /// compares those alone of which a summary says that they are not zero, up to the chunk in which the lists differ.
     ///
     /// ```
     /// // Of 100 values, over blocks of 32 bits, that at 70 is true, and none in `other`.
@@ -109,7 +109,7 @@ impl<B: BitBlock> BitVec<B> {
 
     /// How many values of the merge of this list with `other` are true, where the shorter list goes on with false values.
     /// Takes no memory: the merge is not made. Of many blocks it reads the summaries, and the blocks that these say
-    /// may have true values, once each.
+    /// may have true values, once each; of the longer list's rest only what the merge keeps.
     ///
     /// ```
     /// // Of ten values, those at 1 and 8 are true, and of 100 in `other` those at 1 and 70.

@@ -1,16 +1,21 @@
 // Where two lists of blocks first differ, by their summaries. A block past the end of a list counts as 0.
-ghost use Rattle.std.specs.Prelude.{◌≡◌, ℕ, ◌+◌, ◌*◌, ◌^◌, ◌<◌, ◌≤◌, ◌↔◌, All, IsTrue, MatchOption, false, true, get_or, length, map};
-ghost use Rattle.bit_blocks.specs.{Digits.is_one, Mismatches.IsFirstBlockMismatch, Storage.value_at};
-ghost use Rattle.bit_words.specs.Summary.{IsStoredSummary};
+ghost use Rattle.std.specs.Prelude.{◌≡◌, ℕ, ◌+◌, ◌*◌, ◌^◌, ◌<◌, ◌≤◌, ◌↔◌, All, IsTrue, MatchOption, false, true, get_or, length, map, max, min};
+ghost use Rattle.bit_blocks.specs.{Digits.is_one, Mismatches.IsFirstBlockMismatch, Storage.is_used, declared.block.merge.Merge.Merge};
+ghost use Rattle.bit_words.specs.{MergedOnes.may_merge, Parts.{IsListed, IsPart}, Summary.IsStoredSummary};
 
-use crate::summary::queries::{chunks_before_few, first_chunks, has_few_of_wide, is_full};
+use crate::summary::parts::{Merging, Part, next_part};
+use crate::summary::queries::first_chunks;
+use crate::summary::searching::first_used_by_summary;
+use crate::summary::summarized::Listed;
 use crate::summary::{is_nonzero, is_short};
 use bit_blocks::block::BitBlock;
 use bit_blocks::block::lowest::take_lowest_one;
+use bit_blocks::block::operation::Union;
 use bit_blocks::block::operators::same;
-use bit_blocks::packed::access::block_at;
+use bit_blocks::packed::access::{block_count, block_index};
 use bit_blocks::packed::comparing::{first_mismatching_block, same_blocks};
-use bit_blocks::packed::zeros::zeros_before;
+use bit_blocks::packed::nonzero::block_or_zero;
+use std::marker::PhantomData;
 
 // The first block that differs of those that this many blocks of the summaries from `q` on cover.
 #[inline]
@@ -42,9 +47,7 @@ fn mismatch_of_used<B: BitBlock>(blocks: &[B], others: &[B], q: usize, used: B) 
     requires each { All B.is_block blocks.now }
     requires others { All B.is_block others.now }
     requires of_used { B.is_block used }
-    requires in_both { (p : ℕ) → p < B.width → is_one (B.number used) p ≡ true
-        → (q * B.width + p < length blocks.now) × (q * B.width + p < length others.now) }
-    requires fits { length blocks.now < 2 ^ 64 }
+    requires fits { (p : ℕ) → p < B.width → is_one (B.number used) p ≡ true → q * B.width + p < 2 ^ 64 }
     requires before { (k : ℕ) → k < q * B.width
         → get_or (map B.number blocks.now) k 0 ≡ get_or (map B.number others.now) k 0 }
     requires same { (p : ℕ) → p < B.width → is_one (B.number used) p ≡ false
@@ -58,101 +61,82 @@ fn mismatch_of_used<B: BitBlock>(blocks: &[B], others: &[B], q: usize, used: B) 
     while is_nonzero(left) {
         let p = take_lowest_one(&mut left);
         let k = q * B::bits() + p;
-        if !same(block_at(blocks, k), block_at(others, k)) {
+        if !same(block_or_zero(blocks, k), block_or_zero(others, k)) {
             return Some(k);
         }
     }
     None
 }
 
-// The first block that differs of the next chunks from `q` on, and how many these are: chunks of zeros, one in which few blocks
-// are not 0, or all up to the next such one. Those before are the same.
-#[inline(always)]
-fn mismatch_in_next<B: BitBlock>(
-    blocks: &[B],
-    others: &[B],
-    summary: &[B],
-    q: usize,
-) -> (Option<usize>, usize)
-    requires in_summary { q < length summary.now }
+// The first block of a part that differs; those before it are the same.
+#[inline]
+fn mismatch_of_part<B: BitBlock>(blocks: &[B], others: &[B], part: Part<B>) -> Option<usize>
     requires each { All B.is_block blocks.now }
     requires others { All B.is_block others.now }
-    requires fits { length blocks.now < 2 ^ 64 }
-    requires summary { All B.is_block summary.now }
-    requires before { (k : ℕ) → k < q * B.width
-        → get_or (map B.number blocks.now) k 0 ≡ get_or (map B.number others.now) k 0 }
-    requires in_both { (k : ℕ) → value_at B.width (map B.number summary.now) k ≡ true
-        → (k < length blocks.now) × (k < length others.now) }
-    requires zeros { (k : ℕ) → k < length summary.now * B.width → value_at B.width (map B.number summary.now) k ≡ false
-        → get_or (map B.number blocks.now) k 0 ≡ get_or (map B.number others.now) k 0 }
-    ensures some { 0 < result.1 }
-    ensures within { q + result.1 ≤ length summary.now }
-    ensures found { MatchOption result.0
-        ((k : ℕ) → k < (q + result.1) * B.width
-        → get_or (map B.number blocks.now) k 0 ≡ get_or (map B.number others.now) k 0)
-        (IsFirstBlockMismatch (map B.number blocks.now) (map B.number others.now)) }
-{
-    let used = block_at(summary, q);
-    let rest = summary.split_at(q).1;
-    if !is_nonzero(used) {
-        return (None, zeros_before(rest));
-    }
-    if has_few_of_wide(used) {
-        return (mismatch_of_used(blocks, others, q, used), 1);
-    }
-    let count = chunks_before_few(rest);
-    (mismatch_in_chunks(blocks, others, q, count), count)
-}
-
-// The first block that differs among those that the summary covers; blocks that it says are 0 are so in both lists.
-// If few blocks of a chunk are nonzero, it compares only these.
-#[inline(never)]
-fn mismatch_in_runs<B: BitBlock>(blocks: &[B], others: &[B], summary: &[B]) -> Option<usize>
-    requires each { All B.is_block blocks.now }
-    requires others { All B.is_block others.now }
-    requires fits { length blocks.now < 2 ^ 64 }
-    requires summary { All B.is_block summary.now }
-    requires in_both { (k : ℕ) → value_at B.width (map B.number summary.now) k ≡ true
-        → (k < length blocks.now) × (k < length others.now) }
-    requires zeros { (k : ℕ) → k < length summary.now * B.width → value_at B.width (map B.number summary.now) k ≡ false
+    requires lengths { max (length blocks.now) (length others.now) < 2 ^ 64 }
+    requires part { IsPart B.width B.number B.is_block
+        (λ k. may_merge Merge.Union (is_used (map B.number blocks.now) k) (is_used (map B.number others.now) k))
+        part.first part.end part.used }
+    requires before { (k : ℕ) → k < part.first * B.width
         → get_or (map B.number blocks.now) k 0 ≡ get_or (map B.number others.now) k 0 }
     ensures { MatchOption result
-        ((k : ℕ) → k < length summary.now * B.width
+        ((k : ℕ) → k < part.end * B.width
         → get_or (map B.number blocks.now) k 0 ≡ get_or (map B.number others.now) k 0)
         (IsFirstBlockMismatch (map B.number blocks.now) (map B.number others.now)) }
 {
-    let mut q = 0;
-    while q < summary.len() {
-        let (found, count) = mismatch_in_next(blocks, others, summary, q);
+    match part.used {
+        Some(used) => mismatch_of_used(blocks, others, part.first, used),
+        None => mismatch_in_chunks(blocks, others, part.first, part.end - part.first),
+    }
+}
+
+// The first block that differs, where those that both lists have are the same: of the longer list, the first that is not 0.
+#[inline]
+fn mismatch_past<B: BitBlock>(own: Listed<B>, others: Listed<B>) -> Option<usize>
+    requires own { IsListed B.width B.number B.is_block own.blocks.now own.summary.now }
+    requires others { IsListed B.width B.number B.is_block others.blocks.now others.summary.now }
+    requires before { (k : ℕ) → k < min (length own.blocks.now) (length others.blocks.now)
+        → get_or (map B.number own.blocks.now) k 0 ≡ get_or (map B.number others.blocks.now) k 0 }
+    ensures { MatchOption result
+        ((k : ℕ) → get_or (map B.number own.entry.blocks.now) k 0 ≡ get_or (map B.number others.entry.blocks.now) k 0)
+        (IsFirstBlockMismatch (map B.number own.entry.blocks.now) (map B.number others.entry.blocks.now)) }
+{
+    let count = own.blocks.len();
+    let other_count = others.blocks.len();
+    if count < other_count {
+        return first_used_by_summary(others.blocks, others.summary, count);
+    }
+    first_used_by_summary(own.blocks, own.summary, other_count)
+}
+
+// The first block that differs of lists that have summaries. Blocks that these say are 0 in both are passed over.
+#[inline(never)]
+fn mismatch_of_long<B: BitBlock>(own: Listed<B>, others: Listed<B>) -> Option<usize>
+    requires own { IsListed B.width B.number B.is_block own.blocks.now own.summary.now }
+    requires others { IsListed B.width B.number B.is_block others.blocks.now others.summary.now }
+    ensures { MatchOption result
+        ((k : ℕ) → get_or (map B.number own.entry.blocks.now) k 0 ≡ get_or (map B.number others.entry.blocks.now) k 0)
+        (IsFirstBlockMismatch (map B.number own.entry.blocks.now) (map B.number others.entry.blocks.now)) }
+{
+    let both = own.blocks.len().min(others.blocks.len());
+    let last = block_count::<B>(both);
+    let marks = Merging {
+        first: own,
+        second: others,
+        operation: PhantomData::<Union>,
+    };
+    let mut place = 0;
+    while let Some(part) = next_part(marks, place, block_index::<B>(both), last) {
+        let found = mismatch_of_part(own.blocks, others.blocks, part);
         if found.is_some() {
             return found;
         }
-        q += count;
+        place = part.end;
     }
-    None
+    mismatch_past(own, others)
 }
 
-// Whether two lists have the same blocks. If both store a summary these are compared first, if enough blocks are 0
-// to be skipped. It is a separate function, so that few blocks are compared with no register saved.
-#[inline(never)]
-fn same_of_long<B: BitBlock>(blocks: &[B], summary: &[B], others: &[B], other_summary: &[B]) -> bool
-    requires each { All B.is_block blocks.now }
-    requires others { All B.is_block others.now }
-    requires summary { IsStoredSummary B.width B.number B.is_block blocks.now summary.now }
-    requires other_summary { IsStoredSummary B.width B.number B.is_block others.now other_summary.now }
-    ensures { IsTrue result
-        ↔ ((k : ℕ) → get_or (map B.number blocks.now) k 0 ≡ get_or (map B.number others.now) k 0) }
-{
-    if is_short::<B>(blocks.len().min(others.len())) {
-        return same_blocks(blocks, others);
-    }
-    if is_full(summary) {
-        return same_blocks(blocks, others);
-    }
-    same_blocks(summary, other_summary) && mismatch_in_runs(blocks, others, summary).is_none()
-}
-
-// Whether two lists have the same blocks, by their summaries if there are many.
+// Whether two lists have the same blocks, by their summaries if there are many. Most lists that differ do so in the first block.
 #[inline]
 pub(crate) fn same_by_summaries<B: BitBlock>(
     blocks: &[B],
@@ -167,13 +151,21 @@ pub(crate) fn same_by_summaries<B: BitBlock>(
     ensures { IsTrue result
         ↔ ((k : ℕ) → get_or (map B.number blocks.now) k 0 ≡ get_or (map B.number others.now) k 0) }
 {
-    if is_short::<B>(blocks.len()) {
+    if is_short::<B>(blocks.len().max(others.len())) {
         return same_blocks(blocks, others);
     }
-    same_of_long(blocks, summary, others, other_summary)
+    if !same(block_or_zero(blocks, 0), block_or_zero(others, 0)) {
+        return false;
+    }
+    let own = Listed { blocks, summary };
+    let other = Listed {
+        blocks: others,
+        summary: other_summary,
+    };
+    mismatch_of_long(own, other).is_none()
 }
 
-// The first block at which two lists differ. If both store a summary it lies no further than these differ.
+// The first block at which two lists differ.
 pub(crate) fn mismatch_by_summaries<B: BitBlock>(
     blocks: &[B],
     summary: &[B],
@@ -188,15 +180,13 @@ pub(crate) fn mismatch_by_summaries<B: BitBlock>(
         ((k : ℕ) → get_or (map B.number blocks.now) k 0 ≡ get_or (map B.number others.now) k 0)
         (IsFirstBlockMismatch (map B.number blocks.now) (map B.number others.now)) }
 {
-    if is_short::<B>(blocks.len().min(others.len())) {
+    if is_short::<B>(blocks.len().max(others.len())) {
         return first_mismatching_block(blocks, others);
     }
-    let most = summary.len().max(other_summary.len());
-    let alike = first_mismatching_block(summary, other_summary).unwrap_or(most);
-    let both = alike.min(summary.len());
-    let found = mismatch_in_runs(blocks, others, summary.split_at(both).0);
-    if found.is_some() {
-        return found;
-    }
-    mismatch_in_chunks(blocks, others, both, most)
+    let own = Listed { blocks, summary };
+    let other = Listed {
+        blocks: others,
+        summary: other_summary,
+    };
+    mismatch_of_long(own, other)
 }

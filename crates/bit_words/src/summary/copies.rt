@@ -1,94 +1,22 @@
 // Copies of blocks together with their summary, whole or from a block on.
-ghost use Rattle.std.specs.Prelude.{◌≡◌, ℕ, ◌+◌, ◌-◌, ◌*◌, ◌^◌, ◌<◌, ◌≤◌, All, IfOk, OnErr, OnOk, length, map, max, vec_capacity, false, true, get_or};
-ghost use Rattle.bit_blocks.specs.{Digits.is_one, Storage.{is_used, value_at, IsPacked}};
-ghost use Rattle.bit_words.specs.Summary.{shared_capacity, short_count, stored_for, AreCopied, IsStoredSummary, IsSummary};
+ghost use Rattle.std.specs.Prelude.{◌≡◌, ℕ, ◌<◌, ◌≤◌, All, IfOk, OnErr, OnOk, length, map, max, vec_capacity, false};
+ghost use Rattle.bit_blocks.specs.Storage.{is_used, value_at, IsPacked};
+ghost use Rattle.bit_words.specs.Summary.{shared_capacity, short_count, stored_for, IsStoredSummary, IsSummary};
 
-use crate::summary::queries::{has_few, is_sparse};
+use crate::summary::becoming::become_parts;
+use crate::summary::parts::Merging;
 use crate::summary::shared_capacity::have_capacity;
-use crate::summary::{is_nonzero, is_short, update_summary_at};
+use crate::summary::{is_short, update_summary_at};
 use bit_blocks::block::BitBlock;
-use bit_blocks::block::lowest::take_lowest_one;
-use bit_blocks::block::operators::block_or;
-use bit_blocks::packed::access::{block_at, put_in};
+use bit_blocks::block::operation::Union;
 use bit_blocks::packed::copies::{copy_blocks, copy_of};
 use bit_blocks::packed::tail_copies::copy_bits_from;
 use std::alloc::{AllocError, Global};
+use std::marker::PhantomData;
 
-// The blocks of chunk `q` become those of `from`; in both lists those at which `used` has a 0 are 0. Copies the
-// others one by one.
-#[inline]
-fn copy_used<B: BitBlock>(blocks: &mut [B], from: &[B], q: usize, used: B)
-    requires each { All B.is_block blocks.old }
-    requires from { All B.is_block from.now }
-    requires fits { length blocks.old < 2 ^ 64 }
-    requires as_long { length from.now ≡ length blocks.old }
-    requires of_used { B.is_block used }
-    requires inside { (p : ℕ) → p < B.width → is_one (B.number used) p ≡ true → q * B.width + p < length blocks.old }
-    requires same { (p : ℕ) → p < B.width → is_one (B.number used) p ≡ false
-        → get_or (map B.number blocks.old) (q * B.width + p) 0 ≡ get_or (map B.number from.now) (q * B.width + p) 0 }
-    ensures { AreCopied B.number B.is_block (q * B.width) ((q + 1) * B.width) from.now blocks.old blocks.new }
-{
-    let mut left = used;
-    while is_nonzero(left) {
-        let p = take_lowest_one(&mut left);
-        let k = q * B::bits() + p;
-        put_in(blocks, k, block_at(from, k));
-    }
-}
-
-// The blocks from `start` up to `end` become those of `from`, as far as they exist.
-#[inline]
-fn copy_between<B: BitBlock>(blocks: &mut [B], from: &[B], start: usize, end: usize)
-    requires each { All B.is_block blocks.old }
-    requires from { All B.is_block from.now }
-    requires as_long { length from.now ≡ length blocks.old }
-    ensures { AreCopied B.number B.is_block start end from.now blocks.old blocks.new }
-{
-    for k in start..end.min(blocks.len()) {
-        put_in(blocks, k, block_at(from, k));
-    }
-}
-
-// The blocks of chunk `q` become those of `from`: few of them one by one, and else all.
-#[inline(always)]
-fn copy_chunk<B: BitBlock>(
-    blocks: &mut [B],
-    summary: &[B],
-    from: &[B],
-    from_summary: &[B],
-    q: usize,
-)
-    requires as_long { length from.now ≡ length blocks.old }
-    requires in_summary { q < length summary.now }
-    requires in_other { q < length from_summary.now }
-    requires each { All B.is_block blocks.old }
-    requires from { All B.is_block from.now }
-    requires fits { length blocks.old < 2 ^ 64 }
-    requires summary { All B.is_block summary.now }
-    requires from_summary { All B.is_block from_summary.now }
-    requires says { (k : ℕ) → q * B.width ≤ k
-        → value_at B.width (map B.number summary.now) k ≡ is_used (map B.number blocks.old) k }
-    requires says_of_other { (k : ℕ) → q * B.width ≤ k
-        → value_at B.width (map B.number from_summary.now) k ≡ is_used (map B.number from.now) k }
-    ensures { AreCopied B.number B.is_block (q * B.width) ((q + 1) * B.width) from.now blocks.old blocks.new }
-{
-    let used = block_or(block_at(summary, q), block_at(from_summary, q));
-    if has_few(used) {
-        copy_used(blocks, from, q, used);
-    } else {
-        let width = B::bits();
-        copy_between(
-            blocks,
-            from,
-            q.saturating_mul(width),
-            (q + 1).saturating_mul(width),
-        );
-    }
-}
-
-// The blocks become those of `from`, which has as many. Chunks that are 0 in both lists are skipped.
+// The blocks become those of `from`, which has as many. Blocks that are 0 in both lists are passed over.
 #[inline(never)]
-fn copy_chunks<B: BitBlock>(blocks: &mut [B], summary: &[B], from: &[B], from_summary: &[B])
+fn copy_parts<B: BitBlock>(blocks: &mut [B], summary: &[B], from: &[B], from_summary: &[B])
     requires as_long { length from.now ≡ length blocks.old }
     requires each { All B.is_block blocks.old }
     requires from { All B.is_block from.now }
@@ -96,16 +24,19 @@ fn copy_chunks<B: BitBlock>(blocks: &mut [B], summary: &[B], from: &[B], from_su
     requires from_summary { IsSummary B.width B.number B.is_block from.now from_summary.now }
     ensures { blocks.new ≡ from.now }
 {
-    for q in 0..summary.len() {
-        copy_chunk(blocks, summary, from, from_summary, q);
-    }
+    let marks = Merging {
+        first: summary,
+        second: from_summary,
+        operation: PhantomData::<Union>,
+    };
+    become_parts(blocks, from, marks, 0, summary.len());
 }
 
 // A copy of fewer chunks takes about as long as to tell whether they are worth skipping.
 const MANY_CHUNKS: usize = 16;
 
 // The blocks become those of `from`, of which there is capacity for each. Where both lists are as long, and store
-// summaries, both sparse, chunks of zeros are skipped.
+// summaries, blocks that are 0 in both are passed over.
 #[inline]
 fn copy_past_zeros<B: BitBlock>(blocks: &mut Vec<B>, summary: &[B], from: &[B], from_summary: &[B])
     requires capacity { length from.now ≤ vec_capacity blocks.old }
@@ -119,10 +50,8 @@ fn copy_past_zeros<B: BitBlock>(blocks: &mut Vec<B>, summary: &[B], from: &[B], 
     if from_summary.len() >= MANY_CHUNKS
         && blocks.len() == from.len()
         && !is_short::<B>(from.len())
-        && is_sparse(from_summary)
-        && is_sparse(summary)
     {
-        copy_chunks(blocks.as_mut_slice(), summary, from, from_summary);
+        copy_parts(blocks.as_mut_slice(), summary, from, from_summary);
     } else {
         copy_blocks(blocks, from);
     }

@@ -1,23 +1,15 @@
-// How many ones a part of the merge of two lists of blocks has. The merge is not made, and if a summary is stored
-// it says which blocks are read.
-ghost use Rattle.std.specs.Prelude.{◌≡◌, ℕ, ◌+◌, ◌*◌, ◌^◌, ◌<◌, ◌≤◌, All, true, length, map, max, min};
-ghost use Rattle.bit_blocks.specs.{Bits.blocks_for, Digits.is_one};
-ghost use Rattle.bit_words.specs.{MergedOnes.{may_merge, merged_ones, CoversMerged}, Summary.IsStoredSummary};
+// How many ones the merge of two lists of blocks has. The merge is not made, and if a summary is stored it says which blocks are
+// read.
+ghost use Rattle.std.specs.Prelude.{◌≡◌, ◌+◌, ◌^◌, ◌<◌, ◌≤◌, All, length, map, max, min};
+ghost use Rattle.bit_words.specs.MergedOnes.{merged_ones, CoversMerged};
 
-use crate::summary::is_nonzero;
-use crate::summary::queries::summary_at;
 use bit_blocks::block::BitBlock;
 use bit_blocks::block::lowest::take_lowest_one;
 use bit_blocks::block::operation::Operation;
-use bit_blocks::block::operators::{block_or, same};
-use bit_blocks::packed::access::{block_at, block_index};
+use bit_blocks::packed::access::block_at;
 use bit_blocks::packed::nonzero::block_or_zero;
 
 pub(crate) mod by_summaries;
-
-// Where one in this many of the blocks of a chunk has to be read, or more, all of them are, in one loop without a
-// branch. So it is with the chunks of a group.
-pub(crate) const MANY: usize = 4;
 
 // The ones of block `k` of the merge. A block past the end of a list is 0.
 #[inline(always)]
@@ -77,6 +69,7 @@ fn ones_of_either<B: BitBlock, O: Operation>(
 }
 
 // The ones of the merge from block `start` on, of as many blocks as one has bits. Reads those at which `used` has a 1.
+#[inline]
 fn ones_of_used<B: BitBlock, O: Operation>(
     blocks: &[B],
     others: &[B],
@@ -98,109 +91,6 @@ fn ones_of_used<B: BitBlock, O: Operation>(
     while rest != B::zero() {
         let index = take_lowest_one(&mut rest);
         ones += ones_at::<B, O>(blocks, others, start + index);
-    }
-    ones
-}
-
-// Which blocks of a chunk have to be read; `own` and `other` have a 1 for each that is nonzero in either list.
-#[inline(always)]
-pub(crate) fn may_have_ones<B: BitBlock, O: Operation>(own: B, other: B) -> B
-    requires of_own { B.is_block own }
-    requires of_other { B.is_block other }
-    ensures of_block { B.is_block result }
-    ensures digits { (j : ℕ) → j < B.width → is_one (B.number result) j
-        ≡ may_merge O.merge (is_one (B.number own) j) (is_one (B.number other) j) }
-{
-    let zero = B::zero();
-    let alone = block_or(O::of_blocks(zero, other), O::of_blocks(own, other));
-    block_or(O::of_blocks(own, zero), alone)
-}
-
-// The ones of the merge from block `start` on, of as many blocks as one has bits. Those at which `used` has a 0 have none, and
-// `is_whole` says whether both lists have all of these blocks.
-#[inline]
-pub(crate) fn ones_of_chunk<B: BitBlock, O: Operation>(
-    blocks: &[B],
-    others: &[B],
-    start: usize,
-    used: B,
-    is_whole: bool,
-) -> usize
-    requires each { All B.is_block blocks.now }
-    requires others { All B.is_block others.now }
-    requires of_block { B.is_block used }
-    requires covers { CoversMerged O.merge B.width (map B.number blocks.now) (map B.number others.now) start
-        (B.number used) }
-    requires whole { is_whole ≡ true → (start + B.width ≤ length blocks.now) × (start + B.width ≤ length others.now) }
-    requires fits { merged_ones O.merge B.width (map B.number blocks.now) (map B.number others.now) start
-        (start + B.width) < 2 ^ 64 }
-    ensures { result
-        ≡ merged_ones O.merge B.width (map B.number blocks.now) (map B.number others.now) start (start + B.width) }
-{
-    // Most often in a list with few ones.
-    if !is_nonzero(used) {
-        return 0;
-    }
-    let width = B::bits();
-    if is_whole && used.count_ones() >= width / MANY {
-        ones_of_both::<B, O>(blocks, others, start, width)
-    } else {
-        ones_of_used::<B, O>(blocks, others, start, used)
-    }
-}
-
-// The ones of the merge of chunk `q`: of the blocks that a block of a summary covers.
-#[inline(always)]
-pub(crate) fn ones_at_chunk<B: BitBlock, O: Operation>(
-    blocks: &[B],
-    summary: &[B],
-    others: &[B],
-    other_summary: &[B],
-    q: usize,
-) -> usize
-    requires each { All B.is_block blocks.now }
-    requires others { All B.is_block others.now }
-    requires summary { IsStoredSummary B.width B.number B.is_block blocks.now summary.now }
-    requires other_summary { IsStoredSummary B.width B.number B.is_block others.now other_summary.now }
-    requires lengths { max (length blocks.now) (length others.now) < 2 ^ 64 }
-    requires in_blocks { q < blocks_for B.width (max (length blocks.now) (length others.now)) }
-    requires fits { (n : ℕ)
-        → merged_ones O.merge B.width (map B.number blocks.now) (map B.number others.now) 0 n < 2 ^ 64 }
-    ensures { result ≡ merged_ones O.merge B.width (map B.number blocks.now) (map B.number others.now)
-        (q * B.width) ((q + 1) * B.width) }
-{
-    let whole = block_index::<B>(blocks.len().min(others.len()));
-    let own = summary_at(blocks, summary, q);
-    let used = may_have_ones::<B, O>(own, summary_at(others, other_summary, q));
-    let start = q * B::bits();
-    ones_of_chunk::<B, O>(blocks, others, start, used, q < whole)
-}
-
-// The ones of the merge of the chunks from `first` up to `end`.
-#[inline(never)]
-pub(crate) fn ones_of_chunks<B: BitBlock, O: Operation>(
-    blocks: &[B],
-    summary: &[B],
-    others: &[B],
-    other_summary: &[B],
-    first: usize,
-    end: usize,
-) -> usize
-    requires each { All B.is_block blocks.now }
-    requires others { All B.is_block others.now }
-    requires summary { IsStoredSummary B.width B.number B.is_block blocks.now summary.now }
-    requires other_summary { IsStoredSummary B.width B.number B.is_block others.now other_summary.now }
-    requires forward { first ≤ end }
-    requires lengths { max (length blocks.now) (length others.now) < 2 ^ 64 }
-    requires in_blocks { end ≤ blocks_for B.width (max (length blocks.now) (length others.now)) }
-    requires fits { (n : ℕ)
-        → merged_ones O.merge B.width (map B.number blocks.now) (map B.number others.now) 0 n < 2 ^ 64 }
-    ensures { result ≡ merged_ones O.merge B.width (map B.number blocks.now) (map B.number others.now)
-        (first * B.width) (end * B.width) }
-{
-    let mut ones = 0;
-    for q in first..end {
-        ones += ones_at_chunk::<B, O>(blocks, summary, others, other_summary, q);
     }
     ones
 }

@@ -13,36 +13,6 @@ use bit_blocks::packed::zeros::{are_zero, used_blocks, zeros_before};
 // One chunk of this many is looked at to tell whether a list is dense.
 pub(crate) const SAMPLED: usize = 8;
 
-// How many of this many chunks are looked at, each SAMPLED past the one before it. The last chunk may be a part of
-// one, and is not looked at.
-#[inline(always)]
-pub(crate) fn samples(chunks: usize) -> usize
-    ensures { (k : ℕ) → k < result → k * SAMPLED < chunks }
-{
-    chunks.saturating_sub(1).div_ceil(SAMPLED)
-}
-
-// Whether most blocks of a chunk are looked at: those at the ones of `used`.
-#[inline(always)]
-fn has_most<B: BitBlock>(used: B) -> bool
-    requires { B.is_block used }
-{
-    used.count_ones() > B::bits() / 2
-}
-
-// Whether most blocks are not 0 in each chunk that is looked at: then no summary saves a pass over all of them.
-#[inline]
-pub(crate) fn is_full<B: BitBlock>(summary: &[B]) -> bool
-    requires each { All B.is_block summary.now }
-{
-    for sample in 0..samples(summary.len()) {
-        if !has_most(block_at(summary, sample * SAMPLED)) {
-            return false;
-        }
-    }
-    true
-}
-
 // Whether all blocks are 0, by the summary if one is stored.
 pub(crate) fn are_zero_by_summary<B: BitBlock>(blocks: &[B], summary: &[B]) -> bool
     requires each { All B.is_block blocks.now }
@@ -134,52 +104,6 @@ pub(crate) fn saved_blocks<B: BitBlock>(used: B) -> usize
     requires { B.is_block used }
 {
     B::bits().saturating_sub(used.count_ones().saturating_mul(FEW))
-}
-
-// Chunks of narrower blocks are so short that a pass over all of their blocks costs less than to pick some.
-const WIDE: usize = 32;
-
-// Whether so few blocks of a chunk are not 0 that they are taken one by one, and the run of chunks that is passed in one loop ends.
-#[inline(always)]
-pub(crate) fn has_few_of_wide<B: BitBlock>(used: B) -> bool
-    requires { B.is_block used }
-{
-    if B::bits() < WIDE {
-        return used.count_ones() == 0;
-    }
-    has_few(used)
-}
-
-// Whether there are few blocks that are not 0, over all chunks that are looked at: half as many as make few in one.
-#[inline]
-pub(crate) fn is_sparse<B: BitBlock>(summary: &[B]) -> bool
-    requires each { All B.is_block summary.now }
-{
-    if B::bits() < WIDE {
-        return false;
-    }
-    let count = samples(summary.len());
-    let mut ones = 0usize;
-    for sample in 0..count {
-        ones = ones.saturating_add(block_at(summary, sample * SAMPLED).count_ones());
-    }
-    ones < count.saturating_mul(B::bits() / FEW / 2)
-}
-
-// How many blocks of a summary come before the next of which few blocks are not 0: the first counts in any case.
-#[inline]
-pub(crate) fn chunks_before_few<B: BitBlock>(summary: &[B]) -> usize
-    requires each { All B.is_block summary.now }
-    requires some { 0 < length summary.now }
-    ensures some { 0 < result }
-    ensures within { result ≤ length summary.now }
-{
-    for k in 1..summary.len() {
-        if has_few_of_wide(block_at(summary, k)) {
-            return k;
-        }
-    }
-    summary.len()
 }
 
 // The blocks that the first blocks of a summary cover, or all if there are fewer, and the others.

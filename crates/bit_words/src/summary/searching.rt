@@ -13,7 +13,11 @@ use bit_blocks::packed::searching::{
 
 // The first block, from the one at `from` on, that is not 0.
 #[inline]
-fn first_used_by_summary<B: BitBlock>(blocks: &[B], summary: &[B], from: usize) -> Option<usize>
+pub(crate) fn first_used_by_summary<B: BitBlock>(
+    blocks: &[B],
+    summary: &[B],
+    from: usize,
+) -> Option<usize>
     requires each { All B.is_block blocks.now }
     requires summary { IsStoredSummary B.width B.number B.is_block blocks.now summary.now }
     ensures { FindsFrom (is_used (map B.number blocks.now)) from result }

@@ -4,7 +4,6 @@ ghost use Rattle.bit_blocks.specs.{BlockMerges.IsMergedSpan, Merges.merge_of_val
 ghost use Rattle.bit_words.specs.{Kept.IsPut, Summary.{IsStoredSummary, IsSummary}};
 
 use crate::summary::clearing::clear_chunks;
-use crate::summary::queries::is_sparse;
 use crate::summary::range_queries::whole_chunks;
 use crate::summary::{is_short, summarize_span, update_summary_at};
 use bit_blocks::block::BitBlock;
@@ -63,11 +62,7 @@ fn merge_long_span<B: BitBlock, O: Operation>(
     ensures in_place { WritesInPlace B.is_block blocks.old blocks.new }
 {
     let (first, last) = whole_chunks::<B>(start, end);
-    if !O::is_union()
-        && !is_short::<B>(blocks.len())
-        && first < last
-        && is_sparse(summary.split_at(last).0.split_at(first).1)
-    {
+    if !O::is_union() && !is_short::<B>(blocks.len()) && first < last {
         clear_around_chunks(blocks, summary, start, first, last, end);
     } else {
         merge_span::<B, O>(blocks, start, end);

@@ -1,170 +1,123 @@
-// The ones of the merge of two lists that have summaries, a group of chunks at a time: few of them have any in a sparse list.
-ghost use Rattle.std.specs.Prelude.{◌≡◌, ℕ, ◌+◌, ◌*◌, ◌^◌, ◌<◌, ◌≤◌, All, get_or, false, length, map, max};
-ghost use Rattle.bit_blocks.specs.{Bits.blocks_for, Digits.is_one, declared.block.merge.Merge.Merge};
-ghost use Rattle.bit_words.specs.{MergedOnes.{may_merge, merged_ones, CoversChunks}, Summary.IsStoredSummary};
+// The ones of the merge of two lists that have summaries: of the parts in which both have blocks, and of what the longer one has past
+// these, where the merge keeps it.
+ghost use Rattle.std.specs.Prelude.{◌≡◌, ℕ, ◌+◌, ◌*◌, ◌^◌, ◌<◌, ◌≤◌, ◌&&◌, if◌then◌else◌, All, Bool, IfNone, true, false, drop, length, map, max, min};
+ghost use Rattle.bit_blocks.specs.{Merges.merge_of_values, Storage.{is_used, ones_in}, declared.block.merge.Merge.Merge};
+ghost use Rattle.bit_words.specs.{MergedOnes.{may_merge, merged_ones}, Parts.{IsListed, IsPart}, Summary.{short_count, IsStoredSummary}};
 
-use crate::summary::counts::{
-    MANY, count_merged_blocks, may_have_ones, ones_at_chunk, ones_of_chunks,
-};
+use crate::summary::counts::{count_merged_blocks, ones_of_both, ones_of_used};
+use crate::summary::parts::{Merging, Part, next_part};
+use crate::summary::queries::{first_chunks, ones_of_runs};
+use crate::summary::summarized::Listed;
 use crate::summary::{is_nonzero, is_short};
 use bit_blocks::block::BitBlock;
-use bit_blocks::block::lowest::take_lowest_one;
-use bit_blocks::block::masks::with_one_if;
 use bit_blocks::block::merge::Merge;
 use bit_blocks::block::operation::{Difference, Intersection, Operation, Symmetric, Union};
-use bit_blocks::packed::access::{block_at, block_count};
-use bit_blocks::packed::groups::LONG_GROUP;
+use bit_blocks::packed::access::{block_count, block_index};
+use std::marker::PhantomData;
 
-// Which of the `count` chunks from `first` on have to be looked at, the first of them at the lowest bit. The
-// compiler makes vector code of this if it knows the count.
+// The ones of the merge of the chunks of a part. Both lists have all of them, unless single blocks may have ones.
 #[inline]
-fn used_chunks<B: BitBlock, O: Operation>(
-    summary: &[B],
-    other_summary: &[B],
-    first: usize,
-    count: usize,
-) -> B
-    requires in_summary { first + count ≤ length summary.now }
-    requires in_other { first + count ≤ length other_summary.now }
-    requires within { count ≤ B.width }
-    requires each { All B.is_block summary.now }
-    requires each_other { All B.is_block other_summary.now }
-    ensures of_block { B.is_block result }
-    ensures past { (j : ℕ) → count ≤ j → j < B.width → is_one (B.number result) j ≡ false }
-    ensures none { (j p : ℕ) → j < count → is_one (B.number result) j ≡ false → p < B.width
-        → may_merge O.merge (is_one (get_or (map B.number summary.now) (first + j) 0) p)
-        (is_one (get_or (map B.number other_summary.now) (first + j) 0) p) ≡ false }
-{
-    let mut digits = B::zero();
-    for j in 0..count {
-        let q = first + j;
-        let used = may_have_ones::<B, O>(block_at(summary, q), block_at(other_summary, q));
-        digits = with_one_if(digits, j, is_nonzero(used));
-    }
-    digits
-}
-
-// The ones of the merge of the `count` chunks from `first` on. Looks at those at which `used` has a 1.
-#[inline]
-fn ones_of_used_chunks<B: BitBlock, O: Operation>(
+pub(crate) fn ones_of_part<B: BitBlock, O: Operation>(
     blocks: &[B],
-    summary: &[B],
     others: &[B],
-    other_summary: &[B],
-    first: usize,
-    count: usize,
-    used: B,
+    part: Part<B>,
 ) -> usize
     requires each { All B.is_block blocks.now }
     requires others { All B.is_block others.now }
-    requires summary { IsStoredSummary B.width B.number B.is_block blocks.now summary.now }
-    requires other_summary { IsStoredSummary B.width B.number B.is_block others.now other_summary.now }
-    requires of_block { B.is_block used }
-    requires within { count ≤ B.width }
     requires lengths { max (length blocks.now) (length others.now) < 2 ^ 64 }
-    requires ends { first + count < 2 ^ 64 }
-    requires in_blocks { first + count ≤ blocks_for B.width (max (length blocks.now) (length others.now)) }
-    requires covers { CoversChunks O.merge B.width (map B.number blocks.now) (map B.number others.now) first count
-        (B.number used) }
-    requires fits { (n : ℕ)
-        → merged_ones O.merge B.width (map B.number blocks.now) (map B.number others.now) 0 n < 2 ^ 64 }
+    requires begins { part.first * B.width < 2 ^ 64 }
+    requires in_both { IfNone part.used (part.end * B.width ≤ min (length blocks.now) (length others.now)) }
+    requires part { IsPart B.width B.number B.is_block
+        (λ k. may_merge O.merge (is_used (map B.number blocks.now) k) (is_used (map B.number others.now) k))
+        part.first part.end part.used }
+    requires fits { merged_ones O.merge B.width (map B.number blocks.now) (map B.number others.now)
+        (part.first * B.width) (part.end * B.width) < 2 ^ 64 }
     ensures { result ≡ merged_ones O.merge B.width (map B.number blocks.now) (map B.number others.now)
-        (first * B.width) ((first + count) * B.width) }
+        (part.first * B.width) (part.end * B.width) }
 {
-    let mut ones = 0;
-    let mut rest = used;
-    while rest != B::zero() {
-        let index = take_lowest_one(&mut rest);
-        let q = first + index;
-        ones += ones_at_chunk::<B, O>(blocks, summary, others, other_summary, q);
+    let width = B::bits();
+    let start = part.first * width;
+    match part.used {
+        Some(used) => ones_of_used::<B, O>(blocks, others, start, used),
+        None => ones_of_both::<B, O>(blocks, others, start, part.end * width - start),
     }
-    ones
 }
 
-// The ones of the merge of the `count` chunks from `first` on, about which there is a block in both summaries.
-#[inline]
-fn ones_of_group<B: BitBlock, O: Operation>(
-    blocks: &[B],
-    summary: &[B],
-    others: &[B],
-    other_summary: &[B],
-    first: usize,
-    count: usize,
-) -> usize
-    requires each { All B.is_block blocks.now }
-    requires others { All B.is_block others.now }
-    requires summary { IsStoredSummary B.width B.number B.is_block blocks.now summary.now }
-    requires other_summary { IsStoredSummary B.width B.number B.is_block others.now other_summary.now }
-    requires in_summary { first + count ≤ length summary.now }
-    requires in_other { first + count ≤ length other_summary.now }
-    requires lengths { max (length blocks.now) (length others.now) < 2 ^ 64 }
-    requires ends { first + count < 2 ^ 64 }
-    requires within { count ≤ B.width }
-    requires some { 0 < count }
-    requires fits { (n : ℕ)
-        → merged_ones O.merge B.width (map B.number blocks.now) (map B.number others.now) 0 n < 2 ^ 64 }
-    ensures { result ≡ merged_ones O.merge B.width (map B.number blocks.now) (map B.number others.now)
-        (first * B.width) ((first + count) * B.width) }
+// Whether a value stays where it is merged with false: or else it becomes false.
+#[inline(always)]
+pub(crate) fn keeps_own<B: BitBlock, O: Operation>() -> bool
+    ensures { (x : Bool) → merge_of_values O.merge x false ≡ (x && result) }
 {
-    let used = used_chunks::<B, O>(summary, other_summary, first, count);
-    if used.count_ones() >= count / MANY {
-        ones_of_chunks::<B, O>(blocks, summary, others, other_summary, first, first + count)
-    } else {
-        ones_of_used_chunks::<B, O>(blocks, summary, others, other_summary, first, count, used)
+    is_nonzero(O::of_blocks(B::one(), B::zero()))
+}
+
+// Whether false becomes the value that it is merged with: or else it stays.
+#[inline(always)]
+fn keeps_other<B: BitBlock, O: Operation>() -> bool
+    ensures { (x : Bool) → merge_of_values O.merge false x ≡ (x && result) }
+{
+    is_nonzero(O::of_blocks(B::zero(), B::one()))
+}
+
+// The ones of a list from chunk `first` on, if they are kept.
+#[inline]
+fn ones_past<B: BitBlock>(list: Listed<B>, first: usize, kept: bool) -> usize
+    requires list { IsListed B.width B.number B.is_block list.blocks.now list.summary.now }
+    requires short { length list.blocks.now ≤ short_count B.width → length list.blocks.now ≤ first * B.width }
+    requires fits { kept ≡ true → ones_in B.number (drop (first * B.width) list.blocks.now) < 2 ^ 64 }
+    ensures { result ≡ (if kept then ones_in B.number (drop (first * B.width) list.entry.blocks.now) else 0) }
+{
+    if !kept || list.summary.len() <= first {
+        return 0;
     }
+    let blocks = first_chunks(list.blocks, first).1;
+    ones_of_runs(blocks, list.summary.split_at(first).1)
 }
 
 // The ones of the merge of lists of which one stores a summary at least.
 #[inline(never)]
-pub(crate) fn ones_of_long<B: BitBlock, O: Operation>(
-    blocks: &[B],
-    summary: &[B],
-    others: &[B],
-    other_summary: &[B],
-) -> usize
-    requires each { All B.is_block blocks.now }
-    requires others { All B.is_block others.now }
-    requires summary { IsStoredSummary B.width B.number B.is_block blocks.now summary.now }
-    requires other_summary { IsStoredSummary B.width B.number B.is_block others.now other_summary.now }
+fn ones_of_long<B: BitBlock, O: Operation>(own: Listed<B>, others: Listed<B>) -> usize
+    requires long { short_count B.width < max (length own.blocks.now) (length others.blocks.now) }
+    requires own { IsListed B.width B.number B.is_block own.blocks.now own.summary.now }
+    requires others { IsListed B.width B.number B.is_block others.blocks.now others.summary.now }
     requires fits { (n : ℕ)
-        → merged_ones O.merge B.width (map B.number blocks.now) (map B.number others.now) 0 n < 2 ^ 64 }
-    ensures { (n : ℕ) → length blocks.now ≤ n → length others.now ≤ n
-        → result ≡ merged_ones O.merge B.width (map B.number blocks.now) (map B.number others.now) 0 n }
+        → merged_ones O.merge B.width (map B.number own.blocks.now) (map B.number others.blocks.now) 0 n < 2 ^ 64 }
+    ensures { (n : ℕ) → length own.entry.blocks.now ≤ n → length others.entry.blocks.now ≤ n → result
+        ≡ merged_ones O.merge B.width (map B.number own.entry.blocks.now) (map B.number others.entry.blocks.now) 0 n }
 {
-    let most = blocks.len().max(others.len());
-    let both = summary.len().min(other_summary.len());
-    let count = B::bits().min(LONG_GROUP);
+    let both = own.blocks.len().min(others.blocks.len());
+    let last = block_count::<B>(both);
+    let marks = Merging {
+        first: own,
+        second: others,
+        operation: PhantomData::<O>,
+    };
     let mut ones = 0;
-    let mut first = 0;
-    while both - first >= count {
-        ones += ones_of_group::<B, O>(blocks, summary, others, other_summary, first, count);
-        first += count;
+    let mut place = 0;
+    while let Some(part) = next_part(marks, place, block_index::<B>(both), last) {
+        ones += ones_of_part::<B, O>(own.blocks, others.blocks, part);
+        place = part.end;
     }
-    let end = block_count::<B>(most);
-    ones + ones_of_chunks::<B, O>(blocks, summary, others, other_summary, first, end)
+    let own_kept = keeps_own::<B, O>();
+    let other_kept = keeps_other::<B, O>();
+    let own_rest = ones_past(own, last, own_kept);
+    ones + own_rest + ones_past(others, last, other_kept)
 }
 
 // The ones of the merge of lists of any length.
 #[inline(always)]
-fn ones_by<B: BitBlock, O: Operation>(
-    blocks: &[B],
-    summary: &[B],
-    others: &[B],
-    other_summary: &[B],
-) -> usize
-    requires each { All B.is_block blocks.now }
-    requires others { All B.is_block others.now }
-    requires summary { IsStoredSummary B.width B.number B.is_block blocks.now summary.now }
-    requires other_summary { IsStoredSummary B.width B.number B.is_block others.now other_summary.now }
+fn ones_by<B: BitBlock, O: Operation>(own: Listed<B>, others: Listed<B>) -> usize
+    requires own { IsListed B.width B.number B.is_block own.blocks.now own.summary.now }
+    requires others { IsListed B.width B.number B.is_block others.blocks.now others.summary.now }
     requires fits { (n : ℕ)
-        → merged_ones O.merge B.width (map B.number blocks.now) (map B.number others.now) 0 n < 2 ^ 64 }
-    ensures { (n : ℕ) → length blocks.now ≤ n → length others.now ≤ n
-        → result ≡ merged_ones O.merge B.width (map B.number blocks.now) (map B.number others.now) 0 n }
+        → merged_ones O.merge B.width (map B.number own.blocks.now) (map B.number others.blocks.now) 0 n < 2 ^ 64 }
+    ensures { (n : ℕ) → length own.entry.blocks.now ≤ n → length others.entry.blocks.now ≤ n → result
+        ≡ merged_ones O.merge B.width (map B.number own.entry.blocks.now) (map B.number others.entry.blocks.now) 0 n }
 {
-    if is_short::<B>(blocks.len().max(others.len())) {
-        count_merged_blocks::<B, O>(blocks, others)
+    if is_short::<B>(own.blocks.len().max(others.blocks.len())) {
+        count_merged_blocks::<B, O>(own.blocks, others.blocks)
     } else {
-        ones_of_long::<B, O>(blocks, summary, others, other_summary)
+        ones_of_long::<B, O>(own, others)
     }
 }
 
@@ -186,10 +139,15 @@ pub(crate) fn ones_of_merge<B: BitBlock>(
     ensures { (n : ℕ) → length blocks.now ≤ n → length others.now ≤ n
         → result ≡ merged_ones merge B.width (map B.number blocks.now) (map B.number others.now) 0 n }
 {
+    let own = Listed { blocks, summary };
+    let others = Listed {
+        blocks: others,
+        summary: other_summary,
+    };
     match merge {
-        Merge::Union => ones_by::<B, Union>(blocks, summary, others, other_summary),
-        Merge::Intersection => ones_by::<B, Intersection>(blocks, summary, others, other_summary),
-        Merge::Difference => ones_by::<B, Difference>(blocks, summary, others, other_summary),
-        Merge::Symmetric => ones_by::<B, Symmetric>(blocks, summary, others, other_summary),
+        Merge::Union => ones_by::<B, Union>(own, others),
+        Merge::Intersection => ones_by::<B, Intersection>(own, others),
+        Merge::Difference => ones_by::<B, Difference>(own, others),
+        Merge::Symmetric => ones_by::<B, Symmetric>(own, others),
     }
 }

@@ -11,13 +11,13 @@ falses g c =
     (summary_enough _ _ _ _ _ g.met.B.BitBlock.width_law.positive c.requires.summary)
     c.clear_chunks.ensures.cleared
 
-pub returns-then-not-is_full-clause-filled : goal.returns-then-not-is_full-clause-filled
-returns-then-not-is_full-clause-filled g c = λ i _. falses g (goal.at.returns-then-not-is_full-clause-filled g c).After-clear_chunks i ∙ sym c.if-not-bit.true
+pub returns-else-bit-clause-filled : goal.returns-else-bit-clause-filled
+returns-else-bit-clause-filled g c = λ i _. falses g (goal.at.returns-else-bit-clause-filled g c).After-clear_chunks i ∙ sym c.if-bit.false
 
-pub returns-then-not-is_full-clause-packed : goal.returns-then-not-is_full-clause-packed
-returns-then-not-is_full-clause-packed g c = record {
+pub returns-else-bit-clause-packed : goal.returns-else-bit-clause-packed
+returns-else-bit-clause-packed g c = record {
   each = c.clear_chunks.ensures.in_place.each;
   count = omega (arith, c.requires.packed.count, c.clear_chunks.ensures.cleared.len);
-  tail = record { zero_tail = λ i _. falses g (goal.at.returns-then-not-is_full-clause-packed g c).After-clear_chunks i };
+  tail = record { zero_tail = λ i _. falses g (goal.at.returns-else-bit-clause-packed g c).After-clear_chunks i };
   fits = c.requires.packed.fits;
 }

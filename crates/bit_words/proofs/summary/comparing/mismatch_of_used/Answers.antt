@@ -5,10 +5,10 @@ use Rattle.bit_words.proofs.summary.comparing.mismatch_of_used.Goals as goal
 pub returns-then-not-same : goal.returns-then-not-same
 returns-then-not-same g c =
     let taken = c.take_lowest_one-p.ensures in
-    let differ : g.B.BitBlock.number c.block_at.result ≢ g.B.BitBlock.number c.block_at-in-loop-left.result = grind (arith, c.if-not-same.true, c.same.ensures) in
+    let differ : g.B.BitBlock.number c.block_or_zero.result ≢ g.B.BitBlock.number c.block_or_zero-in-loop-left.result = grind (arith, c.if-not-same.true, c.same.ensures) in
     rw c.bits.ensures
     (first_of_used g.B.BitBlock.width c.args.q _ _ c.requires.before _ _ taken.within taken.lowest c.loop-left.invariant.same
-    (λ e. differ (c.block_at.ensures.of_number ∙ rw c.bits.ensures e ∙ sym c.block_at-in-loop-left.ensures.of_number)))
+    (λ e. differ (c.block_or_zero.ensures.of_number ∙ rw c.bits.ensures e ∙ sym c.block_or_zero-in-loop-left.ensures.of_number)))
 
 pub loop-left-smaller : goal.loop-left-smaller
 loop-left-smaller g c =
@@ -18,12 +18,12 @@ loop-left-smaller g c =
 pub loop-left-preserved : goal.loop-left-preserved
 loop-left-preserved g c =
     let taken = c.take_lowest_one-p.ensures in
-    let alike : g.B.BitBlock.number c.block_at.result ≡ g.B.BitBlock.number c.block_at-in-loop-left.result = grind (arith, c.if-not-same.false, c.same.ensures) in
+    let alike : g.B.BitBlock.number c.block_or_zero.result ≡ g.B.BitBlock.number c.block_or_zero-in-loop-left.result = grind (arith, c.if-not-same.false, c.same.ensures) in
     record {
       of_left = taken.of_block;
-      in_both = λ p within one. c.loop-left.invariant.in_both p within (ones_but_lowest _ _ _ _ p taken.cleared within one);
+      fits = λ p within one. c.loop-left.invariant.fits p within (ones_but_lowest _ _ _ _ p taken.cleared within one);
       same = same_but_lowest _ _ _ _ _ taken.cleared c.loop-left.invariant.same
-          (rw c.bits.ensures at (sym c.block_at.ensures.of_number ∙ alike ∙ c.block_at-in-loop-left.ensures.of_number));
+          (rw c.bits.ensures at (sym c.block_or_zero.ensures.of_number ∙ alike ∙ c.block_or_zero-in-loop-left.ensures.of_number));
     }
 
 pub returns : goal.returns

@@ -1,4 +1,4 @@
-use Rattle.std.proofs.Common.{◌≡◌, ℕ, ◌+◌, ◌*◌, ◌<◌, false, true, get_or, map, length}
+use Rattle.std.proofs.Common.{◌≡◌, ℕ, ◌+◌, ◌*◌, ◌^◌, ◌<◌, false, true, get_or, map}
 use Rattle.bit_blocks.specs.Digits.{is_one}
 use Rattle.bit_words.proofs.TouchedLemmas.{ones_of_first}
 use Rattle.bit_words.proofs.summary.comparing.mismatch_of_used.Given as goal
@@ -10,7 +10,7 @@ invariant-loop-left g l =
     let number = g.B.BitBlock.number in
     record {
       of_left : g.B.BitBlock.is_block l.left;
-      in_both : (p : ℕ) → p < w → is_one (number l.left) p ≡ true → (l.q * w + p < length l.blocks) × (l.q * w + p < length l.others);
+      fits : (p : ℕ) → p < w → is_one (number l.left) p ≡ true → l.q * w + p < 2 ^ 64;
       same : (p : ℕ) → p < w → is_one (number l.left) p ≡ false → get_or (map number l.blocks) (l.q * w + p) 0 ≡ get_or (map number l.others) (l.q * w + p) 0;
     }
 

@@ -1,40 +1,61 @@
-use Rattle.std.proofs.{Common.{◌+◌, ◌*◌, ◌≤◌, ap, length, map, max, refl, arith, mul-le-mul_right}, lemmas.{Bool.false≢true, List.length-map}}
-use Rattle.bit_blocks.{specs.Bits.blocks_for, proofs.BitsLemmas.blocks_for-enough}
-use Rattle.bit_words.proofs.MergedOnesLemmas.{false_where_none, merged_parts, merged_zero, none_where_false}
+use Rattle.std.proofs.Common.{◌≡◌, ◌+◌, ◌*◌, ◌≤◌, ◌∙◌, ap, map, refl, sym, arith, mul-le-mul_right}
+use Rattle.std.proofs.lemmas.Bool.{false≢true}
+use Rattle.bit_blocks.specs.{Bits.blocks_for}
+use Rattle.bit_words.{specs.MergedOnes.merged_ones, proofs.MergedOnesLemmas.{merged_le, merged_parts, merged_passed}}
 use Rattle.bit_words.proofs.summary.inclusion.merge_is_zero.Goals as goal
 
-pub ones_at_chunk-requires-clause-in_blocks : goal.ones_at_chunk-requires-clause-in_blocks
-ones_at_chunk-requires-clause-in_blocks g c =
-    let most = ap (blocks_for g.B.BitBlock.width) c.max-most.ensures in
-    omega (arith, most, c.block_count-q-end.ensures)
-
-pub returns-then-ones_at_chunk-ne0 : goal.returns-then-ones_at_chunk-ne0
-returns-then-ones_at_chunk-ne0 g c = (
-  λ yes. absurd (false≢true yes),
-  λ falses.
-      let w = g.B.BitBlock.width in
-      let q = c.loop-q.q in
-      let none = none_where_false _ _ _ _ (q * w) ((q + 1) * w) falses in
-      absurd (omega (arith, none, c.ones_at_chunk.ensures, c.if-ones_at_chunk-ne0.true)),
-)
-
-pub loop-q-preserved : goal.loop-q-preserved
-loop-q-preserved g c =
+pub loop-part-preserved : goal.loop-part-preserved
+loop-part-preserved g c =
+    let m = g.O.Operation.merge in
     let w = g.B.BitBlock.width in
-    let q = c.loop-q.q in
-    let parts = merged_parts g.O.Operation.merge w (map g.B.BitBlock.number c.args.blocks.now) (map g.B.BitBlock.number c.args.others.now) 0 (q * w) ((q + 1) * w) (omega arith) (omega arith) in
-    omega (arith, parts, c.ones_at_chunk.ensures, c.loop-q.invariant, c.if-ones_at_chunk-ne0.false)
+    let ms = map g.B.BitBlock.number c.args.own.blocks.now in
+    let ns = map g.B.BitBlock.number c.args.others.blocks.now in
+    let found = c.in-Some.ensures in
+    let place = c.loop-part.place * w in
+    let first = c.in-Some.part.first * w in
+    let end = c.in-Some.part.end * w in
+    record {
+      within = found.within;
+      none = omega (
+        arith,
+        merged_passed m w ms ns place first g.met.B.BitBlock.width_law.positive found.passed,
+        merged_parts m w ms ns 0 place first (omega arith) (mul-le-mul_right w found.reached),
+        merged_parts m w ms ns 0 first end (omega arith) (mul-le-mul_right w (omega (arith, found.part.some))),
+        c.loop-part.invariant.none,
+        c.part_is_zero.ensures.0 c.if-not-part_is_zero.false,
+      );
+    }
 
 pub returns : goal.returns
 returns g c =
+    let m = g.O.Operation.merge in
     let w = g.B.BitBlock.width in
-    let pos = g.met.B.BitBlock.width_law.positive in
-    let xs = c.args.blocks.now in
-    let os = c.args.others.now in
-    let all : blocks_for w c.max-most.result ≤ c.loop-q.q = omega (arith, c.block_count-q-end.ensures) in
-    let end : max (length xs) (length os) ≤ c.loop-q.q * w = omega (arith, blocks_for-enough w c.max-most.result pos, mul-le-mul_right w all, c.max-most.ensures) in (
-      λ _. false_where_none _ _ _ _ pos (λ n.
-          merged_zero g.O.Operation.merge w (map g.B.BitBlock.number xs) (map g.B.BitBlock.number os) (c.loop-q.q * w) n pos (rw length-map (omega (arith, end)))
-          (rw length-map (omega (arith, end))) c.loop-q.invariant),
-      λ _. refl,
-    )
+    let ms = map g.B.BitBlock.number c.args.own.blocks.now in
+    let ns = map g.B.BitBlock.number c.args.others.blocks.now in
+    let place = c.loop-part.place * w in
+    let end = c.block_count-last.result * w in
+    let none : merged_ones m w ms ns 0 end ≡ 0 =
+    omega (
+      arith,
+      merged_passed m w ms ns place end g.met.B.BitBlock.width_law.positive c.in_default.ensures,
+      merged_parts m w ms ns 0 place end (omega arith) (mul-le-mul_right w c.loop-part.invariant.within),
+      c.loop-part.invariant.none,
+    ) in
+    let last = c.block_count-last.ensures ∙ ap (blocks_for w) c.min-both.ensures in
+    (λ _. rw last at none, λ _. refl)
+
+pub returns-then-not-part_is_zero : goal.returns-then-not-part_is_zero
+returns-then-not-part_is_zero g c =
+    let m = g.O.Operation.merge in
+    let w = g.B.BitBlock.width in
+    let ms = map g.B.BitBlock.number c.args.own.blocks.now in
+    let ns = map g.B.BitBlock.number c.args.others.blocks.now in
+    let found = c.in-Some.ensures in
+    let first = c.in-Some.part.first * w in
+    let end = c.in-Some.part.end * w in
+    let last = c.block_count-last.ensures ∙ ap (blocks_for w) c.min-both.ensures in
+    (λ yes. absurd (false≢true yes),
+    λ none.
+    let all : merged_ones m w ms ns 0 (c.block_count-last.result * w) ≡ 0 = rw (← last) at none in
+    let some = merged_le m w ms ns 0 first end (c.block_count-last.result * w) (omega arith) (mul-le-mul_right w (omega (arith, found.part.some))) (mul-le-mul_right w found.within) in
+    absurd (false≢true (sym c.if-not-part_is_zero.true ∙ c.part_is_zero.ensures.1 (omega (arith, all, some)))))

@@ -1,97 +1,116 @@
-use Rattle.std.proofs.Common.{◌≡◌, ◌+◌, ◌*◌, ◌<◌, ◌≤◌, ◌∙◌, ap, length, map, max, sym, arith, mul-le-mul_right}
+use Rattle.std.proofs.Common.{◌≡◌, ℕ, ◌+◌, ◌*◌, ◌≤◌, ◌∙◌, if◌then◌else◌, ap, drop, get_or, length, map, min, sym, arith, mul-le-mul_right}
 use Rattle.std.proofs.lemmas.List.{length-map}
-use Rattle.bit_blocks.{specs.Bits.blocks_for, proofs.BitsLemmas.blocks_for-enough}
-use Rattle.bit_words.{specs.MergedOnes.merged_ones, proofs.{MergedOnesLemmas.{merged_all, merged_empty, merged_more}, SummaryLemmas.stored_few}}
-use Rattle.bit_words.proofs.summary.counts.by_summaries.ones_of_long.Goals.{After-block_count-end, After-min-count, After-ones_of_chunks, After-ones_of_group-ones}
+use Rattle.bit_blocks.specs.{Bits.blocks_for, Storage.ones_in}
+use Rattle.bit_blocks.proofs.{BitsLemmas.blocks_for-enough, VectorLemmas.numbers_below}
+use Rattle.bit_words.{specs.MergedOnes.merged_ones, proofs.MergedOnesLemmas.{merged_all, merged_le, merged_parts, merged_passed, ones_past_end}}
+use Rattle.bit_words.proofs.summary.counts.by_summaries.ones_of_long.{Given.Over, Goals.{After-keeps_other-other_kept, After-ones_of_part-ones}}
 use Rattle.bit_words.proofs.summary.counts.by_summaries.ones_of_long.Goals as goal
 
--- a group has some chunks
-some : (g : _) (c : After-min-count g) → 0 < c.min-count.result
-some g c = omega (arith, c.min-count.ensures, c.bits.ensures, g.met.B.BitBlock.width_law.positive)
-
--- with those of a group more
-counted : (g : _) (c : After-ones_of_group-ones g)
-    → c.loop-first.ones + c.ones_of_group-ones.result ≡ merged_ones g.O.Operation.merge g.B.BitBlock.width
-    (map g.B.BitBlock.number c.args.blocks.now) (map g.B.BitBlock.number c.args.others.now) 0
-    ((c.loop-first.first + c.min-count.result) * g.B.BitBlock.width)
-counted g c =
+pub ones_of_part-ones-requires-clause-fits : goal.ones_of_part-ones-requires-clause-fits
+ones_of_part-ones-requires-clause-fits g c =
     let w = g.B.BitBlock.width in
-    let first = c.loop-first.first in
-    let more : first ≤ first + c.min-count.result = omega arith in
-    merged_more g.O.Operation.merge w _ _ 0 (first * w) ((first + c.min-count.result) * w) _ _ (omega arith) (mul-le-mul_right w more) c.loop-first.invariant.counted
-    c.ones_of_group-ones.ensures
+    let first = c.in-Some.part.first * w in
+    let end = c.in-Some.part.end * w in
+    let most = merged_le g.O.Operation.merge w (map g.B.BitBlock.number c.args.own.blocks.now) (map g.B.BitBlock.number c.args.others.blocks.now) 0 first end end (omega arith)
+    (mul-le-mul_right w (omega (arith, c.in-Some.ensures.part.some))) (omega arith) in
+    omega (arith, most, c.requires.fits end)
+
+-- with those of a part
+counted : (g : Over) (c : After-ones_of_part-ones g)
+    → c.loop-part.ones + c.ones_of_part-ones.result ≡ merged_ones g.O.Operation.merge g.B.BitBlock.width
+    (map g.B.BitBlock.number c.args.own.blocks.now) (map g.B.BitBlock.number c.args.others.blocks.now) 0
+    (c.in-Some.part.end * g.B.BitBlock.width)
+counted g c =
+    let m = g.O.Operation.merge in
+    let w = g.B.BitBlock.width in
+    let ms = map g.B.BitBlock.number c.args.own.blocks.now in
+    let ns = map g.B.BitBlock.number c.args.others.blocks.now in
+    let found = c.in-Some.ensures in
+    let place = c.loop-part.place * w in
+    let first = c.in-Some.part.first * w in
+    let end = c.in-Some.part.end * w in
+    omega (
+      arith,
+      merged_passed m w ms ns place first g.met.B.BitBlock.width_law.positive found.passed,
+      merged_parts m w ms ns 0 place first (omega arith) (mul-le-mul_right w found.reached),
+      merged_parts m w ms ns 0 first end (omega arith) (mul-le-mul_right w (omega (arith, found.part.some))),
+      c.loop-part.invariant.counted,
+      c.ones_of_part-ones.ensures,
+    )
 
 pub overflow_add-ones : goal.overflow_add-ones
 overflow_add-ones g c =
-    let more = counted g (goal.at.overflow_add-ones g c).After-ones_of_group-ones in
-    omega (arith, more, c.requires.fits ((c.loop-first.first + c.min-count.result) * g.B.BitBlock.width))
+    let more = counted g (goal.at.overflow_add-ones g c).After-ones_of_part-ones in
+    omega (arith, more, c.requires.fits (c.in-Some.part.end * g.B.BitBlock.width))
 
-pub loop-first-init : goal.loop-first-init
-loop-first-init g c =
-    let ones = merged_ones g.O.Operation.merge g.B.BitBlock.width (map g.B.BitBlock.number c.args.blocks.now) (map g.B.BitBlock.number c.args.others.now) in
-    record {
-      within = omega arith;
-      counted = sym (merged_empty g.O.Operation.merge g.B.BitBlock.width _ _ 0) ∙ ap (ones 0) (let e : 0 ≡ 0 * g.B.BitBlock.width = omega arith in e);
-    }
-
-pub loop-first-preserved : goal.loop-first-preserved
-loop-first-preserved g c = record {
-  within = omega (arith, c.loop-first-test.true, c.loop-first.invariant.within);
-  counted = counted g (goal.at.loop-first-preserved g c).After-ones_of_group-ones;
+pub loop-part-preserved : goal.loop-part-preserved
+loop-part-preserved g c = record {
+  within = c.in-Some.ensures.within;
+  counted = counted g (goal.at.loop-part-preserved g c).After-ones_of_part-ones;
 }
 
-pub loop-first-smaller : goal.loop-first-smaller
-loop-first-smaller g c =
-    let positive = some g (goal.at.loop-first-smaller g c).After-min-count in
-    omega (arith, positive, c.loop-first-test.true, c.loop-first.invariant.within)
+-- a block past both lists
+abbrev past : (g : Over) (c : After-keeps_other-other_kept g) → ℕ
+past g c = length c.args.own.blocks.now + length c.args.others.blocks.now + c.block_count-last.result * g.B.BitBlock.width
 
-pub ones_of_group-ones-requires-clause-ends : goal.ones_of_group-ones-requires-clause-ends
-ones_of_group-ones-requires-clause-ends g c = omega (arith, c.loop-first-test.true, c.loop-first.invariant.within, c.min-both.type_inv)
-
-pub ones_of_group-ones-requires-clause-in_summary : goal.ones_of_group-ones-requires-clause-in_summary
-ones_of_group-ones-requires-clause-in_summary g c = omega (arith, c.loop-first-test.true, c.loop-first.invariant.within, c.min-both.ensures)
-
-pub ones_of_group-ones-requires-clause-in_other : goal.ones_of_group-ones-requires-clause-in_other
-ones_of_group-ones-requires-clause-in_other g c = omega (arith, c.loop-first-test.true, c.loop-first.invariant.within, c.min-both.ensures)
-
--- the summaries are about no more blocks than there are
-forward : (g : _) (c : After-block_count-end g) → c.loop-first.first ≤ c.block_count-end.result
-forward g c =
-    let few = stored_few g.B.BitBlock.width c.max-most.result g.B.BitBlock.number _ _ _ g.met.B.BitBlock.width_law.positive c.requires.summary (omega (arith, c.max-most.ensures)) in
-    omega (arith, few, c.loop-first.invariant.within, c.min-both.ensures, c.block_count-end.ensures)
-
-pub ones_of_chunks-requires-clause-forward : goal.ones_of_chunks-requires-clause-forward
-ones_of_chunks-requires-clause-forward g c = forward g (goal.at.ones_of_chunks-requires-clause-forward g c).After-block_count-end
-
-pub ones_of_chunks-requires-clause-in_blocks : goal.ones_of_chunks-requires-clause-in_blocks
-ones_of_chunks-requires-clause-in_blocks g c =
-    let most = ap (blocks_for g.B.BitBlock.width) c.max-most.ensures in
-    omega (arith, most, c.block_count-end.ensures)
-
--- with those of the chunks that are left
-all : (g : _) (c : After-ones_of_chunks g) → c.loop-first.first ≤ c.block_count-end.result
-    → c.loop-first.ones + c.ones_of_chunks.result ≡ merged_ones g.O.Operation.merge g.B.BitBlock.width
-    (map g.B.BitBlock.number c.args.blocks.now) (map g.B.BitBlock.number c.args.others.now) 0
-    (c.block_count-end.result * g.B.BitBlock.width)
-all g c le =
+-- those up to there
+all : (g : Over) (c : After-keeps_other-other_kept g)
+    → merged_ones g.O.Operation.merge g.B.BitBlock.width (map g.B.BitBlock.number c.args.own.blocks.now) (map g.B.BitBlock.number c.args.others.blocks.now) 0 (past g c)
+    ≡ c.loop-part.ones
+    + ((if c.keeps_own-own_kept.result then ones_in g.B.BitBlock.number (drop (c.block_count-last.result * g.B.BitBlock.width) c.args.own.blocks.now) else 0)
+    + (if c.keeps_other-other_kept.result then ones_in g.B.BitBlock.number (drop (c.block_count-last.result * g.B.BitBlock.width) c.args.others.blocks.now) else 0))
+all g c =
+    let m = g.O.Operation.merge in
     let w = g.B.BitBlock.width in
-    merged_more g.O.Operation.merge w _ _ 0 (c.loop-first.first * w) (c.block_count-end.result * w) _ _ (omega arith) (mul-le-mul_right w le) c.loop-first.invariant.counted
-    c.ones_of_chunks.ensures
+    let pos = g.met.B.BitBlock.width_law.positive in
+    let number = g.B.BitBlock.number in
+    let xs = c.args.own.blocks.now in
+    let ys = c.args.others.blocks.now in
+    let place = c.loop-part.place * w in
+    let end = c.block_count-last.result * w in
+    let n = length xs + length ys + end in
+    let whole : blocks_for w c.min-both.result * w ≡ end = ap (λ q. q * w) (sym c.block_count-last.ensures) in
+    let ends : min (length xs) (length ys) ≤ end = omega (arith, whole, blocks_for-enough w c.min-both.result pos, c.min-both.ensures) in
+    omega (
+      arith,
+      merged_passed m w (map number xs) (map number ys) place end pos c.in_default.ensures,
+      merged_parts m w (map number xs) (map number ys) 0 place end (omega arith) (mul-le-mul_right w c.loop-part.invariant.within),
+      merged_parts m w (map number xs) (map number ys) 0 end n (omega arith) (omega arith),
+      ones_past_end w number pos m end n c.keeps_own-own_kept.result c.keeps_other-other_kept.result xs ys
+      (numbers_below w number g.B.BitBlock.is_block xs (λ x is. (g.met.B.BitBlock.number_law x is).0) c.requires.own.each)
+      (numbers_below w number g.B.BitBlock.is_block ys (λ x is. (g.met.B.BitBlock.number_law x is).0) c.requires.others.each)
+      c.keeps_own-own_kept.ensures c.keeps_other-other_kept.ensures ends (omega arith) (omega arith) (omega arith),
+      c.loop-part.invariant.counted,
+    )
+
+pub ones_past-own_rest-requires-clause-fits : goal.ones_past-own_rest-requires-clause-fits
+ones_past-own_rest-requires-clause-fits g c = λ kept.
+    let at = (goal.at.ones_past-own_rest-requires-clause-fits g c).After-keeps_other-other_kept in
+    let own = ap (λ b. if b then ones_in g.B.BitBlock.number (drop (c.block_count-last.result * g.B.BitBlock.width) c.args.own.blocks.now) else 0) kept in
+    omega (arith, all g at, own, c.requires.fits (past g at))
+
+pub ones_past-requires-clause-fits : goal.ones_past-requires-clause-fits
+ones_past-requires-clause-fits g c = λ kept.
+    let at = (goal.at.ones_past-requires-clause-fits g c).After-keeps_other-other_kept in
+    let other = ap (λ b. if b then ones_in g.B.BitBlock.number (drop (c.block_count-last.result * g.B.BitBlock.width) c.args.others.blocks.now) else 0) kept in
+    omega (arith, all g at, other, c.requires.fits (past g at))
 
 pub overflow_add-result : goal.overflow_add-result
 overflow_add-result g c =
-    let at = goal.at.overflow_add-result g c in
-    let sum = all g at.After-ones_of_chunks (forward g at.After-block_count-end) in
-    omega (arith, sum, c.requires.fits (c.block_count-end.result * g.B.BitBlock.width))
+    let at = (goal.at.overflow_add-result g c).After-keeps_other-other_kept in
+    omega (arith, all g at, c.ones_past-own_rest.ensures, c.requires.fits (past g at))
+
+pub overflow_add-result-2 : goal.overflow_add-result-2
+overflow_add-result-2 g c =
+    let at = (goal.at.overflow_add-result-2 g c).After-keeps_other-other_kept in
+    omega (arith, all g at, c.ones_past-own_rest.ensures, c.ones_past.ensures, c.requires.fits (past g at))
 
 pub returns : goal.returns
 returns g c = λ n long also.
-    let at = goal.at.returns g c in
-    let w = g.B.BitBlock.width in
-    let pos = g.met.B.BitBlock.width_law.positive in
-    let last = c.block_count-end.result in
-    let whole : blocks_for w c.max-most.result ≤ last = omega (arith, c.block_count-end.ensures) in
-    let end : max (length c.args.blocks.now) (length c.args.others.now) ≤ last * w = omega (arith, blocks_for-enough w c.max-most.result pos, mul-le-mul_right w whole, c.max-most.ensures) in
-    all g at.After-ones_of_chunks (forward g at.After-block_count-end)
-    ∙ merged_all g.O.Operation.merge w (map g.B.BitBlock.number c.args.blocks.now) (map g.B.BitBlock.number c.args.others.now) (last * w) n pos (rw length-map (omega (arith, end)))
-    (rw length-map (omega (arith, end))) (rw length-map long) (rw length-map also)
+    let at = (goal.at.returns g c).After-keeps_other-other_kept in
+    let ms = map g.B.BitBlock.number c.args.own.blocks.now in
+    let ns = map g.B.BitBlock.number c.args.others.blocks.now in
+    let far : length c.args.own.blocks.now + length c.args.others.blocks.now ≤ length c.args.own.blocks.now + length c.args.others.blocks.now + c.block_count-last.result * g.B.BitBlock.width = omega arith in
+    let same = merged_all g.O.Operation.merge g.B.BitBlock.width ms ns n (length c.args.own.blocks.now + length c.args.others.blocks.now + c.block_count-last.result * g.B.BitBlock.width)
+    g.met.B.BitBlock.width_law.positive (rw length-map long) (rw length-map also) (rw length-map (omega (arith, far))) (rw length-map (omega (arith, far))) in
+    omega (arith, all g at, c.ones_past-own_rest.ensures, c.ones_past.ensures, same)

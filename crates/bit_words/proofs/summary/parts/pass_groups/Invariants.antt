@@ -1,0 +1,16 @@
+use Rattle.std.proofs.Common.{◌*◌, ◌-◌, ◌≤◌}
+use Rattle.bit_words.specs.Parts.{Passed}
+use Rattle.bit_words.proofs.summary.parts.pass_groups.Given as goal
+
+-- no block of the groups that were passed may matter
+abbrev pub invariant-loop-q : goal.invariant-loop-q
+invariant-loop-q g l =
+    let w = g.B.BitBlock.width in
+    record {
+      reached : l.place ≤ l.q;
+      within : l.q ≤ l.end;
+      passed : Passed (g.M.Marks.may_matter l.marks) (l.place * w) (l.q * w);
+    }
+
+abbrev pub decreases-loop-q : goal.decreases-loop-q
+decreases-loop-q g l = l.end - l.q
