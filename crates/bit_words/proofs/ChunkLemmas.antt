@@ -4,7 +4,7 @@ use Rattle.std.proofs.Common.{map, length, get_or, set, take, All, sym, ap, ap�
 use Rattle.std.proofs.Common.{length-take, div-lt_iff_lt-mul, get_or-set_same, get_or-set_other, mul-le-mul_right}
 use Rattle.std.proofs.Math.Bool.{and-true, or-false}
 use Rattle.std.proofs.lemmas.{Bool.{cases_eq, cases_lt}, List.{get_or_past, length-map, take-map}}
-use Rattle.bit_blocks.specs.{Bits.{Bits, blocks_for}, Digits.is_one, BlockMerges.{other_at, HasMerged}}
+use Rattle.bit_blocks.specs.{Bits.{Bits, blocks_for}, Digits.is_one, BlockMerges.{other_at, HasMerged, HaveBecome}}
 use Rattle.bit_blocks.specs.{Merges.merge_of_values, Storage.{value_at, values_of, IsPacked, IsZeroFrom, is_used}}
 use Rattle.bit_blocks.specs.declared.block.merge.Merge.{Merge}
 use Rattle.bit_blocks.specs.declared.block.merge.Merge.TheVariants.{Difference, Intersection, Symmetric, Union}
@@ -136,11 +136,11 @@ chunk_kept m start end xs ys other past = record {
 -- ---- the summary
 
 -- one block of it is made anew
-pub chunk_summary : {X : Type 0} (m : Merge) (w q n : ℕ) (f : X → ℕ) (P : X → Type 0) (other : ℕ → ℕ → Bool) (xs ys ss ts : List X)
-    → 0 < w → HasMerged m w f P (q * w) ((q + 1) * w) other xs ys → IsSummary w f P xs ss → q < length ss
+pub chunk_summary : {X : Type 0} (w q n : ℕ) (f : X → ℕ) (P : X → Type 0) (other : ℕ → ℕ → Bool) (xs ys ss ts : List X)
+    → 0 < w → HaveBecome w f P (q * w) ((q + 1) * w) other xs ys → IsSummary w f P xs ss → q < length ss
     → map f ts ≡ set (map f ss) q n → All P ts → length ts ≡ length ss
     → ((j : ℕ) → j < w → is_one n j ≡ is_used (map f ys) (q * w + j)) → IsSummary w f P ys ts
-chunk_summary m w q n f P other xs ys ss ts pos is summary within put each len digits =
+chunk_summary w q n f P other xs ys ss ts pos is summary within put each len digits =
     let old = summary.packed in
     summary_of_blocks w f P ys ts pos each (len ∙ old.count ∙ ap (blocks_for w) (sym is.len)) (omega (arith, old.fits, is.len)) (λ r j below index.
     ⊎_elim

@@ -1,21 +1,19 @@
 -- Blocks that become 0, chunk by chunk.
-use Rattle.std.proofs.Common.{◌≡◌, ◌≢◌, ℕ, ◌+◌, ◌-◌, ◌*◌, ◌/◌, ◌%◌, ◌<◌, ◌≤◌, div-lt_iff_lt-mul, Bool, false, true, List, set, map, length, get_or, get_or-set_same, get_or-set_other, length-set, min, All, refl, sym, ap, subst, ◌∙◌, ⊎_elim, arith}
+use Rattle.std.proofs.Common.{◌≡◌, ◌≢◌, ℕ, ◌+◌, ◌-◌, ◌*◌, ◌/◌, ◌%◌, ◌<◌, ◌≤◌, div-lt_iff_lt-mul, mod-lt, Bool, false, true, List, set, map, length, get_or, get_or-set_same, get_or-set_other, length-set, min, All, refl, sym, ap, subst, ◌∙◌, ⊎_elim, arith}
 use Rattle.std.proofs.lemmas.{Bool.{cases_eq, cases_lt, false≢true, true≢false}, Nat.le-div, List.{get_or_past, length-map}}
 use Rattle.bit_blocks.specs.declared.block.merge.Merge.{Merge, TheVariants.{Union, Intersection, Difference, Symmetric}}
-use Rattle.bit_blocks.specs.{BlockMerges.IsMergedSpan, Merges.merge_of_values, Digits.is_one, Storage.{value_at}}
+use Rattle.bit_blocks.specs.{BlockMerges.{HaveBecome, IsMergedSpan}, Merges.merge_of_values, Digits.is_one, Storage.{value_at}}
 use Rattle.bit_blocks.proofs.{CompareLemmas.digit_from_zero, StorageLemmas.value_at-is}
-use Rattle.bit_words.specs.Summary.{AreCleared}
 
 -- a list whose chunks all became 0
-pub cleared_all : {X : Type 0} (w chunks : ℕ) (number : X → ℕ) (is_block : X → Type 0) (xs ys : List X) → length xs ≤ chunks * w → AreCleared number is_block (0 * w) (chunks * w) xs ys
-    → (i : ℕ) → value_at w (map number ys) i ≡ false
-cleared_all w chunks number is_block xs ys enough is i =
-    let zero : get_or (map number ys) (i / w) 0 ≡ 0 =
-    ⊎_elim
-    (λ below. is.zeros (i / w) (omega arith) below)
-    (λ (past : chunks * w ≤ i / w). get_or_past (map number ys) (i / w) 0 (rw length-map (omega (arith, past, enough, is.len))))
-    (cases_lt (i / w) (chunks * w)) in
-    value_at-is w (map number ys) i ∙ digit_from_zero _ (i % w) zero
+pub cleared_all : {X : Type 0} (w chunks : ℕ) (number : X → ℕ) (is_block : X → Type 0) (xs ys : List X) → 0 < w → length xs ≤ chunks * w
+    → HaveBecome w number is_block (0 * w) (chunks * w) (λ k j. false) xs ys → (i : ℕ) → value_at w (map number ys) i ≡ false
+cleared_all w chunks number is_block xs ys pos enough is i =
+    value_at-is w (map number ys) i
+    ∙ ⊎_elim
+    (λ below. is.digit (i / w) (i % w) (omega arith) below (mod-lt i pos))
+    (λ (past : chunks * w ≤ i / w). digit_from_zero _ (i % w) (get_or_past (map number ys) (i / w) 0 (rw length-map (omega (arith, past, enough, is.len)))))
+    (cases_lt (i / w) (chunks * w))
 
 lost : (x : Bool) → false ≡ merge_of_values Difference x true
 lost false = refl
@@ -38,7 +36,7 @@ joined_spans_back m w a b c ms ns os forward onward two one = record {
 }
 
 -- chunks that became 0
-pub cleared_span : {X : Type 0} (w first last : ℕ) (number : X → ℕ) (is_block : X → Type 0) (xs ys : List X) → 0 < w → AreCleared number is_block (first * w) (last * w) xs ys
+pub cleared_span : {X : Type 0} (w first last : ℕ) (number : X → ℕ) (is_block : X → Type 0) (xs ys : List X) → 0 < w → HaveBecome w number is_block (first * w) (last * w) (λ k j. false) xs ys
     → IsMergedSpan Difference w (first * w * w) (last * w * w) (map number xs) (map number ys)
 cleared_span w first last number is_block xs ys pos is =
     let same : (i : ℕ) → get_or (map number ys) (i / w) 0 ≡ get_or (map number xs) (i / w) 0 → value_at w (map number ys) i ≡ value_at w (map number xs) i =
@@ -46,7 +44,7 @@ cleared_span w first last number is_block xs ys pos is =
     record {
       inside = λ i reached below.
           value_at-is w (map number ys) i
-          ∙ digit_from_zero _ (i % w) (is.zeros (i / w) (le-div (first * w) i w pos reached) ((div-lt_iff_lt-mul pos).1 below))
+          ∙ is.digit (i / w) (i % w) (le-div (first * w) i w pos reached) ((div-lt_iff_lt-mul pos).1 below) (mod-lt i pos)
           ∙ lost (value_at w (map number xs) i);
       before = λ i low. same i (is.before (i / w) ((div-lt_iff_lt-mul pos).1 low));
       after = λ i high. same i (is.after (i / w) (le-div (last * w) i w pos high));

@@ -54,34 +54,6 @@ module _ {X : Type 0} (w : ℕ) (f : X → ℕ) (P : X → Type 0) (xs os ys : L
     fits = packed.fits;
   }
 
--- ---- a list that keeps what it has of another side, and then takes the rest of that
-
-module _ {X : Type 0} (w : ℕ) (f : X → ℕ) (P : X → Type 0) (other : ℕ → ℕ → Bool) (xs ys zs : List X) where
-  pub become_in_two : HasMerged Intersection w f P 0 (length xs) other xs ys
-      → HasMerged Union w f P 0 (length ys) other ys zs → HaveBecome w f P 0 (length xs) other xs zs
-  become_in_two first second = record {
-    digit = λ k j from below index. grind (arith, first.digit k j from below index, second.digit k j from (omega (arith, below, first.len)) index);
-    before = λ k h. absurd (omega arith);
-    after = λ k past. second.after k (omega (arith, past, first.len)) ∙ first.after k past;
-    each = second.each;
-    len = second.len ∙ first.len;
-  }
-
-  -- where it stays in all, it stays in both steps
-  pub kept_in_two : ((x : X) → P x → f x < 2 ^ w) → All P xs
-      → HasMerged Intersection w f P 0 (length xs) other xs ys → HasMerged Union w f P 0 (length ys) other ys zs
-      → AreKept (map f xs) (map f zs) → AreKept (map f xs) (map f ys) × AreKept (map f ys) (map f zs)
-  kept_in_two law each first second all =
-      let here : AreKept (map f xs) (map f ys) = λ k.
-      ⊎_elim
-      (λ below. (same_numbers w f P 0 (length xs) ys xs law first.each each).0 (record {
-        digit = λ q j from within index.
-            grind (arith, first.digit q j from within index, (become_in_two first second).digit q j from within index, ap (λ n. is_one n j) (all q));
-      }) k (omega arith) below)
-      (λ past. first.after k past)
-      (cases_lt k (length xs)) in
-      (here, λ k. all k ∙ sym (here k))
-
 -- ---- the lists
 
 pub lists_with_common : (m : Merge) (w : ℕ) (ms os es ns : List ℕ) (len short third : ℕ) → short ≤ len

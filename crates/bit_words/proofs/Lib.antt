@@ -8,7 +8,7 @@ pub mod RangeQueryLemmas
 pub mod MergedOnesLemmas
 pub mod ComparedLemmas
 pub mod ClearedLemmas
-pub mod BecomingLemmas
+pub mod MadeLemmas
 pub mod KeepLemmas
 pub mod PutLemmas
 pub mod ChunkLemmas
@@ -17,9 +17,7 @@ pub mod SameCapacity
 pub mod SummaryLemmas
 pub mod SummaryZeros
 pub mod UsedLemmas
-pub mod TouchedLemmas
 pub mod FusedLemmas
-pub mod SummaryMergeLemmas
 pub mod StartLemmas
 pub mod LowByteLemmas
 pub mod LastLemmas

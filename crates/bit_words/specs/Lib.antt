@@ -8,3 +8,5 @@ pub mod Chunks
 pub mod Growth
 pub mod MergedOnes
 pub mod Parts
+pub mod Made
+pub mod ChangeLaws

@@ -1,5 +1,5 @@
 -- How many values of the merge of two lists of blocks are true. No public clause cites this.
-use Rattle.std.specs.{Prelude.{◌≡◌, ℕ, ◌+◌, ◌-◌, ◌*◌, ◌^◌, ◌<◌, ◌||◌, Bool, true, false, List}, List.{count_by, range_with_len}}
+use Rattle.std.specs.{Prelude.{◌≡◌, ℕ, ◌+◌, ◌-◌, ◌*◌, ◌^◌, ◌<◌, ◌&&◌, ◌||◌, Bool, true, false, List}, List.{count_by, range_with_len}}
 use Rattle.bit_blocks.specs.{Digits.is_one, Merges.merge_of_values, Storage.value_at, declared.block.merge.Merge.Merge}
 
 -- whether value i of two lists of blocks merges to true
@@ -9,6 +9,10 @@ merged_at merge w ms ns i = merge_of_values merge (value_at w ms i) (value_at w 
 -- whether two blocks may merge to one that is not 0, where each of a and b says whether one of them is not 0
 abbrev pub may_merge : Merge → Bool → Bool → Bool
 may_merge merge a b = merge_of_values merge a false || (merge_of_values merge false b || merge_of_values merge a b)
+
+-- whether a block may change by its merge with another, where each of a and b says whether one of them may have a 1
+abbrev pub may_change_by : Merge → Bool → Bool → Bool
+may_change_by merge a b = (a && b) || (merge_of_values Merge.Symmetric a (merge_of_values merge a false) || merge_of_values merge false b)
 
 -- how many values do so of the blocks from `first` on and before block `end`
 abbrev pub merged_ones : Merge → ℕ → List ℕ → List ℕ → ℕ → ℕ → ℕ

@@ -46,19 +46,3 @@ pub record IsStoredList {X : Type 0} (w : ℕ) (number : X → ℕ) (is_block : 
 -- blocks of either
 abbrev pub shared_capacity : ℕ → ℕ → ℕ → ℕ
 shared_capacity w blocks summary = min blocks (max (short_count w) (summary * w))
-
--- The blocks from block a on and before block b became 0, and no other changed.
-pub record AreCleared {X : Type 0} (number : X → ℕ) (is_block : X → Type 0) (a b : ℕ) (xs ys : List X) : Type 0 where
-  pub zeros : (k : ℕ) → a ≤ k → k < b → get_or (map number ys) k 0 ≡ 0
-  pub before : (k : ℕ) → k < a → get_or (map number ys) k 0 ≡ get_or (map number xs) k 0
-  pub after : (k : ℕ) → b ≤ k → get_or (map number ys) k 0 ≡ get_or (map number xs) k 0
-  pub each : All is_block ys
-  pub len : length ys ≡ length xs
-
--- The blocks from block a on and before block b became those of zs, and no other changed.
-pub record AreCopied {X : Type 0} (number : X → ℕ) (is_block : X → Type 0) (a b : ℕ) (zs xs ys : List X) : Type 0 where
-  pub copied : (k : ℕ) → a ≤ k → k < b → get_or (map number ys) k 0 ≡ get_or (map number zs) k 0
-  pub before : (k : ℕ) → k < a → get_or (map number ys) k 0 ≡ get_or (map number xs) k 0
-  pub after : (k : ℕ) → b ≤ k → get_or (map number ys) k 0 ≡ get_or (map number xs) k 0
-  pub each : All is_block ys
-  pub len : length ys ≡ length xs

@@ -17,14 +17,13 @@ use bit_blocks::packed::groups::{GROUP, LONG_GROUP};
 use bit_blocks::packed::resizing::{append_bits, repeated_bit, truncate_bits};
 use std::alloc::{AllocError, Global};
 
-pub(crate) mod becoming;
-pub(crate) mod changes;
 pub(crate) mod clearing;
 pub(crate) mod comparing;
 pub(crate) mod copies;
 pub(crate) mod counts;
 pub(crate) mod differences;
 pub(crate) mod inclusion;
+pub(crate) mod making;
 pub(crate) mod merges;
 pub(crate) mod parts;
 pub(crate) mod queries;
@@ -35,6 +34,7 @@ pub(crate) mod shared_capacity;
 pub(crate) mod spans;
 pub(crate) mod summarized;
 pub(crate) mod taking;
+pub(crate) mod ways;
 
 #[inline]
 pub(crate) fn is_nonzero<B: BitBlock>(block: B) -> bool

@@ -72,13 +72,13 @@ pub(crate) fn differing_group<B: BitBlock, S: Others<B>>(
     groups
 }
 
-// Where the first group of the blocks from `start` up to `end` begins in which a block differs, or `None` if all of
-// them are the others. Groups are long ones, then one of half as many blocks, and a short one. What is left is
-// looked at in a group that begins within the one before it, so that no block is looked at alone; fewer blocks than
-// a short group has are one group. A list that differs at its first blocks, as most do that differ, is not looked
-// at beyond a short one.
+/// Where the first group of the blocks from `start` up to `end` begins in which a block differs, or `None` if all of
+/// them are the others. Groups are long ones, then one of half as many blocks, and a short one. What is left is
+/// looked at in a group that begins within the one before it, so that no block is looked at alone; fewer blocks than
+/// a short group has are one group. A list that differs at its first blocks, as most do that differ, is not looked
+/// at beyond a short one.
 #[inline(always)]
-pub(crate) fn differing_place<B: BitBlock, S: Others<B>>(
+pub fn differing_place<B: BitBlock, S: Others<B>>(
     blocks: &[B],
     others: S,
     start: usize,

@@ -4,7 +4,7 @@ ghost use Rattle.std.specs.Prelude.{◌≡◌, ℕ, ◌<◌, ◌≤◌, ◌&&◌
 ghost use Rattle.bit_blocks.specs.{Digits.is_one, BlockMerges.{apart_at, merge_at, other_at, CanMerge}};
 
 use crate::block::BitBlock;
-use crate::block::operation::{Difference, Intersection, Operation};
+use crate::block::operation::{Difference, Operation};
 use crate::packed::access::block_at;
 use std::marker::PhantomData;
 
@@ -77,37 +77,11 @@ impl<'a, B: BitBlock> Others<B> for Except<'a, B> {
     }
 }
 
-/// The bits that two sides have in common, block by block.
-#[derive(Clone, Copy)]
-pub struct Both<F, S> {
-    /// The one side.
-    pub first: F,
-    /// The other.
-    pub second: S,
-}
-
-impl<B: BitBlock, F: Others<B>, S: Others<B>> Others<B> for Both<F, S> {
-    ghost count = { λ both. min (F.count both.first) (S.count both.second) };
-
-    ghost digit = { λ both k j. F.digit both.first k j && S.digit both.second k j };
-
-    ghost are_blocks = { λ both. F.are_blocks both.first × S.are_blocks both.second };
-
-    #[inline(always)]
-    fn len(self) -> usize {
-        self.first.len().min(self.second.len())
-    }
-
-    #[inline(always)]
-    fn block(self, k: usize) -> B {
-        Intersection::of_blocks(self.first.block(k), self.second.block(k))
-    }
-}
-
 /// Some number of zero blocks.
 #[derive(Clone, Copy)]
-pub(crate) struct Zeros {
-    pub(crate) count: usize,
+pub struct Zeros {
+    /// How many.
+    pub count: usize,
 }
 
 impl<B: BitBlock> Others<B> for Zeros {

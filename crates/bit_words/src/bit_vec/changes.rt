@@ -3,11 +3,13 @@ ghost use Rattle.std.specs.Prelude.{◌≡◌, ◌≤◌, ◌↔◌, false, leng
 ghost use Rattle.bit_blocks.specs.{Merges.merge_of, declared.block.merge.Merge.Merge};
 
 use crate::bit_vec::BitVec;
-use crate::summary::changes::{change_named, unite_common};
 use crate::summary::differences::{become_difference, unite_difference};
+use crate::summary::merges::{merge_all, merge_named};
 use crate::summary::summarized::{Common, Listed};
 use bit_blocks::block::BitBlock;
 use bit_blocks::block::merge::Merge;
+use bit_blocks::block::operation::{Intersection, Union};
+use std::marker::PhantomData;
 
 impl<B: BitBlock> BitVec<B> {
     /// Each value becomes its merge with that of `other`, as in [`merge_blocks`](Self::merge_blocks). Returns
@@ -27,12 +29,13 @@ impl<B: BitBlock> BitVec<B> {
         ensures capacity { self.new.capacity ≡ self.old.capacity }
     {
         self.search_start = 0;
-        change_named(
+        merge_named(
             self.blocks.as_mut_slice(),
             self.summary.as_mut_slice(),
             &other.blocks,
             &other.summary,
             merge,
+            false,
         )
     }
 
@@ -53,14 +56,16 @@ impl<B: BitBlock> BitVec<B> {
         ensures capacity { self.new.capacity ≡ self.old.capacity }
     {
         self.search_start = 0;
-        unite_difference(
-            self.blocks.as_mut_slice(),
-            self.summary.as_mut_slice(),
-            &other.blocks,
-            &other.summary,
-            &except.blocks,
-            &except.summary,
-        )
+        let others = Listed {
+            blocks: &other.blocks,
+            summary: &other.summary,
+        };
+        let apart = Listed {
+            blocks: &except.blocks,
+            summary: &except.summary,
+        };
+        let blocks = self.blocks.as_mut_slice();
+        unite_difference(blocks, self.summary.as_mut_slice(), others, apart)
     }
 
     /// Each value that is true both in `other` and in `also` becomes true. Returns whether a value changed. `other`
@@ -89,12 +94,10 @@ impl<B: BitBlock> BitVec<B> {
                 blocks: &also.blocks,
                 summary: &also.summary,
             },
+            operation: PhantomData::<Intersection>,
         };
-        unite_common(
-            self.blocks.as_mut_slice(),
-            self.summary.as_mut_slice(),
-            common,
-        )
+        let blocks = self.blocks.as_mut_slice();
+        merge_all::<B, Union, Common<B>>(blocks, self.summary.as_mut_slice(), common, false)
     }
 
     /// Each value becomes true if it is true in `other` and not in `except`, and otherwise false. Returns whether a
@@ -124,6 +127,7 @@ impl<B: BitBlock> BitVec<B> {
             blocks: &except.blocks,
             summary: &except.summary,
         };
-        become_difference(self.blocks.as_mut_slice(), &mut self.summary, others, apart)
+        let blocks = self.blocks.as_mut_slice();
+        become_difference(blocks, self.summary.as_mut_slice(), others, apart)
     }
 }

@@ -41,12 +41,13 @@ impl<B: BitBlock> BitVec<B> {
         ensures capacity { self.new.capacity ≡ self.old.capacity }
     {
         self.search_start = 0;
-        merge_named(
+        let _changed = merge_named(
             self.blocks.as_mut_slice(),
             self.summary.as_mut_slice(),
             &other.blocks,
             &other.summary,
             merge,
+            true,
         );
     }
 }

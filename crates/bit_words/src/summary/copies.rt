@@ -3,34 +3,15 @@ ghost use Rattle.std.specs.Prelude.{◌≡◌, ℕ, ◌<◌, ◌≤◌, All, IfO
 ghost use Rattle.bit_blocks.specs.Storage.{is_used, value_at, IsPacked};
 ghost use Rattle.bit_words.specs.Summary.{shared_capacity, short_count, stored_for, IsStoredSummary, IsSummary};
 
-use crate::summary::becoming::become_parts;
-use crate::summary::parts::Merging;
+use crate::summary::making::make_parts;
 use crate::summary::shared_capacity::have_capacity;
+use crate::summary::summarized::Listed;
+use crate::summary::ways::Replaced;
 use crate::summary::{is_short, update_summary_at};
 use bit_blocks::block::BitBlock;
-use bit_blocks::block::operation::Union;
 use bit_blocks::packed::copies::{copy_blocks, copy_of};
 use bit_blocks::packed::tail_copies::copy_bits_from;
 use std::alloc::{AllocError, Global};
-use std::marker::PhantomData;
-
-// The blocks become those of `from`, which has as many. Blocks that are 0 in both lists are passed over.
-#[inline(never)]
-fn copy_parts<B: BitBlock>(blocks: &mut [B], summary: &[B], from: &[B], from_summary: &[B])
-    requires as_long { length from.now ≡ length blocks.old }
-    requires each { All B.is_block blocks.old }
-    requires from { All B.is_block from.now }
-    requires summary { IsSummary B.width B.number B.is_block blocks.old summary.now }
-    requires from_summary { IsSummary B.width B.number B.is_block from.now from_summary.now }
-    ensures { blocks.new ≡ from.now }
-{
-    let marks = Merging {
-        first: summary,
-        second: from_summary,
-        operation: PhantomData::<Union>,
-    };
-    become_parts(blocks, from, marks, 0, summary.len());
-}
 
 // A copy of fewer chunks takes about as long as to tell whether they are worth skipping.
 const MANY_CHUNKS: usize = 16;
@@ -38,11 +19,16 @@ const MANY_CHUNKS: usize = 16;
 // The blocks become those of `from`, of which there is capacity for each. Where both lists are as long, and store
 // summaries, blocks that are 0 in both are passed over.
 #[inline]
-fn copy_past_zeros<B: BitBlock>(blocks: &mut Vec<B>, summary: &[B], from: &[B], from_summary: &[B])
+fn copy_past_zeros<B: BitBlock>(
+    blocks: &mut Vec<B>,
+    summary: &mut [B],
+    from: &[B],
+    from_summary: &[B],
+)
     requires capacity { length from.now ≤ vec_capacity blocks.old }
     requires each { All B.is_block blocks.old.items }
     requires from { All B.is_block from.now }
-    requires summary { IsStoredSummary B.width B.number B.is_block blocks.old.items summary.now }
+    requires summary { IsStoredSummary B.width B.number B.is_block blocks.old.items summary.old }
     requires from_summary { IsStoredSummary B.width B.number B.is_block from.now from_summary.now }
     ensures items { blocks.new.items ≡ from.now }
     ensures capacity { vec_capacity blocks.new ≡ vec_capacity blocks.old }
@@ -51,7 +37,12 @@ fn copy_past_zeros<B: BitBlock>(blocks: &mut Vec<B>, summary: &[B], from: &[B], 
         && blocks.len() == from.len()
         && !is_short::<B>(from.len())
     {
-        copy_parts(blocks.as_mut_slice(), summary, from, from_summary);
+        let chunks = summary.len();
+        let list = Listed {
+            blocks: from,
+            summary: from_summary,
+        };
+        let _changed = make_parts::<B, Replaced, Listed<B>>(blocks.as_mut_slice(), summary, list, 0, chunks, true);
     } else {
         copy_blocks(blocks, from);
     }
@@ -113,7 +104,7 @@ fn copy_both_general<B: BitBlock>(
         (shared_capacity B.width (vec_capacity blocks.old) (vec_capacity summary.old) < length from.now) }
 {
     if have_capacity(blocks, summary, from.len()) {
-        copy_past_zeros(blocks, summary, from, from_summary);
+        copy_past_zeros(blocks, summary.as_mut_slice(), from, from_summary);
         copy_blocks(summary, from_summary);
         return Ok(());
     }

@@ -2,12 +2,11 @@
 // part at a time: by the summaries it passes over the others. Where few blocks of a chunk may matter a part is these, and else whole
 // chunks. How dense lists are is decided here and nowhere else.
 ghost use Rattle.std.specs.Prelude.{◌≡◌, ℕ, ◌+◌, ◌*◌, ◌^◌, ◌<◌, ◌≤◌, All, Bool, IfNone, MatchOption, length, map, min};
-ghost use Rattle.bit_blocks.specs.{Digits.is_one, Storage.{is_used, value_at}};
-ghost use Rattle.bit_words.specs.{MergedOnes.may_merge, Parts.{GivesPart, IsListed, IsPart, Passed}};
+ghost use Rattle.bit_blocks.specs.{Digits.is_one, Storage.value_at};
+ghost use Rattle.bit_words.specs.{MergedOnes.may_merge, Parts.{GivesPart, IsPart, Passed}};
 
 use crate::summary::is_nonzero;
-use crate::summary::queries::{has_few, summary_at};
-use crate::summary::summarized::Listed;
+use crate::summary::queries::has_few;
 use bit_blocks::block::BitBlock;
 use bit_blocks::block::operation::Operation;
 use bit_blocks::block::operators::block_or;
@@ -68,30 +67,6 @@ impl<'a, B: BitBlock> Marks<B> for &'a [B] {
     #[inline(always)]
     fn at(self, q: usize) -> B {
         block_or_zero(self, q)
-    }
-}
-
-/// The blocks of a list that are not 0.
-impl<'a, B: BitBlock> Marks<B> for Listed<'a, B> {
-    ghost are_right = { λ list. IsListed B.width B.number B.is_block list.blocks.now list.summary.now };
-
-    ghost may_matter = { λ list. is_used (map B.number list.blocks.now) };
-
-    ghost stored = { λ list. length list.summary.now };
-
-    #[inline(always)]
-    fn stored_count(self) -> usize {
-        self.summary.len()
-    }
-
-    #[inline(always)]
-    fn read(self, q: usize) -> B {
-        block_at(self.summary, q)
-    }
-
-    #[inline(always)]
-    fn at(self, q: usize) -> B {
-        summary_at(self.blocks, self.summary, q)
     }
 }
 

@@ -10,9 +10,6 @@ use bit_blocks::packed::access::block_at;
 use bit_blocks::packed::ones::ones_of;
 use bit_blocks::packed::zeros::{are_zero, used_blocks, zeros_before};
 
-// One chunk of this many is looked at to tell whether a list is dense.
-pub(crate) const SAMPLED: usize = 8;
-
 // Whether all blocks are 0, by the summary if one is stored.
 pub(crate) fn are_zero_by_summary<B: BitBlock>(blocks: &[B], summary: &[B]) -> bool
     requires each { All B.is_block blocks.now }
@@ -95,15 +92,6 @@ pub(crate) fn has_few<B: BitBlock>(used: B) -> bool
     requires { B.is_block used }
 {
     used.count_ones() <= B::bits() / FEW
-}
-
-// How many blocks of a chunk vector code could process in the time that is saved by taking those at the ones of
-// `used` one by one.
-#[inline(always)]
-pub(crate) fn saved_blocks<B: BitBlock>(used: B) -> usize
-    requires { B.is_block used }
-{
-    B::bits().saturating_sub(used.count_ones().saturating_mul(FEW))
 }
 
 // The blocks that the first blocks of a summary cover, or all if there are fewer, and the others.

@@ -1,14 +1,15 @@
 // The ones of the merge of two lists that have summaries: of the parts in which both have blocks, and of what the longer one has past
 // these, where the merge keeps it.
-ghost use Rattle.std.specs.Prelude.{◌≡◌, ℕ, ◌+◌, ◌*◌, ◌^◌, ◌<◌, ◌≤◌, ◌&&◌, if◌then◌else◌, All, Bool, IfNone, true, false, drop, length, map, max, min};
-ghost use Rattle.bit_blocks.specs.{Merges.merge_of_values, Storage.{is_used, ones_in}, declared.block.merge.Merge.Merge};
+ghost use Rattle.std.specs.Prelude.{◌≡◌, ℕ, ◌+◌, ◌*◌, ◌^◌, ◌<◌, ◌≤◌, if◌then◌else◌, All, IfNone, true, false, drop, length, map, max, min};
+ghost use Rattle.bit_blocks.specs.{Storage.{is_used, ones_in}, declared.block.merge.Merge.Merge};
 ghost use Rattle.bit_words.specs.{MergedOnes.{may_merge, merged_ones}, Parts.{IsListed, IsPart}, Summary.{short_count, IsStoredSummary}};
 
 use crate::summary::counts::{count_merged_blocks, ones_of_both, ones_of_used};
+use crate::summary::is_short;
 use crate::summary::parts::{Merging, Part, next_part};
 use crate::summary::queries::{first_chunks, ones_of_runs};
 use crate::summary::summarized::Listed;
-use crate::summary::{is_nonzero, is_short};
+use crate::summary::ways::{MergedBy, keeps_other, keeps_own};
 use bit_blocks::block::BitBlock;
 use bit_blocks::block::merge::Merge;
 use bit_blocks::block::operation::{Difference, Intersection, Operation, Symmetric, Union};
@@ -41,22 +42,6 @@ pub(crate) fn ones_of_part<B: BitBlock, O: Operation>(
         Some(used) => ones_of_used::<B, O>(blocks, others, start, used),
         None => ones_of_both::<B, O>(blocks, others, start, part.end * width - start),
     }
-}
-
-// Whether a value stays where it is merged with false: or else it becomes false.
-#[inline(always)]
-pub(crate) fn keeps_own<B: BitBlock, O: Operation>() -> bool
-    ensures { (x : Bool) → merge_of_values O.merge x false ≡ (x && result) }
-{
-    is_nonzero(O::of_blocks(B::one(), B::zero()))
-}
-
-// Whether false becomes the value that it is merged with: or else it stays.
-#[inline(always)]
-fn keeps_other<B: BitBlock, O: Operation>() -> bool
-    ensures { (x : Bool) → merge_of_values O.merge false x ≡ (x && result) }
-{
-    is_nonzero(O::of_blocks(B::zero(), B::one()))
 }
 
 // The ones of a list from chunk `first` on, if they are kept.
@@ -98,8 +83,8 @@ fn ones_of_long<B: BitBlock, O: Operation>(own: Listed<B>, others: Listed<B>) ->
         ones += ones_of_part::<B, O>(own.blocks, others.blocks, part);
         place = part.end;
     }
-    let own_kept = keeps_own::<B, O>();
-    let other_kept = keeps_other::<B, O>();
+    let own_kept = keeps_own::<B, MergedBy<O>>();
+    let other_kept = keeps_other::<B, MergedBy<O>>();
     let own_rest = ones_past(own, last, own_kept);
     ones + own_rest + ones_past(others, last, other_kept)
 }

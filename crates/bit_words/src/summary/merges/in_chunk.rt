@@ -3,8 +3,9 @@ ghost use Rattle.std.specs.Prelude.{◌≡◌, ℕ, ◌+◌, ◌*◌, ◌<◌, �
 ghost use Rattle.bit_blocks.specs.{BlockMerges.{other_at, CanMerge, HasMerged}, Digits.is_one, Storage.is_used};
 ghost use Rattle.bit_words.specs.Summary.{IsStoredSummary};
 
-use crate::summary::merges::merge_whole;
-use crate::summary::merges::touched::merge_any;
+use crate::summary::making::blocks::make_any;
+use crate::summary::making::whole::make_whole;
+use crate::summary::ways::MergedBy;
 use crate::summary::{is_short, used_from};
 use bit_blocks::block::BitBlock;
 use bit_blocks::block::merge::Merge;
@@ -26,7 +27,7 @@ fn merge_any_between<B: BitBlock, O: Operation>(
         blocks.old blocks.new }
 {
     for k in start..end {
-        let _merged = merge_any::<B, O, &[B]>(blocks, others, k);
+        let _made = make_any::<B, MergedBy<O>, &[B]>(blocks, others, k);
     }
 }
 
@@ -45,7 +46,7 @@ fn merge_full_or_part<B: BitBlock, O: Operation>(blocks: &mut [B], others: &[B],
     let width = B::bits();
     let start = q * width;
     if others.len().saturating_sub(start) >= width {
-        return merge_whole::<B, O, &[B]>(blocks, others, q);
+        return make_whole::<B, MergedBy<O>, &[B]>(blocks, others, q);
     }
     let count = (blocks.len() - start).min(width);
     merge_any_between::<B, O>(blocks, others, start, start + count);

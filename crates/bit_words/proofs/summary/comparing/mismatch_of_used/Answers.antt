@@ -1,5 +1,5 @@
 use Rattle.std.proofs.Common.{◌≡◌, ◌≢◌, ◌∙◌, sym, arith}
-use Rattle.bit_words.proofs.{ComparedLemmas.{first_of_used, ones_but_lowest, same_but_lowest, same_chunk}, TouchedLemmas.fewer_ones}
+use Rattle.bit_words.proofs.{ComparedLemmas.{first_of_used, ones_but_lowest, same_but_lowest, same_chunk}, MadeLemmas.fewer_ones}
 use Rattle.bit_words.proofs.summary.comparing.mismatch_of_used.Goals as goal
 
 pub returns-then-not-same : goal.returns-then-not-same

@@ -1,6 +1,6 @@
 use Rattle.std.proofs.Common.{◌≡◌, ℕ, ◌+◌, ◌*◌, ◌^◌, ◌<◌, false, true, get_or, map}
 use Rattle.bit_blocks.specs.Digits.{is_one}
-use Rattle.bit_words.proofs.TouchedLemmas.{ones_of_first}
+use Rattle.bit_words.proofs.MadeLemmas.{ones_of_first}
 use Rattle.bit_words.proofs.summary.comparing.mismatch_of_used.Given as goal
 
 -- those of the chunk at which `left` has a 0 are the same
