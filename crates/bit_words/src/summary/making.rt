@@ -110,7 +110,7 @@ fn make_run<B: BitBlock, K: Way, S: Summarized<B>>(
 
 // The chunks of a part become what they do by the others, and the summary follows them. Returns whether a block changed, or one
 // did before.
-#[inline]
+#[inline(always)]
 fn make_part<B: BitBlock, K: Way, S: Summarized<B>>(
     blocks: &mut [B],
     summary: &mut [B],

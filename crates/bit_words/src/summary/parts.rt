@@ -150,12 +150,8 @@ fn pass_groups<B: BitBlock, M: Marks<B>>(marks: M, place: usize, last: usize) ->
     ensures passed { Passed (M.may_matter marks) (place * B.width) (result * B.width) }
 {
     let end = marks.stored_count().min(last);
-    // Most often a block of the first chunk may: that is not worth a group.
-    if end <= place || is_nonzero(marks.read(place)) {
-        return place;
-    }
     let mut q = place;
-    while end - q >= GROUP && !is_nonzero(any_of(marks, q, GROUP)) {
+    while q + GROUP <= end && !is_nonzero(any_of(marks, q, GROUP)) {
         q += GROUP;
     }
     q
@@ -188,7 +184,7 @@ fn dense_end<B: BitBlock, M: Marks<B>>(marks: M, from: usize, whole: usize) -> u
 
 // The part that begins at chunk `q`, of which `used` says which blocks may matter. As many chunks as `whole` are as long as a block
 // has bits in all lists that are read.
-#[inline]
+#[inline(always)]
 fn part_from<B: BitBlock, M: Marks<B>>(marks: M, q: usize, used: B, whole: usize) -> Part<B>
     requires right { M.are_right marks }
     requires next { q + 1 < 2 ^ 64 }
@@ -217,7 +213,7 @@ fn part_from<B: BitBlock, M: Marks<B>>(marks: M, q: usize, used: B, whole: usize
 /// The next part from chunk `place` on and before chunk `last`, or `None` where no block may matter there. In all lists that are
 /// read the first `whole` chunks have as many blocks as one has bits. The caller goes on at the part's end, and may have written
 /// the blocks before it: no reference is kept.
-#[inline]
+#[inline(always)]
 pub(crate) fn next_part<B: BitBlock, M: Marks<B>>(
     marks: M,
     place: usize,
@@ -232,6 +228,13 @@ pub(crate) fn next_part<B: BitBlock, M: Marks<B>>(
         (λ part. GivesPart B.width B.number B.is_block (M.may_matter marks) place whole last
         part.first part.end part.used) }
 {
+    // Most often a block of the first chunk may: that is not worth a group.
+    if place < last {
+        let used = marks.at(place);
+        if is_nonzero(used) {
+            return Some(part_from(marks, place, used, whole));
+        }
+    }
     for q in pass_groups(marks, place, last)..last {
         let used = marks.at(q);
         if is_nonzero(used) {

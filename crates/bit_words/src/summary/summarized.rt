@@ -15,12 +15,12 @@ use bit_blocks::packed::others::{Others, Zeros};
 pub(crate) trait Summarized<B: BitBlock>: Others<B> + Marks<B> {
     /// Whether each block that may have a 1 has one.
     fn is_sure(self) -> bool
-        requires right { are_right self }
-        requires each { are_blocks self }
-        ensures within { (k : ℕ) → may_matter self k ≡ true → k < count self }
-        ensures zeros { (k j : ℕ) → may_matter self k ≡ false → digit self k j ≡ false }
-        ensures sure { result ≡ true → (k : ℕ) → ((j : ℕ) → j < B.width → digit self k j ≡ false)
-            → may_matter self k ≡ false };
+        requires right { Self.are_right self }
+        requires each { Self.are_blocks self }
+        ensures within { (k : ℕ) → Self.may_matter self k ≡ true → k < Self.count self }
+        ensures zeros { (k j : ℕ) → Self.may_matter self k ≡ false → Self.digit self k j ≡ false }
+        ensures sure { result ≡ true → (k : ℕ) → ((j : ℕ) → j < B.width → Self.digit self k j ≡ false)
+            → Self.may_matter self k ≡ false };
 }
 
 /// The blocks of a list, and the summary that is stored for them.

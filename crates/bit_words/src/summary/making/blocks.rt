@@ -9,8 +9,8 @@ use crate::summary::ways::Way;
 use bit_blocks::block::BitBlock;
 use bit_blocks::block::lowest::take_lowest_one;
 use bit_blocks::block::masks::with_bit;
-use bit_blocks::block::operators::same;
 use bit_blocks::packed::access::{block_at, put_in};
+use bit_blocks::packed::comparing::or_mismatch;
 use bit_blocks::packed::others::Others;
 
 // Block `k` becomes what it does by the other of its index, and is returned.
@@ -92,7 +92,7 @@ pub(crate) fn make_touched<B: BitBlock, K: Way, S: Others<B>>(
     ensures kept { (result.1 ≡ false) ↔ AreKept (map B.number blocks.old) (map B.number blocks.new) }
 {
     let mut digits = own;
-    let mut changed = false;
+    let mut difference = B::zero();
     let mut left = touched;
     while is_nonzero(left) {
         let p = take_lowest_one(&mut left);
@@ -100,9 +100,9 @@ pub(crate) fn make_touched<B: BitBlock, K: Way, S: Others<B>>(
         let block = block_at(blocks, k);
         let made = make_any::<B, K, S>(blocks, others, k);
         digits = with_bit(digits, p, is_nonzero(made));
-        changed = changed || !same(block, made);
+        difference = or_mismatch(difference, block, made);
     }
-    (digits, changed)
+    (digits, is_nonzero(difference))
 }
 
 // The blocks from `start` to before `end` become what they do by the others of their indexes.
@@ -139,7 +139,13 @@ pub(crate) fn follow<B: BitBlock, K: Way, M: Marks<B>>(
     ensures { AreMade K.becomes B.width B.number B.is_block first end (λ q p. M.may_matter others (q * B.width + p))
         summary.old summary.new }
 {
+    if end <= others.stored_count() {
+        for q in first..end {
+            put_in(summary, q, K::of_blocks(block_at(summary, q), others.read(q)));
+        }
+    } else {
     for q in first..end {
         put_in(summary, q, K::of_blocks(block_at(summary, q), others.at(q)));
+    }
     }
 }

@@ -1,7 +1,7 @@
 use Rattle.std.proofs.Common.{◌∙◌, ap}
 use Rattle.bit_blocks.specs.Digits.{is_one}
 use Rattle.bit_words.proofs.SummaryLemmas.{stored_digits}
-use Rattle.bit_words.proofs.summary.parts.ListedMarks.read.Goals as goal
+use Rattle.bit_words.proofs.summary.summarized.ListedMarks.read.Goals as goal
 
 pub returns-clause-digits : goal.returns-clause-digits
 returns-clause-digits g c = λ p index.
