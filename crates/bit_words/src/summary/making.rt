@@ -66,7 +66,7 @@ fn make_chunks<B: BitBlock, K: Way, S: Summarized<B>>(
     ensures { Makes K.becomes B.width B.number B.is_block first end (S.digit others)
         blocks.old summary.old blocks.new summary.new }
 {
-    if others.is_sure() && K::is_of_summaries() {
+    if others.is_sure() && K::is_of_summaries() && end <= others.stored_count() {
         let width = B::bits();
         make_between::<B, K, S>(blocks, others, first * width, end * width);
         follow::<B, K, S>(summary, others, first, end);

@@ -135,17 +135,11 @@ pub(crate) fn follow<B: BitBlock, K: Way, M: Marks<B>>(
     requires right { M.are_right others }
     requires forward { first ≤ end }
     requires within { end ≤ length summary.old }
-    requires fits { end * B.width < 2 ^ 64 }
+    requires stored { end ≤ M.stored others }
     ensures { AreMade K.becomes B.width B.number B.is_block first end (λ q p. M.may_matter others (q * B.width + p))
         summary.old summary.new }
 {
-    if end <= others.stored_count() {
-        for q in first..end {
-            put_in(summary, q, K::of_blocks(block_at(summary, q), others.read(q)));
-        }
-    } else {
     for q in first..end {
-        put_in(summary, q, K::of_blocks(block_at(summary, q), others.at(q)));
-    }
+        put_in(summary, q, K::of_blocks(block_at(summary, q), others.read(q)));
     }
 }
