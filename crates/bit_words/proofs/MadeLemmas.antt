@@ -5,7 +5,7 @@ use Rattle.std.proofs.lemmas.List.{get_or_past, length-map}
 use Rattle.std.proofs.lemmas.Bool.{cases_lt, cases_eq, true≢false, Decides.nat_tests}
 use Rattle.bit_blocks.specs.{Bits.blocks_for, Digits.is_one, Lowest.{IsLowest, IsCleared}, Merges.merge_of_values, declared.block.merge.Merge.Merge}
 use Rattle.bit_blocks.specs.{BlockMerges.{AreKept, AreOthers, HasMerged, HaveBecome}, Storage.{is_used, value_at}}
-use Rattle.bit_blocks.proofs.{CompareLemmas.zero_from_digits, Masks.is_one-zero, StorageLemmas.value_at-index, UseLemmas.{used_from_true, used_past}, VectorLemmas.numbers_below}
+use Rattle.bit_blocks.proofs.{BitsLemmas.blocks_for-least, CompareLemmas.zero_from_digits, Masks.is_one-zero, StorageLemmas.value_at-index, UseLemmas.{used_from_true, used_past}, VectorLemmas.numbers_below}
 use Rattle.bit_words.proofs.SummaryLemmas.{summary_of_blocks}
 use Rattle.bit_words.specs.{Made.{made_at, AreMade, Remain, Tells}, Parts.Passed, Summary.IsSummary}
 
@@ -55,6 +55,10 @@ pub false_unless : (b : Bool) → (b ≡ true → ⊥) → b ≡ false
 false_unless false none = refl
 false_unless true none = absurd (none refl)
 
+-- a chunk begins at a block of the list
+pub chunk_begins : (w n q : ℕ) → 0 < w → q < blocks_for w n → q * w < n
+chunk_begins w n q pos within = ⊎_elim (λ below. below) (λ past. absurd (omega (arith, within, blocks_for-least w n q pos past))) (cases_lt (q * w) n)
+
 -- ---- what may not change
 
 module _ {X : Type 0} (becomes may_change : Bool → Bool → Bool) (w : ℕ) (f : X → ℕ) (P : X → Type 0) (other : ℕ → ℕ → Bool)
@@ -88,11 +92,12 @@ module _ {X : Type 0} (becomes : Bool → Bool → Bool) (w : ℕ) (f : X → �
   pub made_stay : (a b : ℕ) (xs : List X) → All P xs → Remain becomes w f a b other xs → AreMade becomes w f P a b other xs xs
   made_stay a b xs each stay = record { digit = stay.digit; before = λ k low. refl; after = λ k high. refl; each = each; len = refl }
 
-  pub made_more : (a b c : ℕ) (xs ys zs : List X) → a ≤ b → b ≤ c → AreMade becomes w f P a b other xs ys → AreMade becomes w f P b c other ys zs → AreMade becomes w f P a c other xs zs
-  made_more a b c xs ys zs forward onward one two = record {
-    digit = λ k j from below index.
+  pub made_more : (a b c p q : ℕ) (xs ys zs : List X) → a ≤ b → b ≤ c → p ≡ b → q ≡ c → AreMade becomes w f P a b other xs ys → AreMade becomes w f P p q other ys zs
+      → AreMade becomes w f P a c other xs zs
+  made_more a b c p q xs ys zs forward onward from to one second = let two = rw (from, to) at second in record {
+    digit = λ k j reached below index.
         ⊎_elim
-        (λ early. ap (λ n. is_one n j) (two.before k early) ∙ one.digit k j from early index)
+        (λ early. ap (λ n. is_one n j) (two.before k early) ∙ one.digit k j reached early index)
         (λ late. two.digit k j late below index ∙ ap (λ n. becomes (is_one n j) (other k j)) (one.after k late))
         (cases_lt k b);
     before = λ k low. two.before k (omega (arith, low, forward)) ∙ one.before k low;
@@ -126,6 +131,27 @@ module _ {X : Type 0} (becomes : Bool → Bool → Bool) (w : ℕ) (f : X → �
         (second.kept ((first.kept not_yet).1 parts.0)).1 parts.1,
       );
   }
+
+-- whether a block changed so far, and a block more
+pub kept_one : {X : Type 0} (f : X → ℕ) (k d e a b : ℕ) (xs ys zs : List X) → (d ≡ 0) ↔ AreKept (map f xs) (map f ys) → (e ≡ 0) ↔ ((d ≡ 0) × (a ≡ b))
+    → a ≡ get_or (map f ys) k 0 → b ≡ get_or (map f zs) k 0 → get_or (map f ys) k 0 ≡ get_or (map f xs) k 0
+    → ((j : ℕ) → j < k → get_or (map f zs) j 0 ≡ get_or (map f ys) j 0) → ((j : ℕ) → k + 1 ≤ j → get_or (map f zs) j 0 ≡ get_or (map f ys) j 0)
+    → (e ≡ 0) ↔ AreKept (map f xs) (map f zs)
+kept_one f k d e a b xs ys zs so_far both was is waits before after =
+    let apart : (j : ℕ) → j ≢ k → get_or (map f zs) j 0 ≡ get_or (map f ys) j 0 = λ j other. ⊎_elim (λ low. before j low) (λ high. after j (omega (arith, high, other))) (cases_lt j k) in
+    (
+      λ none j.
+          let parts = both.0 none in
+          ⊎_elim
+          (λ (here : j ≡ k). rw here (sym is ∙ sym parts.1 ∙ was ∙ so_far.0 parts.0 k))
+          (λ (there : j ≢ k). apart j there ∙ so_far.0 parts.0 j)
+          (cases_eq j k),
+      λ all. both.1 (so_far.1 (λ j.
+          ⊎_elim
+          (λ (here : j ≡ k). rw here waits)
+          (λ (there : j ≢ k). sym (apart j there) ∙ all j)
+          (cases_eq j k)), was ∙ waits ∙ sym (all k) ∙ sym is),
+    )
 
 -- The blocks xs of chunk q became ys at those that are no longer left, and its block of the summary is s.
 pub record IsPartlyMade {X : Type 0} (becomes : Bool → Bool → Bool) (w : ℕ) (f : X → ℕ) (P : X → Type 0) (q : ℕ) (other : ℕ → ℕ → Bool) (xs ys : List X) (left s : ℕ) : Type 0 where

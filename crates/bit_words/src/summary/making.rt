@@ -131,13 +131,15 @@ fn make_part<B: BitBlock, K: Way, S: Summarized<B>>(
     ensures tells { Tells changed result (map B.number blocks.old) (map B.number blocks.new) }
 {
     let _sure = others.is_sure();
-    let Some(used) = part.used else {
-        return make_run::<B, K, S>(blocks, summary, others, part.first, part.end, changed);
-    };
-    let own = block_at(summary, part.first);
-    let (digits, touched) = make_touched::<B, K, S>(blocks, others, part.first, own, used);
-    put_in(summary, part.first, digits);
-    changed || touched
+    match part.used {
+        Some(used) => {
+            let own = block_at(summary, part.first);
+            let (digits, touched) = make_touched::<B, K, S>(blocks, others, part.first, own, used);
+            put_in(summary, part.first, digits);
+            changed || touched
+        }
+        None => make_run::<B, K, S>(blocks, summary, others, part.first, part.end, changed),
+    }
 }
 
 /// The chunks from `first` on and before `last` become what they do by the others, and the summary follows them. Returns whether a

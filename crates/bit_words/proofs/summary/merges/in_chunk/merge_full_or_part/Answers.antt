@@ -9,8 +9,8 @@ begin q bits w e = ap (λ x. q * x) e
 pub overflow_mul-start : goal.overflow_mul-start
 overflow_mul-start g c = omega (arith, begin c.args.q _ _ c.bits-width.ensures, c.requires.some)
 
-pub merge_whole-requires-clause-in_others : goal.merge_whole-requires-clause-in_others
-merge_whole-requires-clause-in_others g c = omega (arith, begin c.args.q _ _ c.bits-width.ensures, c.bits-width.ensures, g.met.B.BitBlock.width_law.positive)
+pub make_whole-requires-clause-in_others : goal.make_whole-requires-clause-in_others
+make_whole-requires-clause-in_others g c = omega (arith, begin c.args.q _ _ c.bits-width.ensures, c.bits-width.ensures, g.met.B.BitBlock.width_law.positive)
 
 pub returns-clause-has : goal.returns-clause-has
 returns-clause-has g c =

@@ -1,6 +1,6 @@
 use Rattle.std.proofs.Common.{◌<◌, length, lt_of_mul-lt-mul_right, arith}
 use Rattle.bit_words.specs.Summary.{short_count}
-use Rattle.bit_words.proofs.{ChunkLemmas.chunk_summary, SummaryLemmas.{keeps_all, stored_enough}}
+use Rattle.bit_words.proofs.{ChunkLemmas.chunk_summary, MadeLemmas.became, SummaryLemmas.{keeps_all, stored_enough}}
 use Rattle.bit_words.proofs.summary.merges.in_chunk.merge_in_chunk.{Given.Over, Goals.After-is_short}
 use Rattle.bit_words.proofs.summary.merges.in_chunk.merge_in_chunk.Goals as goal
 
@@ -22,8 +22,8 @@ returns-then-not-is_short-clause-summary g c =
     let many = c.is_short.ensures.long c.if-not-is_short.true in
     let long : short_count w < length c.args.blocks.now = omega (arith, many, c.merge_full_or_part-digits.ensures.has.len) in
     keeps_all _ _ _ _ _ many
-    (chunk_summary _ w c.args.q _ _ _ _ _ _ _ _ g.met.B.BitBlock.width_law.positive
-    c.merge_full_or_part-digits.ensures.has (c.requires.summary.long long)
+    (chunk_summary w c.args.q _ _ _ _ _ _ _ _ g.met.B.BitBlock.width_law.positive
+    (became _ _ _ _ _ _ _ _ _ c.merge_full_or_part-digits.ensures.has) (c.requires.summary.long long)
     (inside g (goal.at.returns-then-not-is_short-clause-summary g c).After-is_short long) c.put_in.ensures.numbers
     c.put_in.ensures.each c.put_in.ensures.len
     c.merge_full_or_part-digits.ensures.digits)
