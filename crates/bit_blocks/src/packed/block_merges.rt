@@ -1,11 +1,11 @@
 // Merges of the blocks of a list with others, each by the digits of every block. Summaries are merged in `summary`.
 ghost use Rattle.std.specs.Prelude.{◌≡◌, ◌+◌, ◌<◌, ◌≤◌, All, false, get_or, length, map};
-ghost use Rattle.bit_blocks.specs.BlockMerges.{CanMerge, HasMerged};
+ghost use Rattle.bit_blocks.specs.{BlockMerges.{except_at, CanMerge, HasMerged}, declared.block.merge.Merge.Merge};
 
 use crate::block::BitBlock;
-use crate::block::operation::Operation;
+use crate::block::operation::{Operation, Union};
 use crate::packed::access::{block_at, put_in};
-use crate::packed::others::Others;
+use crate::packed::others::{Except, Others};
 
 /// Block `k` becomes its merge with the other of its index, and is returned.
 #[inline]
@@ -73,4 +73,20 @@ pub fn merge_from<B: BitBlock, O: Operation, S: Others<B>>(
     let count = others.len();
     merge_between::<B, O, S>(blocks, others, start, count);
     merge_rest::<B, O>(blocks, count);
+}
+
+/// The blocks from `start` on become their unions with the others, except for the ones of `except`. Where `except` is the
+/// shorter one, the others are merged alone past its end.
+#[inline]
+pub fn unite_except<B: BitBlock>(blocks: &mut [B], others: &[B], except: &[B], start: usize)
+    requires can { CanMerge B.is_block blocks.old (length others.now) (All B.is_block others.now) }
+    requires except { All B.is_block except.now }
+    requires from { start ≤ length others.now }
+    ensures { HasMerged Merge.Union B.width B.number B.is_block start (length blocks.old)
+        (except_at (map B.number others.now) (map B.number except.now)) blocks.old blocks.new }
+{
+    let apart = Except { others, except };
+    let both = apart.len().max(start);
+    merge_between::<B, Union, Except<B>>(blocks, apart, start, both);
+    merge_between::<B, Union, &[B]>(blocks, others, both, others.len());
 }

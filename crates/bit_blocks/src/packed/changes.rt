@@ -1,11 +1,11 @@
 // Where a merge first changes a list of blocks: where the list differs from what it becomes. Nothing is written.
 ghost use Rattle.std.specs.Prelude.{◌≤◌, ◌↔◌, All, IfNone, IfSome, IsTrue, false, length, map};
-ghost use Rattle.bit_blocks.specs.BlockMerges.{merge_at, CanMerge, FindsDifference, Stay};
+ghost use Rattle.bit_blocks.specs.{BlockMerges.{except_at, merge_at, CanMerge, FindsDifference, Stay}, declared.block.merge.Merge.Merge};
 
 use crate::block::BitBlock;
-use crate::block::operation::Operation;
+use crate::block::operation::{Operation, Union};
 use crate::packed::differences::{are_others, differing_place};
-use crate::packed::others::{Merged, Others, Zeros};
+use crate::packed::others::{Except, Merged, Others, Zeros};
 use std::marker::PhantomData;
 
 /// Where a group of blocks begins, from `start` on and before `end`, in which one changes by a merge with the
@@ -69,4 +69,30 @@ fn stay_from<B: BitBlock, O: Operation>(blocks: &[B], start: usize) -> bool
         operation: PhantomData::<O>,
     };
     are_others(blocks, merged, start, end - start)
+}
+
+/// Where the list begins to change by a union with the others without the ones of `except`. `None` if no block
+/// changes. If `except` is shorter, the others are taken unchanged past its end.
+pub fn first_change_past_except<B: BitBlock>(
+    blocks: &[B],
+    others: &[B],
+    except: &[B],
+) -> Option<usize>
+    requires can { CanMerge B.is_block blocks.now (length others.now) (All B.is_block others.now) }
+    requires except { All B.is_block except.now }
+    ensures within { IfSome result (λ start. start ≤ length others.now) }
+    ensures stay { IfSome result (λ start. Stay Merge.Union B.width B.number 0 start
+        (except_at (map B.number others.now) (map B.number except.now)) blocks.now) }
+    ensures changes { IfSome result (λ start. Stay Merge.Union B.width B.number 0 (length blocks.now)
+        (except_at (map B.number others.now) (map B.number except.now)) blocks.now → ⊥) }
+    ensures none { IfNone result (Stay Merge.Union B.width B.number 0 (length blocks.now)
+        (except_at (map B.number others.now) (map B.number except.now)) blocks.now) }
+{
+    let apart = Except { others, except };
+    let both = apart.len();
+    let found = changing_place::<B, Union, Except<B>>(blocks, apart, 0, both);
+    if found.is_some() {
+        return found;
+    }
+    changing_place::<B, Union, &[B]>(blocks, others, both, others.len())
 }

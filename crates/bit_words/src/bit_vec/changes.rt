@@ -12,6 +12,25 @@ use bit_blocks::block::operation::{Intersection, Union};
 use std::marker::PhantomData;
 
 impl<B: BitBlock> BitVec<B> {
+    // The merge, and whether a value changed, or `changed` was true already: then no first change is looked for.
+    #[inline(always)]
+    pub(crate) fn merge_with(&mut self, other: &Self, merge: Merge, changed: bool) -> bool
+        requires { length other.now.values ≤ length self.old.values }
+        ensures values { self.new.values ≡ merge_of merge self.old.values other.now.values }
+        ensures kept { changed ≡ false → (result ≡ false) ↔ (self.new.values ≡ self.old.values) }
+        ensures capacity { self.new.capacity ≡ self.old.capacity }
+    {
+        self.search_start = 0;
+        merge_named(
+            self.blocks.as_mut_slice(),
+            self.summary.as_mut_slice(),
+            &other.blocks,
+            &other.summary,
+            merge,
+            changed,
+        )
+    }
+
     /// Each value becomes its merge with that of `other`, as in [`merge_blocks`](Self::merge_blocks). Returns
     /// whether a value changed. `other` must not be longer. Allocates nothing. Blocks are written from the first
     /// group in which one changes: that group is read twice. A long list is merged by chunks, each the blocks that
@@ -28,15 +47,7 @@ impl<B: BitBlock> BitVec<B> {
         ensures kept { (result ≡ false) ↔ (self.new.values ≡ self.old.values) }
         ensures capacity { self.new.capacity ≡ self.old.capacity }
     {
-        self.search_start = 0;
-        merge_named(
-            self.blocks.as_mut_slice(),
-            self.summary.as_mut_slice(),
-            &other.blocks,
-            &other.summary,
-            merge,
-            false,
-        )
+        self.merge_with(other, merge, false)
     }
 
     /// Each value that is true in `other` and not in `except` becomes true. Returns whether a value changed.

@@ -3,7 +3,6 @@ ghost use Rattle.std.specs.Prelude.{◌≡◌, ◌+◌, ◌≤◌, length};
 ghost use Rattle.bit_blocks.specs.{Bits.blocks_for, Merges.merge_of};
 
 use crate::bit_vec::BitVec;
-use crate::summary::merges::merge_named;
 use crate::summary::remaking::remake_summary;
 use bit_blocks::block::BitBlock;
 use bit_blocks::block::merge::Merge;
@@ -40,14 +39,6 @@ impl<B: BitBlock> BitVec<B> {
         ensures values { self.new.values ≡ merge_of merge self.old.values other.now.values }
         ensures capacity { self.new.capacity ≡ self.old.capacity }
     {
-        self.search_start = 0;
-        let _changed = merge_named(
-            self.blocks.as_mut_slice(),
-            self.summary.as_mut_slice(),
-            &other.blocks,
-            &other.summary,
-            merge,
-            true,
-        );
+        let _changed = self.merge_with(other, merge, true);
     }
 }

@@ -3,7 +3,7 @@ ghost use Rattle.std.specs.Prelude.{◌≡◌, ℕ, ◌+◌, ◌*◌, ◌^◌, �
 ghost use Rattle.bit_blocks.specs.{Digits.is_one, Mismatches.IsFirstBlockMismatch, Storage.is_used, declared.block.merge.Merge.Merge};
 ghost use Rattle.bit_words.specs.{MergedOnes.may_merge, Parts.{IsListed, IsPart}, Summary.IsStoredSummary};
 
-use crate::summary::parts::{Merging, Part, next_part};
+use crate::summary::parts::{Merging, Part, few_of_vectors, next_part};
 use crate::summary::queries::first_chunks;
 use crate::summary::searching::first_used_by_summary;
 use crate::summary::summarized::Listed;
@@ -119,6 +119,7 @@ fn mismatch_of_long<B: BitBlock>(own: Listed<B>, others: Listed<B>) -> Option<us
         (IsFirstBlockMismatch (map B.number own.entry.blocks.now) (map B.number others.entry.blocks.now)) }
 {
     let both = own.blocks.len().min(others.blocks.len());
+    let whole = block_index::<B>(both);
     let last = block_count::<B>(both);
     let marks = Merging {
         first: own,
@@ -126,7 +127,7 @@ fn mismatch_of_long<B: BitBlock>(own: Listed<B>, others: Listed<B>) -> Option<us
         operation: PhantomData::<Union>,
     };
     let mut place = 0;
-    while let Some(part) = next_part(marks, place, block_index::<B>(both), last) {
+    while let Some(part) = next_part(marks, place, whole, last, few_of_vectors::<B>()) {
         let found = mismatch_of_part(own.blocks, others.blocks, part);
         if found.is_some() {
             return found;

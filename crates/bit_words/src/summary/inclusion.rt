@@ -5,7 +5,7 @@ ghost use Rattle.bit_words.specs.{MergedOnes.{may_merge, merged_ones}, Parts.{Is
 
 use crate::summary::counts::by_summaries::ones_of_part;
 use crate::summary::is_short;
-use crate::summary::parts::{Merging, Part, next_part};
+use crate::summary::parts::{Merging, Part, few_of_counts, next_part};
 use crate::summary::searching::first_used_by_summary;
 use crate::summary::summarized::Listed;
 use bit_blocks::block::BitBlock;
@@ -57,6 +57,7 @@ fn merge_is_zero<B: BitBlock, O: Operation>(own: Listed<B>, others: Listed<B>) -
         0 (blocks_for B.width (min (length own.entry.blocks.now) (length others.entry.blocks.now)) * B.width) ≡ 0) }
 {
     let both = own.blocks.len().min(others.blocks.len());
+    let whole = block_index::<B>(both);
     let last = block_count::<B>(both);
     let marks = Merging {
         first: own,
@@ -64,7 +65,7 @@ fn merge_is_zero<B: BitBlock, O: Operation>(own: Listed<B>, others: Listed<B>) -
         operation: PhantomData::<O>,
     };
     let mut place = 0;
-    while let Some(part) = next_part(marks, place, block_index::<B>(both), last) {
+    while let Some(part) = next_part(marks, place, whole, last, few_of_counts::<B>()) {
         if !part_is_zero::<B, O>(own.blocks, others.blocks, part) {
             return false;
         }

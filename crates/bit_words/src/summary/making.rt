@@ -1,12 +1,12 @@
 // Blocks of a long list that become others, in some way, and the summary with them: of the chunks, the blocks that a block of the
 // summary is about, by the walk over those that may change.
-ghost use Rattle.std.specs.Prelude.{◌≡◌, ℕ, ◌+◌, ◌*◌, ◌<◌, ◌≤◌, All, IfNone, false, length, map, min, true};
-ghost use Rattle.bit_blocks.specs.{BlockMerges.{AreKept, CanMerge}, Digits.is_one, Storage.{is_used, value_at}};
+ghost use Rattle.std.specs.Prelude.{◌≡◌, ℕ, ◌+◌, ◌*◌, ◌<◌, ◌≤◌, Bool, IfNone, false, length, map, min, true};
+ghost use Rattle.bit_blocks.specs.{Bits.blocks_for, BlockMerges.CanMerge, Storage.value_at};
 ghost use Rattle.bit_words.specs.{Made.{AreMade, Makes, Tells}, Parts.IsPart, Summary.IsSummary};
 
 use crate::summary::making::blocks::{follow, make_between, make_touched};
 use crate::summary::making::whole::make_whole_chunks;
-use crate::summary::parts::{Marks, Part, next_part};
+use crate::summary::parts::{Marks, Part, few_of_vectors, next_part};
 use crate::summary::summarized::Summarized;
 use crate::summary::ways::{Way, keeps_own};
 use bit_blocks::block::BitBlock;
@@ -123,6 +123,7 @@ fn make_part<B: BitBlock, K: Way, S: Summarized<B>>(
     requires summary { IsSummary B.width B.number B.is_block blocks.old summary.old }
     requires within { part.end ≤ length summary.old }
     requires in_others { IfNone part.used (part.end * B.width ≤ S.count others) }
+    requires inside { (k : ℕ) → S.may_matter others k ≡ true → k < length blocks.old }
     requires part { IsPart B.width B.number B.is_block
         (λ k. K.may_change (value_at B.width (map B.number summary.old) k) (S.may_matter others k))
         part.first part.end part.used }
@@ -158,6 +159,7 @@ pub(crate) fn make_parts<B: BitBlock, K: Way, S: Summarized<B>>(
     requires summary { IsSummary B.width B.number B.is_block blocks.old summary.old }
     requires forward { first ≤ last }
     requires within { last ≤ length summary.old }
+    requires inside { (k : ℕ) → S.may_matter others k ≡ true → k < length blocks.old }
     ensures makes { Makes K.becomes B.width B.number B.is_block first last (S.digit others)
         blocks.old summary.old blocks.new summary.new }
     ensures tells { Tells changed result (map B.number blocks.old) (map B.number blocks.new) }
@@ -175,11 +177,27 @@ pub(crate) fn make_parts<B: BitBlock, K: Way, S: Summarized<B>>(
         place,
         whole,
         last,
+        few_of_vectors::<B>(),
     ) {
         changes = make_part::<B, K, S>(blocks, summary, others, part, changes);
         place = part.end;
     }
     changes
+}
+
+/// Before which chunk a list may change that becomes in some way what it does by so many others: those past them stay.
+#[inline(always)]
+pub(crate) fn chunks_to_make<B: BitBlock, K: Way>(summary: &[B], others: usize) -> usize
+    requires within { blocks_for B.width others ≤ length summary.now }
+    ensures within { result ≤ length summary.now }
+    ensures enough { blocks_for B.width others ≤ result }
+    ensures rest { result < length summary.now → (x : Bool) → K.becomes x false ≡ x }
+{
+    if keeps_own::<B, K>() {
+        block_count::<B>(others)
+    } else {
+        summary.len()
+    }
 }
 
 /// The blocks of a long list become what they do by the others, and the summary follows them. Returns whether a block changed, or
@@ -194,17 +212,13 @@ pub(crate) fn make_long<B: BitBlock, K: Way, S: Summarized<B>>(
     requires can { CanMerge B.is_block blocks.old (S.count others) (S.are_blocks others) }
     requires right { S.are_right others }
     requires summary { IsSummary B.width B.number B.is_block blocks.old summary.old }
+    requires inside { (k : ℕ) → S.may_matter others k ≡ true → k < length blocks.old }
     ensures made { AreMade K.becomes B.width B.number B.is_block 0 (length blocks.old) (S.digit others)
         blocks.old blocks.new }
     ensures summary { IsSummary B.width B.number B.is_block blocks.new summary.new }
     ensures summary_len { length summary.new ≡ length summary.old }
     ensures tells { Tells changed result (map B.number blocks.old) (map B.number blocks.new) }
 {
-    // Past the end of the others most ways change nothing.
-    let last = if keeps_own::<B, K>() {
-        block_count::<B>(others.len())
-    } else {
-        summary.len()
-    };
+    let last = chunks_to_make::<B, K>(summary, others.len());
     make_parts::<B, K, S>(blocks, summary, others, 0, last, changed)
 }

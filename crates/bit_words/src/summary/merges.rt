@@ -1,5 +1,5 @@
 // Merges of the blocks of a list with others, and of its summary with them.
-ghost use Rattle.std.specs.Prelude.{◌≡◌, All, length, map};
+ghost use Rattle.std.specs.Prelude.{◌≡◌, ℕ, ◌<◌, All, length, map, true};
 ghost use Rattle.bit_blocks.specs.{BlockMerges.{other_at, CanMerge, HasMerged}, declared.block.merge.Merge.Merge};
 ghost use Rattle.bit_words.specs.{Made.Tells, Summary.IsStoredSummary};
 
@@ -29,6 +29,7 @@ pub(crate) fn merge_all<B: BitBlock, O: Operation, S: Summarized<B>>(
     requires can { CanMerge B.is_block blocks.old (S.count others) (S.are_blocks others) }
     requires right { S.are_right others }
     requires summary { IsStoredSummary B.width B.number B.is_block blocks.old summary.old }
+    requires inside { (k : ℕ) → S.may_matter others k ≡ true → k < length blocks.old }
     ensures has { HasMerged O.merge B.width B.number B.is_block 0 (length blocks.old) (S.digit others)
         blocks.old blocks.new }
     ensures summary { IsStoredSummary B.width B.number B.is_block blocks.new summary.new }

@@ -6,7 +6,6 @@ ghost use Rattle.bit_blocks.specs.{Digits.is_one, Storage.value_at};
 ghost use Rattle.bit_words.specs.{MergedOnes.may_merge, Parts.{GivesPart, IsPart, Passed}};
 
 use crate::summary::is_nonzero;
-use crate::summary::queries::has_few;
 use bit_blocks::block::BitBlock;
 use bit_blocks::block::operation::Operation;
 use bit_blocks::block::operators::block_or;
@@ -115,6 +114,18 @@ fn may_have_ones<B: BitBlock, O: Operation>(own: B, other: B) -> B
     block_or(O::of_blocks(own, zero), alone)
 }
 
+/// How many blocks of a chunk are worth to be taken alone by a call that takes a chunk by vector code.
+#[inline(always)]
+pub(crate) fn few_of_vectors<B: BitBlock>() -> usize {
+    B::bits().saturating_mul(B::bits()) / 512
+}
+
+/// The same of a call that counts the ones of each block.
+#[inline(always)]
+pub(crate) fn few_of_counts<B: BitBlock>() -> usize {
+    B::bits() / 8
+}
+
 /// The chunks from `first` on and before `end`, or where `used` is a block the blocks at its ones of the one chunk.
 #[derive(Clone, Copy)]
 pub(crate) struct Part<B> {
@@ -163,7 +174,7 @@ const LONGEST_STEP: usize = 64;
 // Before which chunk a run ends that begins at `from` or before, and in which many blocks may matter. Of each step the last chunk is
 // looked at.
 #[inline]
-fn dense_end<B: BitBlock, M: Marks<B>>(marks: M, from: usize, whole: usize) -> usize
+fn dense_end<B: BitBlock, M: Marks<B>>(marks: M, from: usize, whole: usize, few: usize) -> usize
     requires right { M.are_right marks }
     requires forward { from ≤ whole }
     requires fits { (q : ℕ) → q < whole → q * B.width < 2 ^ 64 }
@@ -173,7 +184,7 @@ fn dense_end<B: BitBlock, M: Marks<B>>(marks: M, from: usize, whole: usize) -> u
     let mut end = from;
     let mut step = 1;
     while step <= whole - end {
-        if has_few(marks.at(end + step - 1)) {
+        if marks.at(end + step - 1).count_ones() <= few {
             return end;
         }
         end += step;
@@ -185,7 +196,13 @@ fn dense_end<B: BitBlock, M: Marks<B>>(marks: M, from: usize, whole: usize) -> u
 // The part that begins at chunk `q`, of which `used` says which blocks may matter. As many chunks as `whole` are as long as a block
 // has bits in all lists that are read.
 #[inline(always)]
-fn part_from<B: BitBlock, M: Marks<B>>(marks: M, q: usize, used: B, whole: usize) -> Part<B>
+fn part_from<B: BitBlock, M: Marks<B>>(
+    marks: M,
+    q: usize,
+    used: B,
+    whole: usize,
+    few: usize,
+) -> Part<B>
     requires right { M.are_right marks }
     requires next { q + 1 < 2 ^ 64 }
     requires fits { (n : ℕ) → n < whole → n * B.width < 2 ^ 64 }
@@ -196,7 +213,7 @@ fn part_from<B: BitBlock, M: Marks<B>>(marks: M, q: usize, used: B, whole: usize
     ensures whole { IfNone result.used (result.end ≤ whole) }
     ensures part { IsPart B.width B.number B.is_block (M.may_matter marks) result.first result.end result.used }
 {
-    if whole <= q || has_few(used) {
+    if whole <= q || used.count_ones() <= few {
         return Part {
             first: q,
             end: q + 1,
@@ -205,20 +222,21 @@ fn part_from<B: BitBlock, M: Marks<B>>(marks: M, q: usize, used: B, whole: usize
     }
     Part {
         first: q,
-        end: dense_end(marks, q + 1, whole),
+        end: dense_end(marks, q + 1, whole, few),
         used: None,
     }
 }
 
 /// The next part from chunk `place` on and before chunk `last`, or `None` where no block may matter there. In all lists that are
-/// read the first `whole` chunks have as many blocks as one has bits. The caller goes on at the part's end, and may have written
-/// the blocks before it: no reference is kept.
+/// read the first `whole` chunks have as many blocks as one has bits. Of one of them at most `few` blocks are taken alone. The caller
+/// goes on at the part's end, and may have written the blocks before it: no reference is kept.
 #[inline(always)]
 pub(crate) fn next_part<B: BitBlock, M: Marks<B>>(
     marks: M,
     place: usize,
     whole: usize,
     last: usize,
+    few: usize,
 ) -> Option<Part<B>>
     requires right { M.are_right marks }
     requires forward { place ≤ last }
@@ -232,13 +250,13 @@ pub(crate) fn next_part<B: BitBlock, M: Marks<B>>(
     if place < last {
         let used = marks.at(place);
         if is_nonzero(used) {
-            return Some(part_from(marks, place, used, whole));
+            return Some(part_from(marks, place, used, whole, few));
         }
     }
     for q in pass_groups(marks, place, last)..last {
         let used = marks.at(q);
         if is_nonzero(used) {
-            return Some(part_from(marks, q, used, whole));
+            return Some(part_from(marks, q, used, whole, few));
         }
     }
     None

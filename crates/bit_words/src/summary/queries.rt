@@ -82,18 +82,6 @@ pub(crate) fn chunks_before_zero<B: BitBlock>(summary: &[B]) -> usize
     summary.len()
 }
 
-// Where at most one bit in this many of the blocks of a chunk is in those that are looked at, these are taken one by one, and else
-// all by vector code.
-const FEW: usize = 512;
-
-// Whether few blocks of a chunk are looked at: those at the ones of `used`.
-#[inline(always)]
-pub(crate) fn has_few<B: BitBlock>(used: B) -> bool
-    requires { B.is_block used }
-{
-    used.count_ones() <= B::bits().saturating_mul(B::bits()) / FEW
-}
-
 // The blocks that the first blocks of a summary cover, or all if there are fewer, and the others.
 #[inline]
 pub(crate) fn first_chunks<B: BitBlock>(blocks: &[B], chunks: usize) -> (&[B], &[B])

@@ -1,7 +1,7 @@
 // What a list that has a summary is merged with, where summaries say which blocks of that may have a 1.
 ghost use Rattle.std.specs.Prelude.{◌≡◌, ℕ, ◌-◌, ◌*◌, ◌^◌, ◌<◌, ◌≤◌, ◌&&◌, All, Bool, false, length, map, min, nat_lt, true, ⊤};
 ghost use Rattle.bit_blocks.specs.{BlockMerges.other_at, Merges.merge_of_values, Storage.is_used};
-ghost use Rattle.bit_words.specs.{MergedOnes.may_merge, Parts.IsListed};
+ghost use Rattle.bit_words.specs.Parts.IsListed;
 
 use crate::summary::making::blocks::other_or_zero;
 use crate::summary::parts::{Marks, Merging};
@@ -17,7 +17,6 @@ pub(crate) trait Summarized<B: BitBlock>: Others<B> + Marks<B> {
     fn is_sure(self) -> bool
         requires right { Self.are_right self }
         requires each { Self.are_blocks self }
-        ensures within { (k : ℕ) → Self.may_matter self k ≡ true → k < Self.count self }
         ensures zeros { (k j : ℕ) → Self.may_matter self k ≡ false → Self.digit self k j ≡ false }
         ensures sure { result ≡ true → (k : ℕ) → ((j : ℕ) → j < B.width → Self.digit self k j ≡ false)
             → Self.may_matter self k ≡ false };
@@ -164,17 +163,14 @@ impl<B: BitBlock> Summarized<B> for Zeros {
     }
 }
 
-/// What two sides have in common, or what the one has and the other, which is no shorter, has not: the merge of each two blocks, as
-/// far as both extend.
+/// The merge of each two blocks, as far as both sides extend.
 impl<B: BitBlock, O: Operation, M: Summarized<B>, N: Summarized<B>> Others<B> for Merging<O, M, N> {
     ghost count = { λ both. min (M.count both.first) (N.count both.second) };
 
     ghost digit = { λ both k j. nat_lt k (min (M.count both.first) (N.count both.second))
         && merge_of_values O.merge (M.digit both.first k j) (N.digit both.second k j) };
 
-    ghost are_blocks = { λ both. M.are_blocks both.first × N.are_blocks both.second
-        × ((k : ℕ) → may_merge O.merge (M.may_matter both.first k) (N.may_matter both.second k) ≡ true
-        → k < min (M.count both.first) (N.count both.second)) };
+    ghost are_blocks = { λ both. M.are_blocks both.first × N.are_blocks both.second };
 
     #[inline(always)]
     fn len(self) -> usize {
@@ -200,9 +196,9 @@ impl<B: BitBlock, O: Operation, M: Summarized<B>, N: Summarized<B>> Summarized<B
 /// The bits that two lists have in common.
 pub(crate) type Common<'a, B> = Merging<Intersection, Listed<'a, B>, Listed<'a, B>>;
 
-/// The blocks of one list without the ones of another that is no shorter.
+/// The blocks of one list without the ones of another, as far as that extends.
 pub(crate) type Apart<'a, B> = Merging<Difference, Listed<'a, B>, Listed<'a, B>>;
 
-/// The blocks of one list without the ones of a shorter one. It tests for the end of that at each block, so the compiler makes no
-/// vector code of it.
+/// The blocks of one list without the ones of another, of any length. It tests for the end of that at each block, so the compiler
+/// makes no vector code of it.
 pub(crate) type Outside<'a, B> = Merging<Difference, Listed<'a, B>, Padded<'a, B>>;

@@ -6,7 +6,7 @@ ghost use Rattle.bit_words.specs.{MergedOnes.{may_merge, merged_ones}, Parts.{Is
 
 use crate::summary::counts::{count_merged_blocks, ones_of_both, ones_of_used};
 use crate::summary::is_short;
-use crate::summary::parts::{Merging, Part, next_part};
+use crate::summary::parts::{Merging, Part, few_of_counts, next_part};
 use crate::summary::queries::{first_chunks, ones_of_runs};
 use crate::summary::summarized::Listed;
 use crate::summary::ways::{MergedBy, keeps_other, keeps_own};
@@ -71,6 +71,7 @@ fn ones_of_long<B: BitBlock, O: Operation>(own: Listed<B>, others: Listed<B>) ->
         ≡ merged_ones O.merge B.width (map B.number own.entry.blocks.now) (map B.number others.entry.blocks.now) 0 n }
 {
     let both = own.blocks.len().min(others.blocks.len());
+    let whole = block_index::<B>(both);
     let last = block_count::<B>(both);
     let marks = Merging {
         first: own,
@@ -79,7 +80,7 @@ fn ones_of_long<B: BitBlock, O: Operation>(own: Listed<B>, others: Listed<B>) ->
     };
     let mut ones = 0;
     let mut place = 0;
-    while let Some(part) = next_part(marks, place, block_index::<B>(both), last) {
+    while let Some(part) = next_part(marks, place, whole, last, few_of_counts::<B>()) {
         ones += ones_of_part::<B, O>(own.blocks, others.blocks, part);
         place = part.end;
     }
