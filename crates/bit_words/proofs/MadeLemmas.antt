@@ -1,11 +1,11 @@
 -- What the blocks of a list become by others, and their summary with them.
-use Rattle.std.proofs.Common.{◌≡◌, ◌≢◌, ℕ, zero, suc, ◌+◌, ◌-◌, ◌*◌, ◌^◌, ◌<◌, ◌≤◌, ◌==◌, ◌↔◌, Bool, true, false, not, ◌&&◌, ◌||◌, List, map, length, get_or, All, refl, sym, subst, ap, ap₂, ◌∙◌, arith, ⊎_elim, mul-le-mul_right}
+use Rattle.std.proofs.Common.{◌≡◌, ◌≢◌, ℕ, zero, suc, ◌+◌, ◌-◌, ◌*◌, ◌^◌, ◌<◌, ◌≤◌, ◌==◌, ◌↔◌, Bool, true, false, not, min, nat_lt, ◌&&◌, ◌||◌, List, map, length, get_or, All, refl, sym, subst, ap, ap₂, ◌∙◌, arith, ⊎_elim, mul-le-mul_right}
 use Rattle.std.specs.Int.{bit_at}
-use Rattle.std.proofs.lemmas.List.{get_or_past, length-map}
+use Rattle.std.proofs.lemmas.{List.{get_or-map, get_or_past, length-map, same_lists}, Nat.Bits.same_from_bits_below}
 use Rattle.std.proofs.lemmas.Bool.{cases_lt, cases_eq, true≢false, Decides.nat_tests}
 use Rattle.bit_blocks.specs.{Bits.blocks_for, Digits.is_one, Lowest.{IsLowest, IsCleared}, Merges.merge_of_values, declared.block.merge.Merge.Merge}
-use Rattle.bit_blocks.specs.{BlockMerges.{AreKept, AreOthers, HasMerged, HaveBecome}, Storage.{is_used, value_at}}
-use Rattle.bit_blocks.proofs.{BitsLemmas.blocks_for-least, CompareLemmas.zero_from_digits, Masks.is_one-zero, StorageLemmas.value_at-index, UseLemmas.{used_from_true, used_past}, VectorLemmas.numbers_below}
+use Rattle.bit_blocks.specs.{BlockMerges.{except_at, other_at, AreKept, AreOthers, HasMerged, HaveBecome}, Storage.{is_used, value_at}}
+use Rattle.bit_blocks.proofs.{BitsLemmas.blocks_for-enough, CompareLemmas.zero_from_digits, Masks.is_one-zero, StorageLemmas.{same_digit, value_at-index}, UseLemmas.{used_from_true, used_past}, VectorLemmas.numbers_below}
 use Rattle.bit_words.proofs.SummaryLemmas.{summary_of_blocks}
 use Rattle.bit_words.specs.{Made.{made_at, AreMade, Remain, Tells}, Parts.Passed, Summary.IsSummary}
 
@@ -54,10 +54,6 @@ true_unless b false lacks is = absurd (true≢false (sym is ∙ lacks refl))
 pub false_unless : (b : Bool) → (b ≡ true → ⊥) → b ≡ false
 false_unless false none = refl
 false_unless true none = absurd (none refl)
-
--- a chunk begins at a block of the list
-pub chunk_begins : (w n q : ℕ) → 0 < w → q < blocks_for w n → q * w < n
-chunk_begins w n q pos within = ⊎_elim (λ below. below) (λ past. absurd (omega (arith, within, blocks_for-least w n q pos past))) (cases_lt (q * w) n)
 
 -- ---- what may not change
 
@@ -271,3 +267,68 @@ followed becomes w first end f P other may xs ys ss ts pos below each is made ma
     (λ (late : end ≤ q). apart (made.after k (omega (arith, mul-le-mul_right w late))) (marks.after q late))
     (cases_lt q end))
     (cases_lt q first))
+
+module _ {X : Type 0} (becomes : Bool → Bool → Bool) (w : ℕ) (f : X → ℕ) (P : X → Type 0) where
+  -- by others that are the same there
+  pub made_same : (a b : ℕ) (d e : ℕ → ℕ → Bool) (xs ys : List X) → ((k j : ℕ) → a ≤ k → k < b → d k j ≡ e k j) → AreMade becomes w f P a b d xs ys
+      → AreMade becomes w f P a b e xs ys
+  made_same a b d e xs ys same is = record {
+    digit = λ k j from below index. is.digit k j from below index ∙ ap (becomes (is_one (get_or (map f xs) k 0) j)) (same k j from below);
+    before = is.before;
+    after = is.after;
+    each = is.each;
+    len = is.len;
+  }
+
+  -- a whole list, whose chunks were made before the one past which it stays
+  pub made_whole : (other : ℕ → ℕ → Bool) (chunks last : ℕ) (xs : List X) (count : ℕ) (ys : List X) → 0 < w → chunks ≡ blocks_for w (length xs) → blocks_for w count ≤ last
+      → (last < chunks → (x : Bool) → becomes x false ≡ x) → ((k j : ℕ) → count ≤ k → other k j ≡ false) → AreMade becomes w f P (0 * w) (last * w) other xs ys
+      → AreMade becomes w f P 0 (length xs) other xs ys
+  made_whole other chunks last xs count ys pos all enough rest past is = record {
+    digit = λ k j _ below index.
+        ⊎_elim
+        (λ inside. is.digit k j (omega arith) inside index)
+        (λ (beyond : last * w ≤ k).
+        let few : last < chunks =
+        ⊎_elim (λ less. less) (λ more. absurd (omega (arith, below, beyond, blocks_for-enough w (length xs) pos, ap (λ n. n * w) all, mul-le-mul_right w more))) (cases_lt last chunks) in
+        let none : other k j ≡ false = past k j (omega (arith, beyond, blocks_for-enough w count pos, mul-le-mul_right w enough)) in
+        ap (λ n. is_one n j) (is.after k beyond) ∙ sym (ap (becomes (is_one (get_or (map f xs) k 0) j)) none ∙ rest few (is_one (get_or (map f xs) k 0) j)))
+        (cases_lt k (last * w));
+    before = λ k none. absurd (omega arith);
+    after = λ k beyond. get_or_past (map f ys) k 0 (rw length-map (omega (arith, is.len, beyond))) ∙ sym (get_or_past (map f xs) k 0 (rw length-map beyond));
+    each = is.each;
+    len = is.len;
+  }
+
+-- ---- a difference
+
+-- as far as both lists extend, before the end of the second
+pub apart_digit : (os es : List ℕ) (a b k j : ℕ) → length os ≡ a → k < b → (nat_lt k (min a b) && except_at os es k j) ≡ except_at os es k j
+apart_digit os es a b k j is inside =
+    ⊎_elim
+    (λ (here : k < a). grind (arith, nat_tests, here, inside))
+    (λ (past : a ≤ k). grind (arith, nat_tests, get_or_past os k 0 (omega (arith, is, past)), is_one-zero j))
+    (cases_lt k a)
+
+-- and where zeros come past the second
+pub outside_digit : (os es : List ℕ) (a p k j : ℕ) → length os ≡ a → a ≤ p
+    → (nat_lt k (min a p) && (is_one (get_or os k 0) j && not (nat_lt k p && is_one (get_or es k 0) j))) ≡ except_at os es k j
+outside_digit os es a p k j is no_less =
+    ⊎_elim
+    (λ (here : k < a). grind (arith, nat_tests, here, no_less))
+    (λ (past : a ≤ k). grind (arith, nat_tests, get_or_past os k 0 (omega (arith, is, past)), is_one-zero j))
+    (cases_lt k a)
+
+module _ {X : Type 0} (number : X → ℕ) (is_block : X → Type 0) (w : ℕ) (below : (x : X) → is_block x → number x < 2 ^ w) where
+  -- a list that became another
+  pub copied : (n : ℕ) (block : ℕ → X) (xs ys zs : List X) → ((x : X) → is_block x → block (number x) ≡ x) → All is_block zs → length xs ≤ n → length zs ≡ length xs
+      → HaveBecome w number is_block (0 * w) n (other_at (map number zs)) xs ys → ys ≡ zs
+  copied n block xs ys zs back each enough alike is =
+      let len : length ys ≡ length zs = omega (arith, is.len, alike) in
+      same_lists ys zs len (λ k d within.
+      let there : k < length zs = omega (arith, within, len) in
+      let same : get_or (map number ys) k 0 ≡ get_or (map number zs) k 0 =
+      same_from_bits_below w _ _ (numbers_below w number is_block ys below is.each k) (numbers_below w number is_block zs below each k)
+      (λ j index. same_digit _ _ j (is.digit k j (omega arith) (omega (arith, within, is.len, enough)) index)) in
+      let numbers : number (get_or ys k d) ≡ number (get_or zs k d) = sym (get_or-map number ys k d 0 within) ∙ same ∙ get_or-map number zs k d 0 there in
+      sym (back (get_or ys k d) (is.each k d within)) ∙ ap block numbers ∙ back (get_or zs k d) (each k d there))

@@ -13,6 +13,24 @@ use bit_blocks::packed::copies::{copy_blocks, copy_of};
 use bit_blocks::packed::tail_copies::copy_bits_from;
 use std::alloc::{AllocError, Global};
 
+// The blocks become those of `from`, which has as many, and the summary follows. Blocks that are 0 in both lists are passed over.
+#[inline(never)]
+fn copy_parts<B: BitBlock>(blocks: &mut [B], summary: &mut [B], from: &[B], from_summary: &[B])
+    requires as_long { length from.now ≡ length blocks.old }
+    requires each { All B.is_block blocks.old }
+    requires from { All B.is_block from.now }
+    requires summary { IsSummary B.width B.number B.is_block blocks.old summary.old }
+    requires from_summary { IsStoredSummary B.width B.number B.is_block from.now from_summary.now }
+    ensures { blocks.new ≡ from.now }
+{
+    let chunks = summary.len();
+    let list = Listed {
+        blocks: from,
+        summary: from_summary,
+    };
+    let _changed = make_parts::<B, Replaced, Listed<B>>(blocks, summary, list, 0, chunks, true);
+}
+
 // A copy of fewer chunks takes about as long as to tell whether they are worth skipping.
 const MANY_CHUNKS: usize = 16;
 
@@ -37,12 +55,7 @@ fn copy_past_zeros<B: BitBlock>(
         && blocks.len() == from.len()
         && !is_short::<B>(from.len())
     {
-        let chunks = summary.len();
-        let list = Listed {
-            blocks: from,
-            summary: from_summary,
-        };
-        let _changed = make_parts::<B, Replaced, Listed<B>>(blocks.as_mut_slice(), summary, list, 0, chunks, true);
+        copy_parts(blocks.as_mut_slice(), summary, from, from_summary);
     } else {
         copy_blocks(blocks, from);
     }

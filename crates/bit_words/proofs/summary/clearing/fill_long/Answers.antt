@@ -1,10 +1,18 @@
-use Rattle.std.proofs.Common.{◌≡◌, length, arith}
-use Rattle.bit_words.{proofs.SummaryLemmas.filled_summary}
+use Rattle.std.proofs.Common.{◌≡◌, ℕ, ◌∙◌, false, length, map, sym, arith}
+use Rattle.bit_blocks.specs.Storage.{value_at}
+use Rattle.bit_words.proofs.{ClearedLemmas.cleared_all, ComparedLemmas.summary_enough, SummaryLemmas.filled_summary}
+use Rattle.bit_words.proofs.summary.clearing.fill_long.{Given.Over, Goals.After-clear_chunks}
 use Rattle.bit_words.proofs.summary.clearing.fill_long.Goals as goal
 
-pub returns-clause-summary : goal.returns-clause-summary
-returns-clause-summary g c =
-    let count : length c.fill_blocks.new.blocks.items ≡ c.len.result = omega arith in
-    filled_summary g.B.BitBlock.width _ g.B.BitBlock.number g.B.BitBlock.is_block c.fill_blocks.new.blocks.items c.fill_bits.new.blocks.items c.args.bit g.met.B.BitBlock.width_law.positive
-    (λ x is. (g.met.B.BitBlock.number_law x is).0) c.fill_blocks.ensures.packed c.fill_blocks.ensures.filled
-    (rw (← count) at c.fill_bits.ensures.packed) (λ k within. c.fill_bits.ensures.filled k (omega arith))
+pub returns-then-bit-clause-summary : goal.returns-then-bit-clause-summary
+returns-then-bit-clause-summary g c =
+    let count : length c.fill_bits.new.blocks.items ≡ c.len.result = omega arith in
+    filled_summary g.B.BitBlock.width _ g.B.BitBlock.number g.B.BitBlock.is_block c.fill_bits.new.blocks.items c.fill_bits-2.new.blocks.items c.args.bit
+    g.met.B.BitBlock.width_law.positive (λ x is. (g.met.B.BitBlock.number_law x is).0) c.fill_bits.ensures.packed c.fill_bits.ensures.filled
+    (rw (← count) at c.fill_bits-2.ensures.packed) (λ k within. c.fill_bits-2.ensures.filled k (omega arith))
+
+-- no value is true in blocks that are 0
+falses : (g : Over) (c : After-clear_chunks g) (i : ℕ) → value_at g.B.BitBlock.width (map g.B.BitBlock.number c.clear_chunks.new.blocks) i ≡ false
+falses g c =
+    cleared_all _ _ g.B.BitBlock.number g.B.BitBlock.is_block _ _ g.met.B.BitBlock.width_law.positive
+    (summary_enough _ _ _ _ _ g.met.B.BitBlock.width_law.positive c.requires.summary) c.clear_chunks.ensures.cleared

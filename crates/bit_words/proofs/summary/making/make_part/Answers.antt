@@ -16,7 +16,7 @@ pub make_touched-requires-clause-within : goal.make_touched-requires-clause-with
 make_touched-requires-clause-within g c = λ p index one.
     let digits = rw c.in-Some.is at c.requires.part.digit in
     change_inside g.K.Way.becomes g.K.Way.may_change g.B.BitBlock.width _ _ _ _ _ _ g.met.K.Way.stays c.is_sure-sure.ensures.zeros c.requires.summary
-    g.met.K.Way.none (λ k may. omega (arith, c.is_sure-sure.ensures.within k may, c.requires.can.fewer)) _ (sym (digits p index) ∙ one)
+    g.met.K.Way.none c.requires.inside _ (sym (digits p index) ∙ one)
 
 pub make_touched-requires-clause-stay : goal.make_touched-requires-clause-stay
 make_touched-requires-clause-stay g c = λ p j index digit none.

@@ -1,6 +1,7 @@
 use Rattle.std.proofs.Common.{◌≡◌, ℕ, ◌+◌, ◌*◌, ◌^◌, ◌<◌, ◌≤◌, ◌∙◌, length, refl, ap, arith, mul-le-mul_right}
 use Rattle.std.proofs.Math.Nat.{le-div_iff_mul-le}
-use Rattle.bit_words.proofs.{MadeLemmas.{chunk_begins, made_more, made_stay, passed_remain, tells_more}, PartLemmas.if_none}
+use Rattle.bit_blocks.proofs.BitsLemmas.{whole_before}
+use Rattle.bit_words.proofs.{MadeLemmas.{made_more, made_stay, passed_remain, tells_more}, PartLemmas.if_none}
 use Rattle.bit_words.proofs.summary.making.make_parts.Goals as goal
 
 pub loop-part-init : goal.loop-part-init
@@ -21,12 +22,12 @@ next_part-requires-clause-right g c = (c.loop-part.invariant.makes.summary.packe
 pub next_part-requires-clause-fits : goal.next_part-requires-clause-fits
 next_part-requires-clause-fits g c = λ q below.
     let all = c.loop-part.invariant.makes.summary.packed in
-    let inside = chunk_begins g.B.BitBlock.width (length c.loop-part.blocks) q g.met.B.BitBlock.width_law.positive
+    let inside = whole_before g.B.BitBlock.width (length c.loop-part.blocks) q g.met.B.BitBlock.width_law.positive
     (omega (arith, below, c.requires.within, c.loop-part.invariant.makes.summary_len, all.count)) in
     omega (arith, inside, all.fits)
 
-pub make_part-requires : goal.make_part-requires
-make_part-requires g c =
+pub make_part-changes-requires : goal.make_part-changes-requires
+make_part-changes-requires g c =
     let w = g.B.BitBlock.width in
     let is = c.loop-part.invariant.makes in
     let found = c.in-Some.ensures in
@@ -39,6 +40,7 @@ make_part-requires g c =
           let inside : c.in-Some.part.end * w ≤ c.len.result =
           (le-div_iff_mul-le g.met.B.BitBlock.width_law.positive).0 (omega (arith, within, c.min-whole.ensures, c.block_index.ensures)) in
           omega (arith, inside, c.len.ensures.value)) found.whole;
+      inside = λ k may. omega (arith, c.requires.inside k may, is.made.len);
       part = found.part;
     }
 
