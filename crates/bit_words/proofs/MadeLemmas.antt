@@ -310,6 +310,14 @@ apart_digit os es a b k j is inside =
     (λ (past : a ≤ k). grind (arith, nat_tests, get_or_past os k 0 (omega (arith, is, past)), is_one-zero j))
     (cases_lt k a)
 
+-- what both have in common
+pub common_digit : (os ps : List ℕ) (a b k j : ℕ) → length os ≡ a → length ps ≡ b → (nat_lt k (min a b) && (is_one (get_or os k 0) j && is_one (get_or ps k 0) j)) ≡ (is_one (get_or os k 0) j && is_one (get_or ps k 0) j)
+common_digit os ps a b k j is also =
+    ⊎_elim
+    (λ (here : k < min a b). grind (arith, nat_tests, here))
+    (λ (past : min a b ≤ k). grind (arith, nat_tests, past, is, also, get_or_past os k 0, get_or_past ps k 0, is_one-zero j))
+    (cases_lt k (min a b))
+
 -- and where zeros come past the second
 pub outside_digit : (os es : List ℕ) (a p k j : ℕ) → length os ≡ a → a ≤ p
     → (nat_lt k (min a p) && (is_one (get_or os k 0) j && not (nat_lt k p && is_one (get_or es k 0) j))) ≡ except_at os es k j

@@ -33,16 +33,6 @@ pub from_if_none : {A : Type 0} (o : Option A) (P : Type 0) → is_some o ≡ fa
 from_if_none None P none is = is
 from_if_none (Some x) P none is = absurd (false≢true (sym none))
 
--- what says which blocks may matter may be another, where it says the same of them
-pub part_same : {X : Type 0} (w : ℕ) (number : X → ℕ) (is_block : X → Type 0) (may same : ℕ → Bool) (first end : ℕ) (used : Option X)
-    → ((k : ℕ) → first * w ≤ k → may k ≡ same k) → IsPart w number is_block may first end used → IsPart w number is_block same first end used
-part_same w number is_block may same first end used alike is = record {
-  some = is.some;
-  single = is.single;
-  of_block = is.of_block;
-  digit = if_some used _ _ (λ x digits p within. digits p within ∙ alike (first * w + p) (omega arith)) is.digit;
-}
-
 -- ---- summaries
 
 -- one of which a block is stored is about many blocks

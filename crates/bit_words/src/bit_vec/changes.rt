@@ -31,10 +31,11 @@ impl<B: BitBlock> BitVec<B> {
         )
     }
 
-    /// Each value becomes its merge with that of `other`, as in [`merge_blocks`](Self::merge_blocks). Returns
-    /// whether a value changed. `other` must not be longer. Allocates nothing. Blocks are written from the first
-    /// group in which one changes: that group is read twice. A long list is merged by chunks, each the blocks that
-    /// one block of the summary covers; by both summaries it skips chunks in which no block can change.
+    /// Each value becomes its merge with that of `other`, as in [`merge_blocks`](Self::merge_blocks). Returns whether
+    /// a value changed. `other` must not be longer. Allocates nothing. Blocks are written from the first group in
+    /// which one changes: that group is read twice. A long list is merged by chunks, each the blocks that one block
+    /// of the summary covers; by both summaries it skips blocks that cannot change, and of a chunk in which few can
+    /// it writes these at once.
     ///
     /// ```
     /// // Some value of `other` is true that is not in `bits`.
@@ -114,9 +115,8 @@ impl<B: BitBlock> BitVec<B> {
     /// Each value becomes true if it is true in `other` and not in `except`, and otherwise false. Returns whether a
     /// value changed. `other` must not be longer than the list, whose values past its end become false; `except`
     /// may be, and counts as false past its end. Allocates nothing. Blocks are written from the first group in
-    /// which one changes: that group is read twice, and the summary is then made anew. If the list is long and few
-    /// blocks of `other` are nonzero, it is merged by chunks, in two passes: the first removes what is not in the
-    /// difference, and the second inserts the rest of it.
+    /// which one changes: that group is read twice. A long list is merged by chunks, as in
+    /// [`merge_changes`](Self::merge_changes).
     ///
     /// ```
     /// // left = asked & !given

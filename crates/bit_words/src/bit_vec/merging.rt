@@ -10,9 +10,9 @@ use bit_blocks::packed::counted::merge_counted;
 use bit_blocks::steps::Steps;
 
 impl<B: BitBlock> BitVec<B> {
-    /// Each value becomes its merge with that of `other`, which is false past its end. The other must
-    /// not be longer. Takes no memory. Takes one step for each block, which is read and written once, and then makes the
-    /// summary anew. [`merge`](Self::merge) counts no steps, and is faster.
+    /// Each value becomes its merge with that of `other`, which is false past its end. The other must not be longer.
+    /// Takes no memory. Takes one step for each block, which is read and written once, and then makes the summary
+    /// anew. [`merge`](Self::merge) counts no steps, and is faster.
     pub fn merge_blocks(&mut self, other: &Self, merge: Merge, steps: &mut Steps)
         requires { length other.now.values ≤ length self.old.values }
         ensures values { self.new.values ≡ merge_of merge self.old.values other.now.values }
@@ -24,9 +24,9 @@ impl<B: BitBlock> BitVec<B> {
         remake_summary(&mut self.summary, &self.blocks);
     }
 
-    /// Each value becomes its merge with that of `other`, which is false past its end. The other must not be longer. Takes
-    /// no memory. Of a long list it passes over blocks that by the summaries of both cannot change. Each other one is read
-    /// and written at most once: no clause says so, but the test `scaling` bounds the instructions.
+    /// Each value becomes its merge with that of `other`, which is false past its end. The other must not be longer.
+    /// Takes no memory. Of a long list it passes over blocks that by the summaries of both cannot change. Each other
+    /// one is read and written at most once: no clause says so, but the test `scaling` bounds the instructions.
     ///
     /// ```
     /// // Of three values those at 0 and 1 are true, and those at 1 and 2 of `other`.

@@ -1,7 +1,7 @@
 // All values of a list set to one value, and the summary with them. Blocks that are 0 by it are skipped if they all
 // become false.
 ghost use Rattle.std.specs.Prelude.{◌≡◌, ℕ, ◌*◌, ◌<◌, ◌≤◌, All, false, length, map, vec_capacity};
-ghost use Rattle.bit_blocks.specs.{BlockMerges.HaveBecome, Storage.{value_at, IsPacked}};
+ghost use Rattle.bit_blocks.specs.{BlockMerges.HaveBecome, Storage.{value_at, IsPacked, WritesInPlace}};
 ghost use Rattle.bit_words.specs.Summary.{IsStoredSummary, IsSummary};
 
 use crate::summary::is_short;
@@ -13,12 +13,7 @@ use bit_blocks::packed::resizing::fill_bits;
 
 // The chunks from `first` up to `end` become 0, and the summary follows. Blocks that it says are 0 are passed over.
 #[inline(never)]
-pub(crate) fn clear_chunks<B: BitBlock>(
-    blocks: &mut [B],
-    summary: &mut [B],
-    first: usize,
-    end: usize,
-)
+fn clear_parts<B: BitBlock>(blocks: &mut [B], summary: &mut [B], first: usize, end: usize)
     requires forward { first ≤ end }
     requires in_summary { end ≤ length summary.old }
     requires each { All B.is_block blocks.old }
@@ -34,8 +29,28 @@ pub(crate) fn clear_chunks<B: BitBlock>(
     let _changed = make_parts::<B, Replaced, Zeros>(blocks, summary, zeros, first, end, true);
 }
 
-// The values of a list that stores a summary become as many values `bit`, and the summary theirs. It is a separate function, so that
-// a short list saves no registers for it.
+// Does so with the blocks of vectors.
+pub(crate) fn clear_chunks<B: BitBlock>(
+    blocks: &mut Vec<B>,
+    summary: &mut Vec<B>,
+    first: usize,
+    end: usize,
+)
+    requires forward { first ≤ end }
+    requires in_summary { end ≤ length summary.old.items }
+    requires each { All B.is_block blocks.old.items }
+    requires summary { IsSummary B.width B.number B.is_block blocks.old.items summary.old.items }
+    ensures cleared { HaveBecome B.width B.number B.is_block (first * B.width) (end * B.width) (λ k j. false)
+        blocks.old.items blocks.new.items }
+    ensures in_place { WritesInPlace B.is_block blocks.old blocks.new }
+    ensures summary { IsSummary B.width B.number B.is_block blocks.new.items summary.new.items }
+    ensures summary_capacity { vec_capacity summary.new ≡ vec_capacity summary.old }
+{
+    clear_parts(blocks.as_mut_slice(), summary.as_mut_slice(), first, end);
+}
+
+// The values of a list that stores a summary become as many values `bit`, and the summary theirs. It is a separate
+// function, so that a short list saves no registers for it.
 #[inline(never)]
 fn fill_long<B: BitBlock>(blocks: &mut Vec<B>, summary: &mut Vec<B>, len: usize, bit: bool)
     requires packed { IsPacked B.width B.number B.is_block blocks.old.items len }
@@ -51,7 +66,7 @@ fn fill_long<B: BitBlock>(blocks: &mut Vec<B>, summary: &mut Vec<B>, len: usize,
         fill_bits(summary, blocks.len(), bit);
     } else {
         let chunks = summary.len();
-        clear_chunks(blocks.as_mut_slice(), summary.as_mut_slice(), 0, chunks);
+        clear_chunks(blocks, summary, 0, chunks);
     }
 }
 

@@ -1,6 +1,8 @@
 // Where two lists of blocks first differ, by their summaries. A block past the end of a list counts as 0.
-ghost use Rattle.std.specs.Prelude.{◌≡◌, ℕ, ◌+◌, ◌*◌, ◌^◌, ◌<◌, ◌≤◌, ◌↔◌, All, IsTrue, MatchOption, false, true, get_or, length, map, max, min};
-ghost use Rattle.bit_blocks.specs.{Digits.is_one, Mismatches.IsFirstBlockMismatch, Storage.is_used, declared.block.merge.Merge.Merge};
+ghost use Rattle.std.specs.Prelude.{◌≡◌, ℕ, ◌+◌, ◌*◌, ◌^◌, ◌<◌, ◌≤◌, ◌↔◌, All, IsTrue, MatchOption, false, true};
+ghost use Rattle.std.specs.Prelude.{get_or, length, map, max, min};
+ghost use Rattle.bit_blocks.specs.{Digits.is_one, Mismatches.IsFirstBlockMismatch, Storage.is_used};
+ghost use Rattle.bit_blocks.specs.declared.block.merge.Merge.{Merge};
 ghost use Rattle.bit_words.specs.{MergedOnes.may_merge, Parts.{IsListed, IsPart}, Summary.IsStoredSummary};
 
 use crate::summary::parts::{Merging, Part, few_of_vectors, next_part};
@@ -90,7 +92,8 @@ fn mismatch_of_part<B: BitBlock>(blocks: &[B], others: &[B], part: Part<B>) -> O
     }
 }
 
-// The first block that differs, where those that both lists have are the same: of the longer list, the first that is not 0.
+// The first block that differs, where those that both lists have are the same: of the longer list, the first that is
+// not 0.
 #[inline]
 fn mismatch_past<B: BitBlock>(own: Listed<B>, others: Listed<B>) -> Option<usize>
     requires own { IsListed B.width B.number B.is_block own.blocks.now own.summary.now }
@@ -137,7 +140,8 @@ fn mismatch_of_long<B: BitBlock>(own: Listed<B>, others: Listed<B>) -> Option<us
     mismatch_past(own, others)
 }
 
-// Whether two lists have the same blocks, by their summaries if there are many. Most lists that differ do so in the first block.
+// Whether two lists have the same blocks, by their summaries if there are many. Most lists that differ do so in the
+// first block.
 #[inline]
 pub(crate) fn same_by_summaries<B: BitBlock>(
     blocks: &[B],

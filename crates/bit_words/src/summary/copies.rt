@@ -13,7 +13,8 @@ use bit_blocks::packed::copies::{copy_blocks, copy_of};
 use bit_blocks::packed::tail_copies::copy_bits_from;
 use std::alloc::{AllocError, Global};
 
-// The blocks become those of `from`, which has as many, and the summary follows. Blocks that are 0 in both lists are passed over.
+// The blocks become those of `from`, which has as many, and the summary follows. Blocks that are 0 in both lists are
+// passed over.
 #[inline(never)]
 fn copy_parts<B: BitBlock>(blocks: &mut [B], summary: &mut [B], from: &[B], from_summary: &[B])
     requires as_long { length from.now ≡ length blocks.old }

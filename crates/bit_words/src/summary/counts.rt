@@ -1,5 +1,5 @@
-// How many ones the merge of two lists of blocks has. The merge is not made, and if a summary is stored it says which blocks are
-// read.
+// How many ones the merge of two lists of blocks has. The merge is not made, and if a summary is stored it says which
+// blocks are read.
 ghost use Rattle.std.specs.Prelude.{◌≡◌, ◌+◌, ◌^◌, ◌<◌, ◌≤◌, All, length, map, max, min};
 ghost use Rattle.bit_words.specs.MergedOnes.{merged_ones, CoversMerged};
 

@@ -18,8 +18,8 @@ use bit_blocks::packed::differences::first_difference_except;
 use bit_blocks::packed::others::Except;
 use std::marker::PhantomData;
 
-// The blocks of a long list become what they do by the others without the ones of `except`, and the summary follows. Past the chunk
-// in which `except` ends these are the others.
+// The blocks of a long list become what they do by the others without the ones of `except`, and the summary follows.
+// Past the chunk in which `except` ends these are the others.
 #[inline(never)]
 fn make_difference<B: BitBlock, K: Way>(
     blocks: &mut [B],
@@ -32,7 +32,8 @@ fn make_difference<B: BitBlock, K: Way>(
     requires others { IsListed B.width B.number B.is_block others.blocks.now others.summary.now }
     requires except { IsListed B.width B.number B.is_block except.blocks.now except.summary.now }
     ensures made { AreMade K.becomes B.width B.number B.is_block 0 (length blocks.old)
-        (except_at (map B.number others.entry.blocks.now) (map B.number except.entry.blocks.now)) blocks.old blocks.new }
+        (except_at (map B.number others.entry.blocks.now) (map B.number except.entry.blocks.now))
+        blocks.old blocks.new }
     ensures kept { (result ≡ false) ↔ AreKept (map B.number blocks.old) (map B.number blocks.new) }
     ensures summary { IsSummary B.width B.number B.is_block blocks.new summary.new }
     ensures summary_len { length summary.new ≡ length summary.old }
@@ -58,7 +59,8 @@ fn make_difference<B: BitBlock, K: Way>(
     make_parts::<B, K, Listed<B>>(blocks, summary, others, next, last, changed)
 }
 
-// Each block of a short list becomes its union with the others, without the ones of `except`. Returns whether one changed.
+// Each block of a short list becomes its union with the others, without the ones of `except`. Returns whether one
+// changed.
 #[inline]
 fn unite_short<B: BitBlock>(blocks: &mut [B], others: &[B], except: &[B]) -> bool
     requires can { CanMerge B.is_block blocks.old (length others.now) (All B.is_block others.now) }
@@ -92,7 +94,8 @@ pub(crate) fn unite_difference<B: BitBlock>(
     requires others { IsListed B.width B.number B.is_block others.blocks.now others.summary.now }
     requires except { IsListed B.width B.number B.is_block except.blocks.now except.summary.now }
     ensures has { HasMerged Merge.Union B.width B.number B.is_block 0 (length blocks.old)
-        (except_at (map B.number others.entry.blocks.now) (map B.number except.entry.blocks.now)) blocks.old blocks.new }
+        (except_at (map B.number others.entry.blocks.now) (map B.number except.entry.blocks.now))
+        blocks.old blocks.new }
     ensures kept { (result ≡ false) ↔ AreKept (map B.number blocks.old) (map B.number blocks.new) }
     ensures summary { IsStoredSummary B.width B.number B.is_block blocks.new summary.new }
     ensures summary_len { length summary.new ≡ length summary.old }

@@ -1,7 +1,9 @@
 // Whether the blocks of two lists merge to zeros, by their summaries: within one another, or apart.
 ghost use Rattle.std.specs.Prelude.{◌≡◌, ℕ, ◌*◌, ◌^◌, ◌<◌, ◌≤◌, ◌↔◌, All, IfNone, IsTrue, length, map, max, min};
-ghost use Rattle.bit_blocks.specs.{Bits.blocks_for, BlockMerges.MergesToFalse, Storage.is_used, declared.block.merge.Merge.Merge};
-ghost use Rattle.bit_words.specs.{MergedOnes.{may_merge, merged_ones}, Parts.{IsListed, IsPart}, Summary.IsStoredSummary};
+ghost use Rattle.bit_blocks.specs.{Bits.blocks_for, BlockMerges.MergesToFalse, Storage.is_used};
+ghost use Rattle.bit_blocks.specs.declared.block.merge.Merge.{Merge};
+ghost use Rattle.bit_words.specs.{MergedOnes.{may_merge, merged_ones}, Parts.{IsListed, IsPart}};
+ghost use Rattle.bit_words.specs.Summary.{IsStoredSummary};
 
 use crate::summary::counts::by_summaries::ones_of_part;
 use crate::summary::is_short;
@@ -53,7 +55,8 @@ fn merge_is_zero<B: BitBlock, O: Operation>(own: Listed<B>, others: Listed<B>) -
     requires others { IsListed B.width B.number B.is_block others.blocks.now others.summary.now }
     requires fits { (n : ℕ)
         → merged_ones O.merge B.width (map B.number own.blocks.now) (map B.number others.blocks.now) 0 n < 2 ^ 64 }
-    ensures { IsTrue result ↔ (merged_ones O.merge B.width (map B.number own.entry.blocks.now) (map B.number others.entry.blocks.now)
+    ensures { IsTrue result
+        ↔ (merged_ones O.merge B.width (map B.number own.entry.blocks.now) (map B.number others.entry.blocks.now)
         0 (blocks_for B.width (min (length own.entry.blocks.now) (length others.entry.blocks.now)) * B.width) ≡ 0) }
 {
     let both = own.blocks.len().min(others.blocks.len());

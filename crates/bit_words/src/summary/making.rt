@@ -1,5 +1,5 @@
-// Blocks of a long list that become others, in some way, and the summary with them: of the chunks, the blocks that a block of the
-// summary is about, by the walk over those that may change.
+// Blocks of a long list that become others, in some way, and the summary with them: of the chunks, the blocks that a
+// block of the summary is about, by the walk over those that may change.
 ghost use Rattle.std.specs.Prelude.{◌≡◌, ℕ, ◌+◌, ◌*◌, ◌<◌, ◌≤◌, Bool, IfNone, false, length, map, min, true};
 ghost use Rattle.bit_blocks.specs.{Bits.blocks_for, BlockMerges.CanMerge, Storage.value_at};
 ghost use Rattle.bit_words.specs.{Made.{AreMade, Makes, Tells}, Parts.IsPart, Summary.IsSummary};
@@ -95,21 +95,21 @@ fn make_run<B: BitBlock, K: Way, S: Summarized<B>>(
         blocks.old summary.old blocks.new summary.new }
     ensures tells { Tells changed result (map B.number blocks.old) (map B.number blocks.new) }
 {
-    let mut from = first;
-    if !changed {
-        let width = B::bits();
-        let found = K::first_change(&*blocks, others, first * width, end * width);
-        let Some(place) = found else {
-            return false;
-        };
-        from = block_index::<B>(place);
+    if changed {
+        make_chunks::<B, K, S>(blocks, summary, others, first, end);
+        return true;
     }
-    make_chunks::<B, K, S>(blocks, summary, others, from, end);
+    let width = B::bits();
+    let found = K::first_change(&*blocks, others, first * width, end * width);
+    let Some(place) = found else {
+        return false;
+    };
+    make_chunks::<B, K, S>(blocks, summary, others, block_index::<B>(place), end);
     true
 }
 
-// The chunks of a part become what they do by the others, and the summary follows them. Returns whether a block changed, or one
-// did before.
+// The chunks of a part become what they do by the others, and the summary follows them. Returns whether a block
+// changed, or one did before.
 #[inline(always)]
 fn make_part<B: BitBlock, K: Way, S: Summarized<B>>(
     blocks: &mut [B],
@@ -143,8 +143,8 @@ fn make_part<B: BitBlock, K: Way, S: Summarized<B>>(
     }
 }
 
-/// The chunks from `first` on and before `last` become what they do by the others, and the summary follows them. Returns whether a
-/// block changed, or `changed` was true already: then it does not look where the first one changes.
+/// The chunks from `first` on and before `last` become what they do by the others, and the summary follows them.
+/// Returns whether a block changed, or `changed` was true already: then it does not look where the first one changes.
 #[inline(never)]
 pub(crate) fn make_parts<B: BitBlock, K: Way, S: Summarized<B>>(
     blocks: &mut [B],
@@ -200,8 +200,8 @@ pub(crate) fn chunks_to_make<B: BitBlock, K: Way>(summary: &[B], others: usize) 
     }
 }
 
-/// The blocks of a long list become what they do by the others, and the summary follows them. Returns whether a block changed, or
-/// `changed` was true already.
+/// The blocks of a long list become what they do by the others, and the summary follows them. Returns whether a block
+/// changed, or `changed` was true already.
 #[inline]
 pub(crate) fn make_long<B: BitBlock, K: Way, S: Summarized<B>>(
     blocks: &mut [B],

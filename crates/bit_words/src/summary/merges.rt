@@ -17,8 +17,9 @@ use bit_blocks::packed::others::Others;
 
 pub(crate) mod in_chunk;
 
-/// Each block becomes its merge with the other of its index, or with zeros where there is none, and the summary follows. Returns
-/// whether a block changed, or `changed` was true already: then it does not look where the first one changes.
+/// Each block becomes its merge with the other of its index, or with zeros where there is none, and the summary
+/// follows. Returns whether a block changed, or `changed` was true already: then it does not look where the first one
+/// changes.
 #[inline(always)]
 pub(crate) fn merge_all<B: BitBlock, O: Operation, S: Summarized<B>>(
     blocks: &mut [B],
@@ -39,13 +40,13 @@ pub(crate) fn merge_all<B: BitBlock, O: Operation, S: Summarized<B>>(
     if !is_short::<B>(blocks.len()) {
         return make_long::<B, MergedBy<O>, S>(blocks, summary, others, changed);
     }
-    let mut start = 0;
-    if !changed {
-        let Some(place) = first_change::<B, O, S>(blocks, others) else {
-            return false;
-        };
-        start = place;
+    if changed {
+        merge_from::<B, O, S>(blocks, others, 0);
+        return true;
     }
+    let Some(start) = first_change::<B, O, S>(blocks, others) else {
+        return false;
+    };
     merge_from::<B, O, S>(blocks, others, start);
     true
 }

@@ -1,6 +1,6 @@
-// The one walk over the chunks of lists, each as many blocks as one has bits, which gives the blocks that may matter to a call, a
-// part at a time: by the summaries it passes over the others. Where few blocks of a chunk may matter a part is these, and else whole
-// chunks. How dense lists are is decided here and nowhere else.
+// The one walk over the chunks of lists, each as many blocks as one has bits, which gives the blocks that may matter
+// to a call, a part at a time: by the summaries it passes over the others. Where few blocks of a chunk may matter a
+// part is these, and else whole chunks. How dense lists are is decided here and nowhere else.
 ghost use Rattle.std.specs.Prelude.{◌≡◌, ℕ, ◌+◌, ◌*◌, ◌^◌, ◌<◌, ◌≤◌, All, Bool, IfNone, MatchOption, length, map, min};
 ghost use Rattle.bit_blocks.specs.{Digits.is_one, Storage.value_at};
 ghost use Rattle.bit_words.specs.{MergedOnes.may_merge, Parts.{GivesPart, IsPart, Passed}};
@@ -100,7 +100,8 @@ impl<B: BitBlock, O: Operation, M: Marks<B>, N: Marks<B>> Marks<B> for Merging<O
     }
 }
 
-// Which blocks of a chunk may merge to one that is not 0; `own` and `other` have a 1 for each that is not 0 in either list.
+// Which blocks of a chunk may merge to one that is not 0; `own` and `other` have a 1 for each that is not 0 in either
+// list.
 #[inline(always)]
 fn may_have_ones<B: BitBlock, O: Operation>(own: B, other: B) -> B
     requires of_own { B.is_block own }
@@ -134,8 +135,8 @@ pub(crate) struct Part<B> {
     pub(crate) used: Option<B>,
 }
 
-// A block that is 0 only if no block of the `count` chunks from `q` on may matter. The compiler makes vector code of it if it knows
-// the count.
+// A block that is 0 only if no block of the `count` chunks from `q` on may matter. The compiler makes vector code of
+// it if it knows the count.
 #[inline]
 fn any_of<B: BitBlock, M: Marks<B>>(marks: M, q: usize, count: usize) -> B
     requires right { M.are_right marks }
@@ -162,7 +163,7 @@ fn pass_groups<B: BitBlock, M: Marks<B>>(marks: M, place: usize, last: usize) ->
 {
     let end = marks.stored_count().min(last);
     let mut q = place;
-    while q + GROUP <= end && !is_nonzero(any_of(marks, q, GROUP)) {
+    while end.saturating_sub(q) >= GROUP && !is_nonzero(any_of(marks, q, GROUP)) {
         q += GROUP;
     }
     q
@@ -171,8 +172,8 @@ fn pass_groups<B: BitBlock, M: Marks<B>>(marks: M, place: usize, last: usize) ->
 // A run of chunks is looked at in steps, each twice the one before, of at most this many chunks.
 const LONGEST_STEP: usize = 64;
 
-// Before which chunk a run ends that begins at `from` or before, and in which many blocks may matter. Of each step the last chunk is
-// looked at.
+// Before which chunk a run ends that begins at `from` or before, and in which many blocks may matter. Of each step
+// the last chunk is looked at.
 #[inline]
 fn dense_end<B: BitBlock, M: Marks<B>>(marks: M, from: usize, whole: usize, few: usize) -> usize
     requires right { M.are_right marks }
@@ -193,8 +194,8 @@ fn dense_end<B: BitBlock, M: Marks<B>>(marks: M, from: usize, whole: usize, few:
     end
 }
 
-// The part that begins at chunk `q`, of which `used` says which blocks may matter. As many chunks as `whole` are as long as a block
-// has bits in all lists that are read.
+// The part that begins at chunk `q`, of which `used` says which blocks may matter. As many chunks as `whole` are as
+// long as a block has bits in all lists that are read.
 #[inline(always)]
 fn part_from<B: BitBlock, M: Marks<B>>(
     marks: M,
@@ -227,9 +228,10 @@ fn part_from<B: BitBlock, M: Marks<B>>(
     }
 }
 
-/// The next part from chunk `place` on and before chunk `last`, or `None` where no block may matter there. In all lists that are
-/// read the first `whole` chunks have as many blocks as one has bits. Of one of them at most `few` blocks are taken alone. The caller
-/// goes on at the part's end, and may have written the blocks before it: no reference is kept.
+/// The next part from chunk `place` on and before chunk `last`, or `None` where no block may matter there. In all
+/// lists that are read the first `whole` chunks have as many blocks as one has bits. Of one of them at most `few`
+/// blocks are taken alone. The caller goes on at the part's end, and may have written the blocks before it: no
+/// reference is kept.
 #[inline(always)]
 pub(crate) fn next_part<B: BitBlock, M: Marks<B>>(
     marks: M,

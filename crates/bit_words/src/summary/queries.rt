@@ -1,5 +1,6 @@
 // What is found faster by a summary: the ones of the blocks, and the last block that is not 0. Changes nothing.
-ghost use Rattle.std.specs.Prelude.{◌≡◌, ℕ, ◌+◌, ◌*◌, ◌^◌, ◌<◌, ◌≤◌, ◌↔◌, All, IsTrue, get_or, length, map, take, drop, ◌≢◌, ◌-◌};
+ghost use Rattle.std.specs.Prelude.{◌≡◌, ℕ, ◌+◌, ◌*◌, ◌^◌, ◌<◌, ◌≤◌, ◌↔◌, All, IsTrue, get_or, length, map, take, drop};
+ghost use Rattle.std.specs.Prelude.{◌≢◌, ◌-◌};
 ghost use Rattle.bit_blocks.specs.{Digits.is_one, Storage.{value_at, ones_in, is_used}};
 ghost use Rattle.bit_words.specs.Summary.{short_count, IsStoredSummary};
 

@@ -1,6 +1,8 @@
 // Merges with a span, and blocks that are put over others: the summary follows.
-ghost use Rattle.std.specs.Prelude.{◌≡◌, ◌+◌, ◌*◌, ◌^◌, ◌<◌, ◌≤◌, All, length, map, true, false, vec_len, vec_capacity, Bool};
-ghost use Rattle.bit_blocks.specs.{BlockMerges.IsMergedSpan, Merges.merge_of_values, Storage.WritesInPlace, declared.block.merge.Merge.Merge};
+ghost use Rattle.std.specs.Prelude.{◌≡◌, ◌+◌, ◌*◌, ◌^◌, ◌<◌, ◌≤◌, All, length, map, true, false, vec_len, vec_capacity};
+ghost use Rattle.std.specs.Prelude.{Bool};
+ghost use Rattle.bit_blocks.specs.{BlockMerges.IsMergedSpan, Merges.merge_of_values, Storage.WritesInPlace};
+ghost use Rattle.bit_blocks.specs.declared.block.merge.Merge.{Merge};
 ghost use Rattle.bit_words.specs.{Kept.IsPut, Summary.{short_count, IsStoredSummary}};
 
 use crate::summary::clearing::clear_chunks;
@@ -11,8 +13,9 @@ use bit_blocks::block::operation::{Difference, Operation, Symmetric};
 use bit_blocks::packed::access::block_index;
 use bit_blocks::packed::spans::merge_span;
 
-// The values from `start` up to `end` (at least one) all become one, as in `fill_span`, and no chunk is passed over. The bits of their
-// blocks in the summary become so too, and those of the first and the last, which may have other values, are set anew.
+// The values from `start` up to `end` (at least one) all become one, as in `fill_span`, and no chunk is passed over.
+// The bits of their blocks in the summary become so too, and those of the first and the last, which may have other
+// values, are set anew.
 fn fill_blocks<B: BitBlock, O: Operation>(
     blocks: &mut Vec<B>,
     summary: &mut Vec<B>,
@@ -69,15 +72,15 @@ fn clear_around_chunks<B: BitBlock>(
     let width = B::bits();
     let from = first * width * width;
     let to = last * width * width;
-    clear_chunks(blocks.as_mut_slice(), summary.as_mut_slice(), first, last);
+    clear_chunks(blocks, summary, first, last);
     fill_blocks::<B, Difference>(blocks, summary, start, from);
     if to < end {
         fill_blocks::<B, Difference>(blocks, summary, to, end);
     }
 }
 
-// The values from `start` up to `end` (at least one) all become one: true by a union, false by a difference. Where they become
-// false, and blocks of whole chunks are 0, these are skipped.
+// The values from `start` up to `end` (at least one) all become one: true by a union, false by a difference. Where
+// they become false, and blocks of whole chunks are 0, these are skipped.
 pub(crate) fn fill_span<B: BitBlock, O: Operation>(
     blocks: &mut Vec<B>,
     summary: &mut Vec<B>,

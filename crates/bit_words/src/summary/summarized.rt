@@ -1,7 +1,8 @@
 // What a list that has a summary is merged with, where summaries say which blocks of that may have a 1.
-ghost use Rattle.std.specs.Prelude.{◌≡◌, ℕ, ◌-◌, ◌*◌, ◌^◌, ◌<◌, ◌≤◌, ◌&&◌, All, Bool, false, length, map, min, nat_lt, true, ⊤};
+ghost use Rattle.std.specs.Prelude.{◌≡◌, ℕ, ◌-◌, ◌*◌, ◌^◌, ◌<◌, ◌≤◌, ◌&&◌, All, Bool, false, length, map, min, nat_lt};
+ghost use Rattle.std.specs.Prelude.{true, ⊤};
 ghost use Rattle.bit_blocks.specs.{BlockMerges.other_at, Merges.merge_of_values, Storage.is_used};
-ghost use Rattle.bit_words.specs.Parts.IsListed;
+ghost use Rattle.bit_words.specs.Parts.{IsListed};
 
 use crate::summary::making::blocks::other_or_zero;
 use crate::summary::parts::{Marks, Merging};
@@ -11,7 +12,8 @@ use bit_blocks::block::operation::{Difference, Intersection, Operation};
 use bit_blocks::packed::access::block_at;
 use bit_blocks::packed::others::{Others, Zeros};
 
-/// The other side of a merge, with what is known about its blocks without reading them: they may matter where they may have a 1.
+/// The other side of a merge, with what is known about its blocks without reading them: they may matter where they
+/// may have a 1.
 pub(crate) trait Summarized<B: BitBlock>: Others<B> + Marks<B> {
     /// Whether each block that may have a 1 has one.
     fn is_sure(self) -> bool
@@ -199,6 +201,6 @@ pub(crate) type Common<'a, B> = Merging<Intersection, Listed<'a, B>, Listed<'a, 
 /// The blocks of one list without the ones of another, as far as that extends.
 pub(crate) type Apart<'a, B> = Merging<Difference, Listed<'a, B>, Listed<'a, B>>;
 
-/// The blocks of one list without the ones of another, of any length. It tests for the end of that at each block, so the compiler
-/// makes no vector code of it.
+/// The blocks of one list without the ones of another, of any length. It tests for the end of that at each block, so
+/// the compiler makes no vector code of it.
 pub(crate) type Outside<'a, B> = Merging<Difference, Listed<'a, B>, Padded<'a, B>>;

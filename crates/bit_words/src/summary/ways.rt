@@ -1,7 +1,8 @@
 // What the blocks of a list become by those of another: what they merge to, or these themselves.
 ghost use Rattle.std.specs.Prelude.{◌≡◌, ℕ, ◌<◌, ◌≤◌, ◌&&◌, ◌||◌, Bool, false, true, refl};
 ghost use Rattle.bit_blocks.specs.{BlockMerges.{CanMerge, FindsDifference}, Digits.is_one, Merges.merge_of_values};
-ghost use Rattle.bit_words.specs.{Made.made_at, MergedOnes.may_change_by, ChangeLaws.{unchanged, unchanged_none, unchanged_replaced}};
+ghost use Rattle.bit_words.specs.{Made.made_at, MergedOnes.may_change_by};
+ghost use Rattle.bit_words.specs.ChangeLaws.{unchanged, unchanged_none, unchanged_replaced};
 
 use crate::summary::is_nonzero;
 use bit_blocks::block::BitBlock;
@@ -74,7 +75,8 @@ impl<O: Operation> Way for MergedBy<O> {
         O::of_blocks(own, other)
     }
 
-    // The compiler knows the merge: what is left is `other` for a union, `own` for an intersection, and both for a difference.
+    // The compiler knows the merge: what is left is `other` for a union, `own` for an intersection, and both for a
+    // difference.
     #[inline(always)]
     fn changing<B: BitBlock>(own: B, other: B) -> B {
         let zero = B::zero();

@@ -1,8 +1,10 @@
-// The ones of the merge of two lists that have summaries: of the parts in which both have blocks, and of what the longer one has past
-// these, where the merge keeps it.
-ghost use Rattle.std.specs.Prelude.{◌≡◌, ℕ, ◌+◌, ◌*◌, ◌^◌, ◌<◌, ◌≤◌, if◌then◌else◌, All, IfNone, true, false, drop, length, map, max, min};
+// The ones of the merge of two lists that have summaries: of the parts in which both have blocks, and of what the
+// longer one has past these, where the merge keeps it.
+ghost use Rattle.std.specs.Prelude.{◌≡◌, ℕ, ◌+◌, ◌*◌, ◌^◌, ◌<◌, ◌≤◌, if◌then◌else◌, All, IfNone, true, false, drop};
+ghost use Rattle.std.specs.Prelude.{length, map, max, min};
 ghost use Rattle.bit_blocks.specs.{Storage.{is_used, ones_in}, declared.block.merge.Merge.Merge};
-ghost use Rattle.bit_words.specs.{MergedOnes.{may_merge, merged_ones}, Parts.{IsListed, IsPart}, Summary.{short_count, IsStoredSummary}};
+ghost use Rattle.bit_words.specs.{MergedOnes.{may_merge, merged_ones}, Parts.{IsListed, IsPart}};
+ghost use Rattle.bit_words.specs.Summary.{short_count, IsStoredSummary};
 
 use crate::summary::counts::{count_merged_blocks, ones_of_both, ones_of_used};
 use crate::summary::is_short;

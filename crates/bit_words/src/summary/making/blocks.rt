@@ -63,8 +63,8 @@ pub(crate) fn other_or_zero<B: BitBlock, S: Others<B>>(others: S, k: usize) -> B
     }
 }
 
-// The blocks of chunk `q` become what they do by the others; only those at the ones of `touched` may change. `own` is what the
-// summary says about the chunk. Returns what it says afterwards, and whether a block changed.
+// The blocks of chunk `q` become what they do by the others; only those at the ones of `touched` may change. `own` is
+// what the summary says about the chunk. Returns what it says afterwards, and whether a block changed.
 #[inline]
 pub(crate) fn make_touched<B: BitBlock, K: Way, S: Others<B>>(
     blocks: &mut [B],

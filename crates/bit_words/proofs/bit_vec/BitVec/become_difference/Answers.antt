@@ -39,18 +39,24 @@ become_difference-requires-clause-can g c =
       others = c.other.invariant.packed.each;
     })
 
-pub become_difference-requires-clause-except : goal.become_difference-requires-clause-except
-become_difference-requires-clause-except g c = rw c.deref-3.ensures.value c.except.invariant.packed.each
-
 pub become_difference-requires-clause-summary : goal.become_difference-requires-clause-summary
-become_difference-requires-clause-summary g c = rw c.as_mut_slice.ensures.value c.self.invariant.summary
+become_difference-requires-clause-summary g c = rw (c.as_mut_slice.ensures.value, c.as_mut_slice-2.ensures.value) c.self.invariant.summary
+
+pub become_difference-requires-clause-others : goal.become_difference-requires-clause-others
+become_difference-requires-clause-others g c = rw (c.deref.ensures.value, c.deref-2.ensures.value) (record { each = c.other.invariant.packed.each; summary = c.other.invariant.summary })
+
+pub become_difference-requires-clause-except : goal.become_difference-requires-clause-except
+become_difference-requires-clause-except g c = rw (c.deref-3.ensures.value, c.deref-4.ensures.value) (record { each = c.except.invariant.packed.each; summary = c.except.invariant.summary })
 
 pub invariant_of-self : goal.invariant_of-self
 invariant_of-self g c =
     let ys = c.become_difference.new.blocks in
     let old = c.self.inside.blocks in
     let back : take old.len (ys ++ drop (length ys) old.items) ≡ ys = take_at ys _ old.len (omega arith) in
-    rw back (record { packed = packed g (goal.at.invariant_of-self g c).After-become_difference; summary = c.become_difference.ensures.summary; start = λ _. false_before_none _ _ })
+    let summary = c.become_difference.new.summary in
+    let old_summary = c.self.inside.summary in
+    let back_summary : take old_summary.len (summary ++ drop (length summary) old_summary.items) ≡ summary = take_at summary _ old_summary.len (omega arith) in
+    rw (back, back_summary) (record { packed = packed g (goal.at.invariant_of-self g c).After-become_difference; summary = c.become_difference.ensures.summary; start = λ _. false_before_none _ _ })
 
 pub returns-clause-values : goal.returns-clause-values
 returns-clause-values g c =
@@ -84,4 +90,4 @@ returns-clause-kept g c =
     rw back (λ no. lists.0 (kept.0 no) ∙ view, λ same. kept.1 (lists.1 (same ∙ sym view)))
 
 pub returns-clause-capacity : goal.returns-clause-capacity
-returns-clause-capacity g c = rw c.become_difference.ensures.capacity (ap (λ v. v.capacity) c.self.view_is)
+returns-clause-capacity g c = ap (λ v. v.capacity) c.self.view_is

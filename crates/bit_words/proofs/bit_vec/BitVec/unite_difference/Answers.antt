@@ -20,7 +20,7 @@ merged : (g : Over) (c : After-unite_difference g)
     → HasMerged Union g.B.BitBlock.width g.B.BitBlock.number g.B.BitBlock.is_block 0 (length c.self.inside.blocks.items)
     (except_at (map g.B.BitBlock.number c.other.inside.blocks.items)
     (map g.B.BitBlock.number c.except.inside.blocks.items)) c.self.inside.blocks.items c.unite_difference.new.blocks
-merged g c = rw (c.as_mut_slice.ensures.value, c.deref.ensures.value, c.deref-2.ensures.value) at c.unite_difference.ensures.has
+merged g c = rw (c.as_mut_slice.ensures.value, c.deref.ensures.value, c.deref-3.ensures.value) at c.unite_difference.ensures.has
 
 packed : (g : Over) (c : After-unite_difference g) → IsPacked g.B.BitBlock.width g.B.BitBlock.number g.B.BitBlock.is_block c.unite_difference.new.blocks c.self.inside.len
 packed g c =
@@ -39,17 +39,14 @@ unite_difference-requires-clause-can g c =
       others = c.other.invariant.packed.each;
     })
 
-pub unite_difference-requires-clause-except : goal.unite_difference-requires-clause-except
-unite_difference-requires-clause-except g c = rw c.deref-2.ensures.value c.except.invariant.packed.each
-
 pub unite_difference-requires-clause-summary : goal.unite_difference-requires-clause-summary
 unite_difference-requires-clause-summary g c = rw (c.as_mut_slice.ensures.value, c.as_mut_slice-2.ensures.value) c.self.invariant.summary
 
-pub unite_difference-requires-clause-other_summary : goal.unite_difference-requires-clause-other_summary
-unite_difference-requires-clause-other_summary g c = rw c.deref.ensures.value c.other.invariant.summary
+pub unite_difference-requires-clause-others : goal.unite_difference-requires-clause-others
+unite_difference-requires-clause-others g c = rw (c.deref.ensures.value, c.deref-2.ensures.value) (record { each = c.other.invariant.packed.each; summary = c.other.invariant.summary })
 
-pub unite_difference-requires-clause-except_summary : goal.unite_difference-requires-clause-except_summary
-unite_difference-requires-clause-except_summary g c = rw c.deref-2.ensures.value c.except.invariant.summary
+pub unite_difference-requires-clause-except : goal.unite_difference-requires-clause-except
+unite_difference-requires-clause-except g c = rw (c.deref-3.ensures.value, c.deref-4.ensures.value) (record { each = c.except.invariant.packed.each; summary = c.except.invariant.summary })
 
 pub invariant_of-self : goal.invariant_of-self
 invariant_of-self g c =

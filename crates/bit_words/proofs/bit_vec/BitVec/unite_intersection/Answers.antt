@@ -1,36 +1,40 @@
-use Rattle.std.proofs.{Common.{◌≡◌, ◌≤◌, ◌∙◌, sym, ap, ap₂, ◌++◌, map, drop, length, take, arith}, lemmas.List.take_at}
+use Rattle.std.proofs.{Common.{◌≡◌, ◌≤◌, ◌∙◌, sym, ap, ap₂, ◌++◌, map, drop, length, take, refl, arith}, lemmas.List.{length-map, take_at}}
 use Rattle.bit_blocks.specs.{declared.block.merge.Merge.TheVariants.{Intersection, Union}, Merges.merge_of}
 use Rattle.bit_blocks.specs.{BlockMerges.{both_at, HasMerged}, Storage.IsPacked}
-use Rattle.bit_blocks.proofs.{BitsLemmas.blocks_for-le, BlockMergeLemmas.kept_lists}
+use Rattle.bit_blocks.proofs.{BitsLemmas.blocks_for-le, BlockMergeLemmas.{kept_lists, merged_same}}
 use Rattle.bit_blocks.proofs.VectorLemmas.{no_longer_from_views, numbers_below}
-use Rattle.bit_words.proofs.bit_vec.BitVec.unite_intersection.{Given.Over, Goals.After-unite_common}
+use Rattle.bit_words.proofs.bit_vec.BitVec.unite_intersection.{Given.Over, Goals.After-merge_all}
 use Rattle.bit_words.proofs.FusedLemmas.{lists_with_common, packed_with_common, values_with_common}
+use Rattle.bit_words.proofs.MadeLemmas.{common_digit}
 use Rattle.bit_words.proofs.StartLemmas.{false_before_none}
 use Rattle.bit_words.proofs.bit_vec.BitVec.unite_intersection.Goals as goal
 
 -- the others are no more blocks
-fewer : (g : Over) (c : After-unite_common g) → length c.other.inside.blocks.items ≤ length c.self.inside.blocks.items
+fewer : (g : Over) (c : After-merge_all g) → length c.other.inside.blocks.items ≤ length c.self.inside.blocks.items
 fewer g c =
     let shorter = no_longer_from_views _ _ _ _ _ _ _ _ _ c.self.view_is c.other.view_is c.requires in
     let le = blocks_for-le g.B.BitBlock.width c.other.inside.len c.self.inside.len g.met.B.BitBlock.width_law.positive shorter in
     omega (arith, le, c.self.invariant.packed.count, c.other.invariant.packed.count)
 
 -- what the blocks became
-merged : (g : Over) (c : After-unite_common g)
+merged : (g : Over) (c : After-merge_all g)
     → HasMerged Union g.B.BitBlock.width g.B.BitBlock.number g.B.BitBlock.is_block 0 (length c.self.inside.blocks.items)
     (both_at (map g.B.BitBlock.number c.other.inside.blocks.items)
-    (map g.B.BitBlock.number c.also.inside.blocks.items)) c.self.inside.blocks.items c.unite_common.new.blocks
-merged g c = rw (c.as_mut_slice.ensures.value, c.deref.ensures.value, c.deref-3.ensures.value) at c.unite_common.ensures.has
+    (map g.B.BitBlock.number c.also.inside.blocks.items)) c.self.inside.blocks.items c.merge_all.new.blocks
+merged g c =
+    merged_same _ _ _ _ 0 _ _ _ _ _
+    (λ k j _ _ _. common_digit (map g.B.BitBlock.number c.other.inside.blocks.items) (map g.B.BitBlock.number c.also.inside.blocks.items) _ _ k j length-map length-map)
+    (rw (c.as_mut_slice.ensures.value, c.deref.ensures.value, c.deref-3.ensures.value) at c.merge_all.ensures.has)
 
-packed : (g : Over) (c : After-unite_common g) → IsPacked g.B.BitBlock.width g.B.BitBlock.number g.B.BitBlock.is_block c.unite_common.new.blocks c.self.inside.len
+packed : (g : Over) (c : After-merge_all g) → IsPacked g.B.BitBlock.width g.B.BitBlock.number g.B.BitBlock.is_block c.merge_all.new.blocks c.self.inside.len
 packed g c =
     packed_with_common _ _ _ _ c.other.inside.blocks.items _
     (map g.B.BitBlock.number c.also.inside.blocks.items) Union _ c.other.inside.len g.met.B.BitBlock.width_law.positive
     (fewer g c) (no_longer_from_views _ _ _ _ _ _ _ _ _ c.self.view_is c.other.view_is c.requires) c.self.invariant.packed
     c.other.invariant.packed.tail (merged g c)
 
-pub unite_common-requires-clause-can : goal.unite_common-requires-clause-can
-unite_common-requires-clause-can g c =
+pub merge_all-requires-clause-can : goal.merge_all-requires-clause-can
+merge_all-requires-clause-can g c =
     let le = blocks_for-le g.B.BitBlock.width c.other.inside.len c.self.inside.len g.met.B.BitBlock.width_law.positive
     (no_longer_from_views _ _ _ _ _ _ _ _ _ c.self.view_is c.other.view_is c.requires) in
     rw (c.as_mut_slice.ensures.value, c.deref.ensures.value, c.deref-3.ensures.value) (record {
@@ -39,29 +43,29 @@ unite_common-requires-clause-can g c =
       others = (c.other.invariant.packed.each, c.also.invariant.packed.each);
     })
 
-pub unite_common-requires-clause-summary : goal.unite_common-requires-clause-summary
-unite_common-requires-clause-summary g c = rw (c.as_mut_slice.ensures.value, c.as_mut_slice-2.ensures.value) c.self.invariant.summary
+pub merge_all-requires-clause-summary : goal.merge_all-requires-clause-summary
+merge_all-requires-clause-summary g c = rw (c.as_mut_slice.ensures.value, c.as_mut_slice-2.ensures.value) c.self.invariant.summary
 
-pub unite_common-requires-clause-first_summary : goal.unite_common-requires-clause-first_summary
-unite_common-requires-clause-first_summary g c = rw (c.deref.ensures.value, c.deref-2.ensures.value) c.other.invariant.summary
-
-pub unite_common-requires-clause-second_summary : goal.unite_common-requires-clause-second_summary
-unite_common-requires-clause-second_summary g c = rw (c.deref-3.ensures.value, c.deref-4.ensures.value) c.also.invariant.summary
+pub merge_all-requires-clause-right : goal.merge_all-requires-clause-right
+merge_all-requires-clause-right g c = rw (c.deref.ensures.value, c.deref-2.ensures.value, c.deref-3.ensures.value, c.deref-4.ensures.value) (
+  record { each = c.other.invariant.packed.each; summary = c.other.invariant.summary },
+  record { each = c.also.invariant.packed.each; summary = c.also.invariant.summary },
+)
 
 pub invariant_of-self : goal.invariant_of-self
 invariant_of-self g c =
-    let ys = c.unite_common.new.blocks in
-    let summary = c.unite_common.new.summary in
+    let ys = c.merge_all.new.blocks in
+    let summary = c.merge_all.new.summary in
     let old = c.self.inside.blocks in
     let old_summary = c.self.inside.summary in
     let back : take old.len (ys ++ drop (length ys) old.items) ≡ ys = take_at ys _ old.len (omega arith) in
     let back_summary : take old_summary.len (summary ++ drop (length summary) old_summary.items) ≡ summary = take_at summary _ old_summary.len (omega arith) in
-    rw (back, back_summary) (record { packed = packed g (goal.at.invariant_of-self g c).After-unite_common; summary = c.unite_common.ensures.summary; start = λ _. false_before_none _ _ })
+    rw (back, back_summary) (record { packed = packed g (goal.at.invariant_of-self g c).After-merge_all; summary = c.merge_all.ensures.summary; start = λ _. false_before_none _ _ })
 
 pub returns-clause-values : goal.returns-clause-values
 returns-clause-values g c =
-    let here = (goal.at.returns-clause-values g c).After-unite_common in
-    let ys = c.unite_common.new.blocks in
+    let here = (goal.at.returns-clause-values g c).After-merge_all in
+    let ys = c.merge_all.new.blocks in
     let old = c.self.inside.blocks in
     let back : take old.len (ys ++ drop (length ys) old.items) ≡ ys = take_at ys _ old.len (omega arith) in
     let shorter = no_longer_from_views _ _ _ _ _ _ _ _ _ c.self.view_is c.other.view_is c.requires in
@@ -75,14 +79,14 @@ returns-clause-values g c =
 
 pub returns-clause-kept : goal.returns-clause-kept
 returns-clause-kept g c =
-    let here = (goal.at.returns-clause-kept g c).After-unite_common in
+    let here = (goal.at.returns-clause-kept g c).After-merge_all in
     let w = g.B.BitBlock.width in
     let f = g.B.BitBlock.number in
-    let ys = c.unite_common.new.blocks in
+    let ys = c.merge_all.new.blocks in
     let old = c.self.inside.blocks in
     let back : take old.len (ys ++ drop (length ys) old.items) ≡ ys = take_at ys _ old.len (omega arith) in
     let new = packed g here in
-    let kept = rw c.as_mut_slice.ensures.value at c.unite_common.ensures.kept in
+    let kept = rw c.as_mut_slice.ensures.value at (c.merge_all.ensures.tells.kept refl) in
     let lists = kept_lists w (map f old.items) (map f ys) c.self.inside.len
     (numbers_below w f _ old.items (λ x is. (g.met.B.BitBlock.number_law x is).0) c.self.invariant.packed.each)
     (numbers_below w f _ ys (λ x is. (g.met.B.BitBlock.number_law x is).0) new.each) c.self.invariant.packed.tail new.tail in

@@ -15,13 +15,13 @@ make_touched-requires-clause-says g c = λ p index.
 pub make_touched-requires-clause-within : goal.make_touched-requires-clause-within
 make_touched-requires-clause-within g c = λ p index one.
     let digits = rw c.in-Some.is at c.requires.part.digit in
-    change_inside g.K.Way.becomes g.K.Way.may_change g.B.BitBlock.width _ _ _ _ _ _ g.met.K.Way.stays c.is_sure-sure.ensures.zeros c.requires.summary
+    change_inside g.K.Way.becomes g.K.Way.may_change g.B.BitBlock.width _ _ (g.S.Others.digit c.args.others) (g.S.Marks.may_matter c.args.others) _ _ g.met.K.Way.stays c.is_sure-sure.ensures.zeros c.requires.summary
     g.met.K.Way.none c.requires.inside _ (sym (digits p index) ∙ one)
 
 pub make_touched-requires-clause-stay : goal.make_touched-requires-clause-stay
 make_touched-requires-clause-stay g c = λ p j index digit none.
     let digits = rw c.in-Some.is at c.requires.part.digit in
-    digit_stays g.K.Way.becomes g.K.Way.may_change g.B.BitBlock.width _ _ _ _ _ _ g.met.K.Way.stays c.is_sure-sure.ensures.zeros c.requires.summary
+    digit_stays g.K.Way.becomes g.K.Way.may_change g.B.BitBlock.width _ _ (g.S.Others.digit c.args.others) (g.S.Marks.may_matter c.args.others) _ _ g.met.K.Way.stays c.is_sure-sure.ensures.zeros c.requires.summary
     _ j digit (sym (digits p index) ∙ none)
 
 pub returns-in-Some-clause-makes : goal.returns-in-Some-clause-makes

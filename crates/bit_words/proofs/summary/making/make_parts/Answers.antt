@@ -9,7 +9,7 @@ loop-part-init g c = record {
   reached = omega arith;
   within = c.requires.forward;
   makes = record {
-    made = made_stay _ _ _ _ _ _ _ _ c.requires.can.each (record { digit = λ k j from below index. absurd (omega (arith, from, below)) });
+    made = made_stay g.K.Way.becomes _ _ _ (g.S.Others.digit c.args.others) _ _ _ c.requires.can.each (record { digit = λ k j from below index. absurd (omega (arith, from, below)) });
     summary = c.requires.summary;
     summary_len = refl;
   };
@@ -52,18 +52,18 @@ loop-part-preserved g c =
     let found = c.in-Some.ensures in
     let start : c.args.first * w ≤ c.loop-part.place * w = mul-le-mul_right w so_far.reached in
     let from : c.loop-part.place * w ≤ c.in-Some.part.first * w = mul-le-mul_right w found.reached in
-    let stay = passed_remain g.K.Way.becomes g.K.Way.may_change w _ _ _ _ _ _ g.met.K.Way.stays c.is_sure-sure.ensures.zeros is.summary _ _ found.passed in
-    let one = made_more g.K.Way.becomes w _ _ _ _ _ _ _ _ _ _ _ start from refl refl is.made (made_stay _ _ _ _ _ _ _ _ is.made.each stay) in
+    let stay = passed_remain g.K.Way.becomes g.K.Way.may_change w _ _ (g.S.Others.digit c.args.others) (g.S.Marks.may_matter c.args.others) _ _ g.met.K.Way.stays c.is_sure-sure.ensures.zeros is.summary _ _ found.passed in
+    let one = made_more g.K.Way.becomes w _ _ (g.S.Others.digit c.args.others) _ _ _ _ _ _ _ _ start from refl refl is.made (made_stay g.K.Way.becomes _ _ _ (g.S.Others.digit c.args.others) _ _ _ is.made.each stay) in
     let two = c.make_part-changes.ensures.makes in
     record {
       reached = omega (arith, found.reached, found.part.some, so_far.reached);
       within = found.within;
       makes = record {
-        made = made_more g.K.Way.becomes w _ _ _ _ _ _ _ _ _ _ _ (omega (arith, start, from)) (mul-le-mul_right w (omega (arith, found.part.some))) refl refl one two.made;
+        made = made_more g.K.Way.becomes w _ _ (g.S.Others.digit c.args.others) _ _ _ _ _ _ _ _ (omega (arith, start, from)) (mul-le-mul_right w (omega (arith, found.part.some))) refl refl one two.made;
         summary = two.summary;
         summary_len = two.summary_len ∙ is.summary_len;
       };
-      tells = tells_more g.K.Way.becomes w _ _ _ _ _ _ _ _ _ _ _ _ one two.made so_far.tells c.make_part-changes.ensures.tells;
+      tells = tells_more g.K.Way.becomes w _ _ (g.S.Others.digit c.args.others) _ _ _ _ _ _ _ _ _ one two.made so_far.tells c.make_part-changes.ensures.tells;
     }
 
 pub returns-clause-makes : goal.returns-clause-makes
@@ -71,10 +71,10 @@ returns-clause-makes g c =
     let w = g.B.BitBlock.width in
     let so_far = c.loop-part.invariant in
     let is = so_far.makes in
-    let stay = passed_remain g.K.Way.becomes g.K.Way.may_change w _ _ _ _ _ _ g.met.K.Way.stays c.is_sure-sure.ensures.zeros is.summary _ _ c.in_default.ensures in
+    let stay = passed_remain g.K.Way.becomes g.K.Way.may_change w _ _ (g.S.Others.digit c.args.others) (g.S.Marks.may_matter c.args.others) _ _ g.met.K.Way.stays c.is_sure-sure.ensures.zeros is.summary _ _ c.in_default.ensures in
     record {
-      made = made_more g.K.Way.becomes w _ _ _ _ _ _ _ _ _ _ _ (mul-le-mul_right w so_far.reached) (mul-le-mul_right w so_far.within) refl refl is.made
-          (made_stay _ _ _ _ _ _ _ _ is.made.each stay);
+      made = made_more g.K.Way.becomes w _ _ (g.S.Others.digit c.args.others) _ _ _ _ _ _ _ _ (mul-le-mul_right w so_far.reached) (mul-le-mul_right w so_far.within) refl refl is.made
+          (made_stay g.K.Way.becomes _ _ _ (g.S.Others.digit c.args.others) _ _ _ is.made.each stay);
       summary = is.summary;
       summary_len = is.summary_len;
     }

@@ -5,7 +5,7 @@ use Rattle.bit_words.proofs.summary.parts.pass_groups.Goals as goal
 
 pub loop-q-preserved : goal.loop-q-preserved
 loop-q-preserved g c =
-    let none : g.B.BitBlock.number c.any_of.result ≡ 0 = grind (arith, c.is_nonzero-in-loop-q.ensures, c.if-not-is_nonzero.true) in
+    let none : g.B.BitBlock.number c.any_of.result ≡ 0 = grind (arith, c.is_nonzero.ensures, c.if-not-is_nonzero.true) in
     record {
       reached = omega arith;
       within = omega arith;

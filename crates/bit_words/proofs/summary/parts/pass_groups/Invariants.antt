@@ -8,7 +8,7 @@ invariant-loop-q g l =
     let w = g.B.BitBlock.width in
     record {
       reached : l.place ≤ l.q;
-      within : l.q ≤ l.end;
+      within : l.q ≤ l.last;
       passed : Passed (g.M.Marks.may_matter l.marks) (l.place * w) (l.q * w);
     }
 

@@ -10,7 +10,7 @@ loop-j-preserved g c =
     let one = c.make_block-made.ensures.made in
     let used = c.is_nonzero.ensures ∙ ap (λ m. not (m == 0)) c.make_block-made.ensures.of_number in
     record {
-      made = made_more _ _ _ _ _ start (start + j) (start + (j + 1)) (start + j) (start + j + 1) _ _ _ (omega arith) (omega arith) refl (omega arith) c.loop-j.invariant.made one;
+      made = made_more g.K.Way.becomes _ _ _ (g.S.Others.digit c.args.others) start (start + j) (start + (j + 1)) (start + j) (start + j + 1) _ _ _ (omega arith) (omega arith) refl (omega arith) c.loop-j.invariant.made one;
       says = says_more _ _ _ start j _ _ _ (says_kept _ _ _ start j _ _ _ one.before c.loop-j.invariant.says)
           c.with_one_if-digits.ensures.of_block (c.with_one_if-digits.ensures.same ∙ used) c.with_one_if-digits.ensures.others;
     }

@@ -9,7 +9,7 @@ loop-group-preserved g c =
     let index = c.loop-group.group * 32 in
     let some = c.make_group-more.ensures.made in
     record {
-      made = made_more _ _ _ _ _ start (start + index) (start + (c.loop-group.group + 1) * 32) (start + index)
+      made = made_more g.K.Way.becomes _ _ _ (g.S.Others.digit c.args.others) start (start + index) (start + (c.loop-group.group + 1) * 32) (start + index)
           (start + index + 32) _ _ _ (omega arith) (omega arith) refl (omega arith) c.loop-group.invariant.made some;
       says = says_group _ _ _ start (start + index) index 32 _ _ _ _ _ _ refl (omega arith)
           (says_kept _ _ _ start index _ _ _ some.before c.loop-group.invariant.says) c.make_group-more.ensures.says

@@ -6,7 +6,7 @@ pub loop-q-preserved : goal.loop-q-preserved
 loop-q-preserved g c =
     let w = g.B.BitBlock.width in
     record {
-      made = made_more _ _ _ _ _ (c.args.first * w) (c.loop-q.q * w) ((c.loop-q.q + 1) * w) _ _ _ _ _
+      made = made_more g.K.Way.becomes _ _ _ (g.S.Others.digit c.args.others) (c.args.first * w) (c.loop-q.q * w) ((c.loop-q.q + 1) * w) _ _ _ _ _
           (mul-le-mul_right w (omega (arith, c.loop-q.auto.q))) (omega arith) refl refl c.loop-q.invariant.made
           c.make_whole-digits.ensures.made;
       summary = chunk_summary w c.loop-q.q _ _ _ _ _ _ _ _ g.met.B.BitBlock.width_law.positive
