@@ -100,11 +100,11 @@ fn make_run<B: BitBlock, K: Way, S: Summarized<B>>(
         return true;
     }
     let width = B::bits();
-    let found = K::first_change(&*blocks, others, first * width, end * width);
-    let Some(place) = found else {
+    let Some(place) = K::first_change(&*blocks, others, first * width, end * width) else {
         return false;
     };
-    make_chunks::<B, K, S>(blocks, summary, others, block_index::<B>(place), end);
+    let from = block_index::<B>(place).max(first);
+    make_chunks::<B, K, S>(blocks, summary, others, from, end);
     true
 }
 

@@ -124,7 +124,7 @@ pub(crate) fn few_of_vectors<B: BitBlock>() -> usize {
 /// The same of a call that counts the ones of each block.
 #[inline(always)]
 pub(crate) fn few_of_counts<B: BitBlock>() -> usize {
-    B::bits() / 8
+    B::bits() / 3
 }
 
 /// The chunks from `first` on and before `end`, or where `used` is a block the blocks at its ones of the one chunk.
