@@ -21,6 +21,7 @@ use std::marker::PhantomData;
 // The blocks of a long list become what they do by the others without the ones of `except`, and the summary follows.
 // Past the chunk in which `except` ends these are the others.
 #[inline(never)]
+#[tactic(auto, using(crate::proofs::ComparedLemmas::used_within))]
 fn make_difference<B: BitBlock, K: Way>(
     blocks: &mut [B],
     summary: &mut [B],

@@ -53,6 +53,7 @@ pub(crate) fn merge_all<B: BitBlock, O: Operation, S: Summarized<B>>(
 
 /// The merge that is named, of two lists. Here it becomes a type.
 #[inline(always)]
+#[tactic(auto, using(crate::proofs::ComparedLemmas::used_within))]
 pub(crate) fn merge_named<B: BitBlock>(
     blocks: &mut [B],
     summary: &mut [B],

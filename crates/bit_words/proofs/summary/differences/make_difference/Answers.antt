@@ -8,7 +8,7 @@ use Rattle.bit_words.proofs.summary.differences.make_difference.Goals as goal
 
 pub chunks_to_make-last-requires : goal.chunks_to_make-last-requires
 chunks_to_make-last-requires g c =
-    let le = blocks_for-le g.B.BitBlock.width _ _ g.met.B.BitBlock.width_law.positive c.requires.can.fewer in
+    let le = blocks_for-le g.B.BitBlock.width _ (length c.args.blocks.now) g.met.B.BitBlock.width_law.positive c.requires.can.fewer in
     omega (arith, le, c.requires.summary.packed.count)
 
 -- the digits that the blocks are made from

@@ -6,8 +6,9 @@ use Rattle.bit_words.proofs.summary.making.make_long.Goals as goal
 
 pub chunks_to_make-last-requires : goal.chunks_to_make-last-requires
 chunks_to_make-last-requires g c =
-    let le = blocks_for-le g.B.BitBlock.width _ _ g.met.B.BitBlock.width_law.positive c.requires.can.fewer in
-    omega (arith, le, c.len.ensures.value, c.requires.summary.packed.count)
+    let le = blocks_for-le g.B.BitBlock.width c.len.result (length c.args.blocks.now) g.met.B.BitBlock.width_law.positive
+    (omega (arith, c.len.ensures.value, c.requires.can.fewer)) in
+    omega (arith, le, c.requires.summary.packed.count)
 
 pub returns-clause-made : goal.returns-clause-made
 returns-clause-made g c =

@@ -36,7 +36,7 @@ make_part-changes-requires g c =
       right = c.requires.right;
       summary = is.summary;
       within = omega (arith, found.within, c.requires.within, is.summary_len);
-      in_others = if_none _ _ _ (λ within.
+      in_others = if_none _ (c.in-Some.part.end ≤ c.min-whole.result) _ (λ within.
           let inside : c.in-Some.part.end * w ≤ c.len.result =
           (le-div_iff_mul-le g.met.B.BitBlock.width_law.positive).0 (omega (arith, within, c.min-whole.ensures, c.block_index.ensures)) in
           omega (arith, inside, c.len.ensures.value)) found.whole;

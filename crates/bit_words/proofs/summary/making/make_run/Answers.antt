@@ -33,7 +33,8 @@ reach g c =
     let whole : c.in-Some.place / w ≤ c.args.end =
     ⊎_elim
     (λ (more : c.args.end < c.in-Some.place / w).
-    let next : (c.args.end + 1) * w ≤ c.in-Some.place / w * w = mul-le-mul_right w more in
+    let next : (c.args.end + 1) * w ≤ c.in-Some.place / w * w =
+    mul-le-mul_right w (let l : c.args.end + 1 ≤ c.in-Some.place / w = omega (arith, more) in l) in
     absurd (omega (arith, within, div-mul-le_self c.in-Some.place w, pos, next)))
     (λ low. low)
     (cases_lt c.args.end (c.in-Some.place / w)) in

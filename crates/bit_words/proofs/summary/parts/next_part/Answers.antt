@@ -7,5 +7,5 @@ loop-q-init g c = record { passed = c.pass_groups-q.ensures.passed }
 
 pub loop-q-preserved : goal.loop-q-preserved
 loop-q-preserved g c =
-    let none : g.B.BitBlock.number c.at-used-in-loop-q.result ≡ 0 = grind (arith, c.is_nonzero-in-loop-q.ensures, c.if-is_nonzero-in-loop-q.false) in
+    let none : g.B.BitBlock.number c.at-used-in-loop-q.result ≡ 0 = grind (arith, c.is_nonzero-in-loop-q.ensures, c.if-is_nonzero-2.false) in
     record { passed = passed_more g.B.BitBlock.width _ c.loop-q.q _ _ c.loop-q.invariant.passed none c.at-used-in-loop-q.ensures.digits }
