@@ -1,9 +1,8 @@
 // Merges of the blocks that one block of the summary covers: a chunk.
-ghost use Rattle.std.specs.Prelude.{◌≡◌, ℕ, ◌+◌, ◌*◌, ◌<◌, ◌≤◌, All, length, map};
+ghost use Rattle.std.specs.Prelude.{◌≡◌, ℕ, ◌+◌, ◌*◌, ◌<◌, All, length, map};
 ghost use Rattle.bit_blocks.specs.{BlockMerges.{other_at, CanMerge, HasMerged}, Digits.is_one, Storage.is_used};
 ghost use Rattle.bit_words.specs.Summary.{IsStoredSummary};
 
-use crate::summary::making::blocks::make_any;
 use crate::summary::making::whole::make_whole;
 use crate::summary::ways::MergedBy;
 use crate::summary::{is_short, used_from};
@@ -11,25 +10,8 @@ use bit_blocks::block::BitBlock;
 use bit_blocks::block::merge::Merge;
 use bit_blocks::block::operation::{Difference, Intersection, Operation, Symmetric, Union};
 use bit_blocks::packed::access::put_in;
-
-// The blocks from `start` up to `end` become their merges with the others of their indexes, or with zeros if there
-// are none.
-fn merge_any_between<B: BitBlock, O: Operation>(
-    blocks: &mut [B],
-    others: &[B],
-    start: usize,
-    end: usize,
-)
-    requires can { CanMerge B.is_block blocks.old (length others.now) (All B.is_block others.now) }
-    requires forward { start ≤ end }
-    requires within { end ≤ length blocks.old }
-    ensures has { HasMerged O.merge B.width B.number B.is_block start end (other_at (map B.number others.now))
-        blocks.old blocks.new }
-{
-    for k in start..end {
-        let _made = make_any::<B, MergedBy<O>, &[B]>(blocks, others, k);
-    }
-}
+use bit_blocks::packed::block_merges::merge_between;
+use bit_blocks::packed::others::Zeros;
 
 // The blocks that block `q` of the summary covers become their merges with the others of their indexes, or with
 // zeros if there are none. Returns what that block is then.
@@ -48,8 +30,13 @@ fn merge_full_or_part<B: BitBlock, O: Operation>(blocks: &mut [B], others: &[B],
     if others.len().saturating_sub(start) >= width {
         return make_whole::<B, MergedBy<O>, &[B]>(blocks, others, q);
     }
-    let count = (blocks.len() - start).min(width);
-    merge_any_between::<B, O>(blocks, others, start, start + count);
+    let end = start + (blocks.len() - start).min(width);
+    let both = others.len().min(end).max(start);
+    let zeros = Zeros {
+        count: blocks.len(),
+    };
+    merge_between::<B, O, &[B]>(blocks, others, start, both);
+    merge_between::<B, O, Zeros>(blocks, zeros, both, end);
     used_from(blocks, start)
 }
 
