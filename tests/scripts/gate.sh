@@ -10,7 +10,7 @@ done
 cp "$top/tests/ahead.sh" "$library/tests"
 for signal in HUP INT QUIT TERM; do
     CI='' ended_by_signal gate "$signal" 'ci$' "$library/gate"
-    CI='' ended_by_signal tests/ahead.sh "$signal" 'ci roaring' "$library/tests/ahead.sh"
+    CI='' ended_by_signal tests/ahead.sh "$signal" 'ci refusals' "$library/tests/ahead.sh"
 done
 
 take_seconds 0.1

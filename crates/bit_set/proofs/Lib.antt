@@ -14,6 +14,7 @@ pub use Rattle.set_algebra.proofs.RunLemmas
 pub use Rattle.set_algebra.proofs.RangeQueryLemmas
 pub use Rattle.set_algebra.proofs.PlaceLemmas
 pub use Rattle.set_algebra.proofs.OrderLemmas
+pub use Rattle.set_algebra.proofs.MismatchLemmas
 pub use Rattle.set_algebra.proofs.TestLemmas
 pub mod RetainLemmas
 pub mod ManyLemmas
@@ -39,7 +40,6 @@ pub mod WalkLaws
 pub mod MissingLaws
 pub mod PartLaws
 pub mod NthLemmas
-pub mod MismatchLemmas
 pub mod JsonLemmas
 pub mod FilledLemmas
 pub mod ChangeLemmas

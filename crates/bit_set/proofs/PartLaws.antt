@@ -1,25 +1,9 @@
--- A set in three parts, and the ranks of its members: laws of `src/laws/ranges.rt`.
-use Rattle.std.proofs.Common.{◌≡◌, ℕ, zero, suc, ◌+◌, ◌≤◌, ◌↔◌, true, false, eqb, nat_lt, nat_le, List, [], ◌∷◌, ◌++◌, IsTrue, length, Some, slice_get, refl, sym, ap, ◌∙◌, subst, inl, inr}
-use Rattle.std.proofs.Common.{arith}
-use Rattle.std.proofs.lemmas.{Bool.{cases_lt, Decides.nat_tests}, List.Folds.{list_any-append}}
-use Rattle.bit_blocks.specs.Ranges.{in_range}
-use Rattle.set_algebra.specs.{Ranges.those_in_range, Sets.{AscendsFrom, IsAscending, has, those_below, those_from}}
-use Rattle.set_algebra.proofs.RangeLemmas.{AscendsFrom-joined, AscendsFrom-those_from}
-use Rattle.bit_set.proofs.{MissingLaws.in_range_from_0, PartLemmas.both_tests}
-use Rattle.set_algebra.proofs.SetLemmas.{AscendsFrom-filter, has-below, has-filter, has-first, same_members}
-
-pub parts_of_sets : (s : List ℕ) (a b : ℕ) → IsAscending s → a ≤ b → those_below s a ++ (those_in_range s a b ++ those_from s b) ≡ s
-parts_of_sets s a b up to =
-    let low = those_below s a in
-    let mid = those_in_range s a b in
-    let high = those_from s b in
-    let has_low = λ (n : ℕ). has-filter (λ x. nat_lt x a) s n in
-    let has_mid = λ (n : ℕ). has-filter (in_range a b) s n in
-    let has_high = λ (n : ℕ). has-filter (λ x. nat_le b x) s n in
-    let up_mid = subst (AscendsFrom a) (both_tests s a b up) (AscendsFrom-filter a (λ x. nat_lt x b) (those_from s a) (AscendsFrom-those_from 0 a s up)) in
-    let up_rest = AscendsFrom-joined a b mid high to up_mid (λ n is. grind (arith, nat_tests, has_mid n, is)) (AscendsFrom-those_from 0 b s up) in
-    same_members _ s (AscendsFrom-joined 0 a low (mid ++ high) (omega arith) (AscendsFrom-filter 0 _ s up) (λ n is. grind (arith, nat_tests, has_low n, is)) up_rest) up
-    (λ n. grind (arith, nat_tests, to, has_low n, has_mid n, has_high n, list_any-append (λ m. eqb m n) low (mid ++ high), list_any-append (λ m. eqb m n) mid high))
+-- The ranks of the members of a set: laws of `src/laws/ranges.rt`.
+use Rattle.std.proofs.Common.{◌≡◌, ℕ, zero, suc, ◌+◌, ◌≤◌, ◌↔◌, true, false, eqb, nat_lt, List, [], ◌∷◌, IsTrue, length, Some, slice_get, refl, sym, ap, ◌∙◌, subst, inl, inr, arith}
+use Rattle.std.proofs.lemmas.Bool.{cases_lt, Decides.nat_tests}
+use Rattle.set_algebra.specs.{Ranges.those_in_range, Sets.{AscendsFrom, IsAscending, has, those_below}}
+use Rattle.bit_set.proofs.MissingLaws.{in_range_from_0}
+use Rattle.set_algebra.proofs.SetLemmas.{has-below, has-first}
 
 -- ---- rank and select
 

@@ -1,14 +1,14 @@
 -- A walk over a part of a set: the block in which it ends is in hand at the back.
-use Rattle.std.proofs.Common.{◌≡◌, ℕ, zero, suc, ◌+◌, ◌-◌, ◌*◌, ◌/◌, ◌^◌, ◌<◌, ◌≤◌, ◌&&◌, if◌then◌else◌, nat_lt, Bool, true, false, List, [], ◌∷◌, ◌++◌, map, length, drop, ◌==◌, max, nat_le, All, min}
+use Rattle.std.proofs.Common.{◌≡◌, ℕ, zero, suc, ◌+◌, ◌-◌, ◌*◌, ◌/◌, ◌^◌, ◌<◌, ◌≤◌, ◌&&◌, if◌then◌else◌, nat_lt, Bool, true, false, List, [], ◌∷◌, ◌++◌, map, length, drop, ◌==◌, max, All, min}
 use Rattle.std.proofs.Common.{refl, sym, ap, ap₂, ◌∙◌, subst, inl, inr, arith, mul-le-mul_right, mod-lt, div-add-mod', ◌⊎◌}
 use Rattle.std.proofs.lemmas.Bool.{cond_both, eqb-false, cases_lt, Decides.nat_tests}
 use Rattle.std.proofs.lemmas.List.{append-nil, append_assoc, map-append, Elements.{All-nil, All-cons, All-head, All-tail, All-filter, All-map, All-weaker, filter-append}, Sums.{count_by-le-length, length-filter}}
-use Rattle.bit_blocks.specs.{Bits.blocks_for, Ranges.in_range, Digits.is_one}
+use Rattle.bit_blocks.specs.{Bits.blocks_for, Digits.is_one}
 use Rattle.bit_words.specs.Nonzero.{CutsAt, Hand, Nonzeros, nonzero_from}
-use Rattle.set_algebra.specs.{Sets.{AscendsFrom, IsAscending, elements, elements_from, those_below, those_from}, Ranges.those_in_range}
+use Rattle.set_algebra.specs.{Sets.{AscendsFrom, IsAscending, elements, elements_from, those_below}, Ranges.those_in_range}
 use Rattle.bit_set.specs.{Indexes.{digits_from, indexes, indexes_of, left_between, seen_of, IsSparseWalk}, Walk.{blocks_past, IsAtBlockOf, IsAtBlocksOf, IsAtStartOfPart}}
 use Rattle.bit_set.proofs.{EntryLemmas.{blocks_of_entry, passed_in_block, some_index}, IndexLemmas.{AscendsFrom-indexes, indexes-below, indexes-none}}
-use Rattle.set_algebra.proofs.SetLemmas.{AscendsFrom-filter, AscendsFrom-reach, IsAscending-elements, has-filter, same_members}
+use Rattle.set_algebra.proofs.{SplitLemmas.both_tests, SetLemmas.{AscendsFrom-filter, AscendsFrom-reach, IsAscending-elements}}
 use Rattle.bit_set.proofs.{FromLemmas.BeginsFrom, SparseLemmas.{ends_apart, indexes_of-append, whole_index}}
 
 -- ---- those of a block below a number
@@ -255,11 +255,6 @@ each_some {X = X} number k (x ∷ xs) =
     cond_both (number x == 0) (nonzero_from number (k + 1) xs) ((k, x) ∷ nonzero_from number (k + 1) xs) (All (λ (entry : ℕ × X). 0 < number entry.1))
     (λ _. rest)
     (λ some. let other = eqb-false (number x) 0 some in All-cons (λ (entry : ℕ × X). 0 < number entry.1) (k, x) _ (omega (arith, other)) rest)
-
-pub both_tests : (xs : List ℕ) (a b : ℕ) → IsAscending xs → those_below (those_from xs a) b ≡ those_in_range xs a b
-both_tests xs a b up =
-    same_members _ _ (AscendsFrom-filter 0 (λ n. nat_lt n b) _ (AscendsFrom-filter 0 (λ n. nat_le a n) xs up)) (AscendsFrom-filter 0 (in_range a b) xs up)
-    (λ n. grind (arith, nat_tests, has-filter (λ m. nat_lt m b) (those_from xs a) n, has-filter (λ m. nat_le a m) xs n, has-filter (in_range a b) xs n))
 
 -- What was made and cut: `front` and `back` were in hand of a walk from `from` on, over blocks of which the last is that of `back`.
 pub record IsPart {X : Type 0} (w : ℕ) (number : X → ℕ) (is_block : X → Type 0) (values : List Bool) (from : ℕ)

@@ -6,7 +6,7 @@ use Rattle.bit_blocks.specs.{BlockMerges.MergesToFalse, Bits.blocks_of, Mismatch
 use Rattle.bit_blocks.proofs.StorageLemmas.{value_at-is, value_at-index}
 use Rattle.set_algebra.specs.{Runs.IsProperSubset, Sets.{elements, has, is_subset}}
 use Rattle.set_algebra.proofs.{SetLemmas.{IsAscending-elements, has-first}, SubsetLemmas.{is_subset-both_ways, is_subset-members, same_tests}}
-use Rattle.bit_set.proofs.MismatchLemmas.{has-number, same_by_blocks}
+use Rattle.set_algebra.proofs.MismatchLemmas.{has-number, same_by_blocks}
 
 -- the blocks from one on have the values from its first on
 value_at-rest : (w at p : ℕ) (ms : List ℕ) (i : ℕ) → 0 < w → p ≡ min at (length ms) → value_at w (drop p ms) i ≡ value_at w ms (at * w + i)

@@ -14,5 +14,6 @@ pub mod RunLemmas
 pub mod RangeQueryLemmas
 pub mod PlaceLemmas
 pub mod OrderLemmas
+pub mod MismatchLemmas
 pub mod TestLemmas
 pub mod CallerLemmas

@@ -1,8 +1,10 @@
--- A set in two parts: those below a number, and the others.
-use Rattle.std.proofs.Common.{◌≡◌, ℕ, ◌-◌, ◌<◌, ◌≤◌, max, min, false, ltb, if◌then◌else◌, nat_lt, nat_le, List, Bool, [], ◌++◌, length, drop, replicate, ap₂, ◌∙◌, arith, IsTrue}
+-- A set in parts: those below a number and the others, or those below a range, in it and past it.
+use Rattle.std.proofs.Common.{◌≡◌, ℕ, ◌-◌, ◌<◌, ◌≤◌, max, min, false, ltb, if◌then◌else◌, nat_lt, nat_le, List, Bool, [], ◌++◌, length, drop, eqb, replicate, ap₂, subst, ◌∙◌, arith, IsTrue}
 use Rattle.std.proofs.{lemmas.Bool.Decides.nat_tests}
-use Rattle.std.proofs.lemmas.List.{get_or-drop, get_or-replicate, get_or_append_left, get_or-append_right, get_or_past, length-replicate}
-use Rattle.set_algebra.{specs.Sets.{IsAscending, has, elements, those_below, those_from, union}, proofs.SetLemmas.{AscendsFrom-filter, IsAscending-elements, elements-kept, has-filter, same_members}}
+use Rattle.std.proofs.lemmas.List.{get_or-drop, get_or-replicate, get_or_append_left, get_or-append_right, get_or_past, length-replicate, Folds.list_any-append}
+use Rattle.bit_blocks.specs.Ranges.{in_range}
+use Rattle.set_algebra.specs.{Ranges.those_in_range, Sets.{AscendsFrom, IsAscending, has, elements, those_below, those_from, union}}
+use Rattle.set_algebra.proofs.{RangeLemmas.{AscendsFrom-joined, AscendsFrom-those_from}, SetLemmas.{AscendsFrom-filter, IsAscending-elements, elements-kept, has-filter, same_members}}
 use Rattle.set_algebra.proofs.SetLaws.{IsAscending-put_all, has-put_all, same_values}
 
 pub elements-tail : (bs : List Bool) (n : ℕ) → elements (replicate n false ++ drop n bs) ≡ those_from (elements bs) n
@@ -44,3 +46,24 @@ pub rejoined : (a b c d : List Bool) (at : ℕ) → elements b ≡ those_below (
     → length c ≡ (if nat_lt at (length a) then length a else 0) → elements d ≡ union (elements b) (elements c) → length d ≡ max (length b) (length c) → d ≡ a
 rejoined a b c d at first first_length second second_length both both_length =
     same_values d a (both ∙ ap₂ union first second ∙ joined (elements a) at (IsAscending-elements a)) (grind (arith, nat_tests))
+
+-- ---- three parts
+
+pub both_tests : (xs : List ℕ) (a b : ℕ) → IsAscending xs → those_below (those_from xs a) b ≡ those_in_range xs a b
+both_tests xs a b up =
+    same_members _ _ (AscendsFrom-filter 0 (λ n. nat_lt n b) _ (AscendsFrom-filter 0 (λ n. nat_le a n) xs up)) (AscendsFrom-filter 0 (in_range a b) xs up)
+    (λ n. grind (arith, nat_tests, has-filter (λ m. nat_lt m b) (those_from xs a) n, has-filter (λ m. nat_le a m) xs n, has-filter (in_range a b) xs n))
+
+-- those below a range, those in it and those past it
+pub parts_of_sets : (s : List ℕ) (a b : ℕ) → IsAscending s → a ≤ b → those_below s a ++ (those_in_range s a b ++ those_from s b) ≡ s
+parts_of_sets s a b up to =
+    let low = those_below s a in
+    let mid = those_in_range s a b in
+    let high = those_from s b in
+    let has_low = λ (n : ℕ). has-filter (λ x. nat_lt x a) s n in
+    let has_mid = λ (n : ℕ). has-filter (in_range a b) s n in
+    let has_high = λ (n : ℕ). has-filter (λ x. nat_le b x) s n in
+    let up_mid = subst (AscendsFrom a) (both_tests s a b up) (AscendsFrom-filter a (λ x. nat_lt x b) (those_from s a) (AscendsFrom-those_from 0 a s up)) in
+    let up_rest = AscendsFrom-joined a b mid high to up_mid (λ n is. grind (arith, nat_tests, has_mid n, is)) (AscendsFrom-those_from 0 b s up) in
+    same_members _ s (AscendsFrom-joined 0 a low (mid ++ high) (omega arith) (AscendsFrom-filter 0 _ s up) (λ n is. grind (arith, nat_tests, has_low n, is)) up_rest) up
+    (λ n. grind (arith, nat_tests, to, has_low n, has_mid n, has_high n, list_any-append (λ m. eqb m n) low (mid ++ high), list_any-append (λ m. eqb m n) mid high))

@@ -1,5 +1,5 @@
 use Rattle.set_algebra.proofs.OrderLemmas.{order-alike}
-use Rattle.bit_set.proofs.MismatchLemmas.{all_alike}
+use Rattle.set_algebra.proofs.MismatchLemmas.{all_alike}
 use Rattle.bit_set.proofs.order.order_by.Goals as goal
 
 pub returns-in-None : goal.returns-in-None

@@ -2,7 +2,8 @@ use Rattle.std.proofs.Common.{sym, ◌+◌, ◌*◌, ◌<◌, ◌^◌, length, g
 use Rattle.bit_blocks.specs.Bits.{blocks_of}
 use Rattle.set_algebra.specs.{Mismatches.IsFirstMismatch, Sets.elements}
 use Rattle.set_algebra.proofs.OrderLemmas.{by_holder, by_other_holder}
-use Rattle.bit_set.proofs.{MismatchLemmas.{first_mismatch_is, first_within}, order.order_in_block.Goals.After-bits}
+use Rattle.set_algebra.proofs.MismatchLemmas.{first_mismatch_is, first_within}
+use Rattle.bit_set.proofs.order.order_in_block.Goals.{After-bits}
 use Rattle.bit_set.proofs.order.order_in_block.Goals as goal
 
 is_first : (g : _) (c : After-bits g) → IsFirstMismatch (elements c.args.a.now.values) (elements c.args.b.now.values) (c.args.at * c.bits.result + c.lowest_mismatch-index.result)

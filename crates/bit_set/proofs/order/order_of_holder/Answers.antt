@@ -1,6 +1,7 @@
 use Rattle.std.proofs.Common.{◌≡◌, ◌<◌, map, ap, ◌∙◌}
 use Rattle.bit_blocks.specs.Bits.{blocks_of}
-use Rattle.bit_set.proofs.{MismatchLemmas.{has_in_block, has_past_block, has_none}, order.order_of_holder.Goals.After-has_one_from}
+use Rattle.set_algebra.proofs.MismatchLemmas.{has_in_block, has_past_block, has_none}
+use Rattle.bit_set.proofs.order.order_of_holder.Goals.{After-has_one_from}
 use Rattle.bit_set.proofs.order.order_of_holder.Goals as goal
 
 numbers : (g : _) (c : After-has_one_from g) → (map g.B.BitBlock.number c.storage-blocks.result.now ≡ blocks_of c.bits-width.result c.args.other.now.values) × (0 < c.bits-width.result)

@@ -1,5 +1,6 @@
 use Rattle.std.proofs.Common.{sym, ◌∙◌, arith}
-use Rattle.bit_set.{proofs.{PartLaws.parts_of_sets, WalkLaws.{both_ends, pulled_sparsely, walked_out}}, specs.Walk.IsAtBlocksOf}
+use Rattle.set_algebra.proofs.SplitLemmas.{parts_of_sets}
+use Rattle.bit_set.{proofs.WalkLaws.{both_ends, pulled_sparsely, walked_out}, specs.Walk.IsAtBlocksOf}
 use Rattle.bit_set.proofs.laws.ranges.walks_over_parts.Goals as goal
 
 pub returns : goal.returns

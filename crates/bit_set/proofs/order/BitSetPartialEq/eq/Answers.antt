@@ -1,7 +1,7 @@
 use Rattle.std.proofs.Common.{ap}
 use Rattle.bit_blocks.specs.Bits.{blocks_of}
 use Rattle.set_algebra.proofs.MemberLemmas.{tells_same}
-use Rattle.bit_set.proofs.MismatchLemmas.{same_by_blocks}
+use Rattle.set_algebra.proofs.MismatchLemmas.{same_by_blocks}
 use Rattle.bit_set.proofs.order.BitSetPartialEq.eq.Goals as goal
 
 pub returns-clause-lists : goal.returns-clause-lists
