@@ -28,29 +28,6 @@ fn inputs_of(
     })
 }
 
-// What is done in each turn.
-#[derive(Clone, Copy)]
-enum Work {
-    Merge(Merge),
-    Count(Merge),
-    Compare,
-    UniteAndClear,
-    Walk,
-}
-
-const WORKS: &[Work] = &[
-    Work::Merge(Merge::Union),
-    Work::Merge(Merge::Intersection),
-    Work::Merge(Merge::Difference),
-    Work::Count(Merge::Union),
-    Work::Count(Merge::Intersection),
-    Work::Count(Merge::Difference),
-    Work::Count(Merge::Symmetric),
-    Work::Compare,
-    Work::UniteAndClear,
-    Work::Walk,
-];
-
 fn merge_turns(inputs: &mut Inputs, merge: Merge, turns: usize) -> Result<usize, SetError> {
     for turn in 0..turns {
         merge_into(merge, &mut inputs.ones[turn % 2], &inputs.other)?;
@@ -109,19 +86,26 @@ fn walk_turns(inputs: &Inputs, turns: usize) -> usize {
     sum
 }
 
-fn do_turns(inputs: &mut Inputs, work: Work, turns: usize) -> Result<usize, SetError> {
+// The work of this number, where there is such work.
+fn do_turns(inputs: &mut Inputs, work: usize, turns: usize) -> Result<usize, SetError> {
     match work {
-        Work::Merge(merge) => merge_turns(inputs, merge, turns),
-        Work::Count(merge) => Ok(count_turns(inputs, merge, turns)),
-        Work::Compare => Ok(compare_turns(inputs, turns)),
-        Work::UniteAndClear => clear_turns(inputs, turns),
-        Work::Walk => Ok(walk_turns(inputs, turns)),
+        0 => merge_turns(inputs, Merge::Union, turns),
+        1 => merge_turns(inputs, Merge::Intersection, turns),
+        2 => merge_turns(inputs, Merge::Difference, turns),
+        3 => Ok(count_turns(inputs, Merge::Union, turns)),
+        4 => Ok(count_turns(inputs, Merge::Intersection, turns)),
+        5 => Ok(count_turns(inputs, Merge::Difference, turns)),
+        6 => Ok(count_turns(inputs, Merge::Symmetric, turns)),
+        7 => Ok(compare_turns(inputs, turns)),
+        8 => clear_turns(inputs, turns),
+        9 => Ok(walk_turns(inputs, turns)),
+        _ => Ok(usize::MAX),
     }
 }
 
 fn run_turns(
     alloc: Global,
-    work: Work,
+    work: usize,
     len: usize,
     (first, second): (&[usize], &[usize]),
     turns: usize,
@@ -139,8 +123,5 @@ pub extern "C" fn bench_sparse(
     second: &[usize],
     turns: usize,
 ) -> usize {
-    let Some(work) = WORKS.get(work) else {
-        return usize::MAX;
-    };
-    run_turns(alloc, *work, len, (first, second), turns).unwrap_or(usize::MAX)
+    run_turns(alloc, work, len, (first, second), turns).unwrap_or(usize::MAX)
 }
