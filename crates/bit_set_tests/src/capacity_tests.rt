@@ -2,7 +2,7 @@
 ghost use Rattle.std.specs.Prelude.{◌≡◌, ◌<◌, ◌≤◌, All, IsOk, length, slice_set, true};
 
 use crate::expect::{expect, expect_eq, ok, set_of, set_of_bytes};
-use crate::steps::{Step, has_just, take};
+use crate::steps::{Step, has_just, steps, take};
 use bit_set::{BitBlock, BitSet, SetError};
 use block24::Block24;
 use std::alloc::Global;
@@ -36,14 +36,9 @@ fn the_bit_vector_is_handed_out(rt: HostRuntime) {
     expect_eq(&rt, &[bits.get(3), bits.get(4)], &[Some(true), None]);
 }
 
-const EXACTLY: &[Step] = &[
-    Step::ReserveExact(41),
-    Step::Capacity(48),
-    Step::Insert(40, true),
-    Step::Remove(40, true),
-    Step::Shrink,
-    Step::Capacity(0),
-];
+const EXACTLY: &[Step] = steps! {
+    ReserveExact(41) Capacity(48) Insert(40, true) Remove(40, true) Shrink Capacity(0)
+};
 
 #[test]
 fn capacity_is_reserved_and_given_back(rt: HostRuntime) {

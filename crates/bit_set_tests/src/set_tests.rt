@@ -2,7 +2,7 @@
 ghost use Rattle.std.specs.Prelude.{◌≡◌, IsErrOf, OnOk};
 
 use crate::expect::{Test, expect, expect_eq, ok, set_of, set_of_bytes, shows};
-use crate::steps::{Step, has_just, take};
+use crate::steps::{Step, has_just, steps, take};
 use bit_set::bit_vec::{BitVec, Merge};
 use bit_set::laws::parted_sets;
 use bit_set::{BitBlock, BitSet, SetError};
@@ -13,26 +13,14 @@ const GREATEST: usize = 18446744073709551615;
 
 // Each from a new set. The greatest number is no element, and a set that it is put into stays as it is.
 const ROWS: &[&[Step]] = &[
-    &[
-        Step::Insert(3, true),
-        Step::Insert(3, false),
-        Step::Insert(4, true),
-        Step::Insert(400, true),
-        Step::Insert(400, false),
-        Step::Count(3),
-        Step::Len(401),
-        Step::Blocks(13),
-    ],
-    &[
-        Step::InsertFails(GREATEST, SetError::Element),
-        Step::Elements(&[]),
-        Step::Len(0),
-        Step::IsEmpty(true),
-        Step::Insert(5, true),
-        Step::InsertFails(GREATEST, SetError::Element),
-        Step::Elements(&[5]),
-        Step::Len(6),
-    ],
+    steps! {
+        Insert(3, true) Insert(3, false) Insert(4, true) Insert(400, true) Insert(400, false)
+        Count(3) Len(401) Blocks(13)
+    },
+    steps! {
+        InsertFails(GREATEST, SetError::Element) Elements(&[]) Len(0) IsEmpty(true) Insert(5, true)
+        InsertFails(GREATEST, SetError::Element) Elements(&[5]) Len(6)
+    },
     // Items before one that fails stay in.
     &[
         Step::ExtendFails(&[7, GREATEST, 9], SetError::Element),
@@ -40,27 +28,16 @@ const ROWS: &[&[Step]] = &[
     ],
     // The list grows ahead of an item, and afterwards is as long as the items ask, also where one does not go in. The
     // capacity stays.
-    &[
-        Step::ReserveExact(5000),
-        Step::Extend(&[3000, 5, 2500]),
-        Step::Elements(&[5, 2500, 3000]),
-        Step::Len(3001),
-        Step::Blocks(94),
-        Step::Capacity(5024),
-        Step::ExtendFails(&[4000, GREATEST, 9], SetError::Element),
-        Step::Elements(&[5, 2500, 3000, 4000]),
-        Step::Len(4001),
-        Step::Blocks(126),
-        Step::Capacity(5024),
-    ],
+    steps! {
+        ReserveExact(5000) Extend(&[3000, 5, 2500]) Elements(&[5, 2500, 3000]) Len(3001) Blocks(94)
+        Capacity(5024) ExtendFails(&[4000, GREATEST, 9], SetError::Element)
+        Elements(&[5, 2500, 3000, 4000]) Len(4001) Blocks(126) Capacity(5024)
+    },
     // There is not so much memory.
-    &[
-        Step::Insert(5, true),
-        Step::InsertFails(18446744073709551614, SetError::Memory(AllocError)),
-        Step::ReserveFails(GREATEST),
-        Step::Elements(&[5]),
-        Step::Len(6),
-    ],
+    steps! {
+        Insert(5, true) InsertFails(18446744073709551614, SetError::Memory(AllocError))
+        ReserveFails(GREATEST) Elements(&[5]) Len(6)
+    },
 ];
 
 #[test]
@@ -92,24 +69,12 @@ fn a_set_and_a_list_grow_in_one_function(rt: HostRuntime) {
     expect_eq(&rt, &list.as_slice(), &[7, 3].as_slice());
 }
 
-const FOUR: &[Step] = &[
-    Step::Extend(&[20, 21, 22, 23]),
-    Step::Count(4),
-    Step::Remove(22, true),
-    Step::Count(3),
-    Step::Clear,
-    Step::Count(0),
-    Step::Len(24),
-];
+const FOUR: &[Step] = steps! {
+    Extend(&[20, 21, 22, 23]) Count(4) Remove(22, true) Count(3) Clear Count(0) Len(24)
+};
 
 // Of a set of two bytes.
-const COPIED: &[Step] = &[
-    Step::Count(4),
-    Step::MakeEmpty,
-    Step::Len(16),
-    Step::Reset,
-    Step::Len(0),
-];
+const COPIED: &[Step] = steps! { Count(4) MakeEmpty Len(16) Reset Len(0) };
 
 fn sets_are_made<B: BitBlock>(rt: &impl Test) {
     let mut set = ok(rt, BitSet::<B>::with_capacity_general(rt.alloc(), 20));
@@ -120,19 +85,10 @@ fn sets_are_made<B: BitBlock>(rt: &impl Test) {
 }
 
 // Nine ones are a set that has 8, that is not empty, and that has capacity for them.
-const NINE: &[Step] = &[
-    Step::Contains(8, true),
-    Step::IsEmpty(false),
-    Step::CapacityFrom(9),
-];
+const NINE: &[Step] = steps! { Contains(8, true) IsEmpty(false) CapacityFrom(9) };
 
 // Of a copy of {60, 65, 69}: one more number is new, and how many there are once the copy is cut off at 65.
-const CUT_COPY: &[Step] = &[
-    Step::Insert(100, true),
-    Step::Truncate(65),
-    Step::Count(1),
-    Step::Len(65),
-];
+const CUT_COPY: &[Step] = steps! { Insert(100, true) Truncate(65) Count(1) Len(65) };
 
 fn sets_are_copied<B: BitBlock>(rt: &impl Test) {
     let nine = ok(rt, BitVec::<B>::from_elem_general(rt.alloc(), 9, true));

@@ -35,6 +35,12 @@ pub(crate) enum Step {
     CapacityFrom(usize),
 }
 
+macro_rules! steps {
+    ($($name:ident$(($($with:expr),+))?)*) => { &[$(Step::$name$(($($with),+))?),*] };
+}
+
+pub(crate) use steps;
+
 // Whether a set has just these elements.
 pub(crate) fn has_just<B: BitBlock>(set: &BitSet<B>, elements: &[usize]) -> bool {
     set.iter().eq(elements.iter().copied())
