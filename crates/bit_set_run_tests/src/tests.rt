@@ -6,7 +6,7 @@ mod fakes;
 mod faults;
 mod tables;
 
-use crate::expect::{Test, expect, expect_eq, ok};
+use crate::expect::{Test, expect, expect_eq, ok, table};
 use bit_set_run::{LinesFault, run_lines, start};
 use block24::Block24;
 use fakes::{EndlessReader, PieceReader, PieceWriter};
@@ -19,65 +19,38 @@ const ELEMENT_COMMANDS: &[u8] =
 const ELEMENT_REPLIES: &[u8] = b"true\nfalse\ntrue\ntrue\ntrue\nfalse\n1\n{400}\n{}\n";
 
 // Inputs, and their outputs.
-const ROWS: &[(&[u8], &[u8])] = &[
-    (ELEMENT_COMMANDS, ELEMENT_REPLIES),
-    (
-        b"insert a 18446744073709551615\ncontains a 18446744073709551615\nfrob\nfrob 99999999999999999999\ninsert a 99999999999999999999\n",
-        b"refused element\nfalse\nbad command\nbad command\nbad number\n",
-    ),
-    (
-        b"insert q 99999999999999999999\n\ninsert a\ninsert  a 1\ninsert a -1\ninsert a 007\nremove a 18446744073709551615\nitems a\n",
-        b"bad command\nbad command\nbad command\nbad command\nbad command\ntrue\nfalse\n{7}\n",
-    ),
-    (
-        b"extend a 9 18446744073709551615 11\nextend a\nitems a\ncopy a a\ncopy a b\nitems b\ntruncate b 9\nis_empty b\nextend b 5 6 99999999999999999999\nextend b 5 x 99999999999999999999\nitems b\nextend b 3 1 2 1\ncount b\nempty b\nreset a\nitems a\n",
-        b"refused element\nok\n{9}\nrefused same\nok\n{9}\nok\ntrue\nbad number\nbad command\n{}\nok\n3\nok\nok\n{}\n",
-    ),
-    (
-        b"extend b 3 200\nrest iter b 0\nrest iter b 1\nrest iter b 9\nrest iter q 1\n",
-        b"ok\n2 {3, 200}\n1 {200}\n0 {}\nbad command\n",
-    ),
-    (
-        b"insert a 18446744073709551615\nunion_with a a\nfrob\ninsert a 99999999999999999999\ninsert q 1\n\ninsert a\ninsert a -1\ninsert a 007\ncopy a a\ncontains a 18446744073709551615\nextend a 9 18446744073709551615 11\nextend a\nitems a",
-        b"refused element\nrefused same\nbad command\nbad number\nbad command\nbad command\nbad command\nbad command\ntrue\nrefused same\nfalse\nrefused element\nok\n{7, 9}\n",
-    ),
-    (
-        b"extend a 1 3 5 200 500\nextend b 3 200\nrest frob a b 1\nrest union a b\nunion a\nunion a b 1\nrest union a b 99999999999999999999\nrest intersection a b 1\nrest symmetric_difference a b 2\nsymmetric_difference a a\ndifference b a\nintersection a b\ncmp c a\nsuperset c a\ndisjoint a c\nsubset a b\neq a b\nitems a\n",
-        b"ok\nok\nbad command\nbad command\nbad command\nbad command\nbad number\n1 {200}\n1 {500}\n{}\n{}\n{3, 200}\nLess\nfalse\ntrue\nfalse\nfalse\n{1, 3, 5, 200, 500}\n",
-    ),
-    (
-        b"extend a 1 3 5 200 500\nextend b 3 200\ndifference a b\nrest difference a b 1\nrest difference a b 9\nrest iter b 0\nrest union a b 3\nunion a b\nsymmetric_difference b a\nintersection a a\nsuperset a b\nintersect_with a b\nitems a\neq a b\ncmp a b\ncmp a c\nsubset c a\ndisjoint a b\nreserve c 100\nshrink a\ntruncate a 200\nitems a\nunion_with c b\nsymmetric_difference_with c a\nitems c\ndifference_with b a\nitems b\ncopy d a\nis_empty a\nempty b\nreset c\neq b c\nreserve_exact c 64\ncount c\n",
-        b"ok\nok\n{1, 5, 500}\n2 {5, 500}\n0 {}\n2 {3, 200}\n2 {200, 500}\n{1, 3, 5, 200, 500}\n{1, 5, 500}\n{1, 3, 5, 200, 500}\ntrue\nok\n{3, 200}\ntrue\nEqual\nGreater\ntrue\nfalse\nok\nok\nok\n{3}\nok\nok\n{200}\nok\n{200}\nok\ntrue\nok\nok\ntrue\nok\n0\n",
-    ),
-    (
-        b"extend a 3 200\nreserve a 100\nreserve_exact a 500\nitems a\nshrink a\nitems a\nreserve a\nreserve a 1 2\nreserve_exact q 99999999999999999999\nreserve_exact a 99999999999999999999\nshrink\nshrink a 1\nshrink q\nreserve_len a 1\nitems a\n",
-        b"ok\nok\nok\n{3, 200}\nok\n{3, 200}\nbad command\nbad command\nbad command\nbad number\nbad command\nbad command\nbad command\nbad command\n{3, 200}\n",
-    ),
-    (
-        b"extend a 2 6\nextend b 1 3 6\nappend a b\nitems a\nitems b\nsplit_off a 3 c\nitems a\nitems c\nsplit_off a 0 c\nitems a\nitems c\nsplit_off c 50 d\nitems d\nappend c c\nsplit_off c 1 c\n",
-        b"ok\nok\nok\n{1, 2, 3, 6}\n{}\nok\n{1, 2}\n{3, 6}\nok\n{}\n{1, 2}\nok\n{}\nrefused same\nrefused same\n",
-    ),
-    (
-        b"extend a 4 9 300\nappend a\nappend a b c\nappend a 1\nsplit_off a 5\nsplit_off a b 5\nsplit_off a 5 b c\nsplit_off a 99999999999999999999 q\nsplit_off a 99999999999999999999 b\nsplit_off a 18446744073709551615 b\nsplit_off a 009 b\nitems a\nitems b\nappend b a\nappend b a\nitems b\ncount a\n",
-        b"ok\nbad command\nbad command\nbad command\nbad command\nbad command\nbad command\nbad command\nbad number\nok\nok\n{4}\n{9, 300}\nok\nok\n{4, 9, 300}\n0\n",
-    ),
+const ROWS: &[(&[u8], &[u8])] = table! {
+    ELEMENT_COMMANDS, ELEMENT_REPLIES;
+    b"insert a 18446744073709551615\ncontains a 18446744073709551615\nfrob\nfrob 99999999999999999999\ninsert a 99999999999999999999\n",
+        b"refused element\nfalse\nbad command\nbad command\nbad number\n";
+    b"insert q 99999999999999999999\n\ninsert a\ninsert  a 1\ninsert a -1\ninsert a 007\nremove a 18446744073709551615\nitems a\n",
+        b"bad command\nbad command\nbad command\nbad command\nbad command\ntrue\nfalse\n{7}\n";
+    b"extend a 9 18446744073709551615 11\nextend a\nitems a\ncopy a a\ncopy a b\nitems b\ntruncate b 9\nis_empty b\nextend b 5 6 99999999999999999999\nextend b 5 x 99999999999999999999\nitems b\nextend b 3 1 2 1\ncount b\nempty b\nreset a\nitems a\n",
+        b"refused element\nok\n{9}\nrefused same\nok\n{9}\nok\ntrue\nbad number\nbad command\n{}\nok\n3\nok\nok\n{}\n";
+    b"extend b 3 200\nrest iter b 0\nrest iter b 1\nrest iter b 9\nrest iter q 1\n",
+        b"ok\n2 {3, 200}\n1 {200}\n0 {}\nbad command\n";
+    b"insert a 18446744073709551615\nunion_with a a\nfrob\ninsert a 99999999999999999999\ninsert q 1\n\ninsert a\ninsert a -1\ninsert a 007\ncopy a a\ncontains a 18446744073709551615\nextend a 9 18446744073709551615 11\nextend a\nitems a",
+        b"refused element\nrefused same\nbad command\nbad number\nbad command\nbad command\nbad command\nbad command\ntrue\nrefused same\nfalse\nrefused element\nok\n{7, 9}\n";
+    b"extend a 1 3 5 200 500\nextend b 3 200\nrest frob a b 1\nrest union a b\nunion a\nunion a b 1\nrest union a b 99999999999999999999\nrest intersection a b 1\nrest symmetric_difference a b 2\nsymmetric_difference a a\ndifference b a\nintersection a b\ncmp c a\nsuperset c a\ndisjoint a c\nsubset a b\neq a b\nitems a\n",
+        b"ok\nok\nbad command\nbad command\nbad command\nbad command\nbad number\n1 {200}\n1 {500}\n{}\n{}\n{3, 200}\nLess\nfalse\ntrue\nfalse\nfalse\n{1, 3, 5, 200, 500}\n";
+    b"extend a 1 3 5 200 500\nextend b 3 200\ndifference a b\nrest difference a b 1\nrest difference a b 9\nrest iter b 0\nrest union a b 3\nunion a b\nsymmetric_difference b a\nintersection a a\nsuperset a b\nintersect_with a b\nitems a\neq a b\ncmp a b\ncmp a c\nsubset c a\ndisjoint a b\nreserve c 100\nshrink a\ntruncate a 200\nitems a\nunion_with c b\nsymmetric_difference_with c a\nitems c\ndifference_with b a\nitems b\ncopy d a\nis_empty a\nempty b\nreset c\neq b c\nreserve_exact c 64\ncount c\n",
+        b"ok\nok\n{1, 5, 500}\n2 {5, 500}\n0 {}\n2 {3, 200}\n2 {200, 500}\n{1, 3, 5, 200, 500}\n{1, 5, 500}\n{1, 3, 5, 200, 500}\ntrue\nok\n{3, 200}\ntrue\nEqual\nGreater\ntrue\nfalse\nok\nok\nok\n{3}\nok\nok\n{200}\nok\n{200}\nok\ntrue\nok\nok\ntrue\nok\n0\n";
+    b"extend a 3 200\nreserve a 100\nreserve_exact a 500\nitems a\nshrink a\nitems a\nreserve a\nreserve a 1 2\nreserve_exact q 99999999999999999999\nreserve_exact a 99999999999999999999\nshrink\nshrink a 1\nshrink q\nreserve_len a 1\nitems a\n",
+        b"ok\nok\nok\n{3, 200}\nok\n{3, 200}\nbad command\nbad command\nbad command\nbad number\nbad command\nbad command\nbad command\nbad command\n{3, 200}\n";
+    b"extend a 2 6\nextend b 1 3 6\nappend a b\nitems a\nitems b\nsplit_off a 3 c\nitems a\nitems c\nsplit_off a 0 c\nitems a\nitems c\nsplit_off c 50 d\nitems d\nappend c c\nsplit_off c 1 c\n",
+        b"ok\nok\nok\n{1, 2, 3, 6}\n{}\nok\n{1, 2}\n{3, 6}\nok\n{}\n{1, 2}\nok\n{}\nrefused same\nrefused same\n";
+    b"extend a 4 9 300\nappend a\nappend a b c\nappend a 1\nsplit_off a 5\nsplit_off a b 5\nsplit_off a 5 b c\nsplit_off a 99999999999999999999 q\nsplit_off a 99999999999999999999 b\nsplit_off a 18446744073709551615 b\nsplit_off a 009 b\nitems a\nitems b\nappend b a\nappend b a\nitems b\ncount a\n",
+        b"ok\nbad command\nbad command\nbad command\nbad command\nbad command\nbad command\nbad command\nbad number\nok\nok\n{4}\n{9, 300}\nok\nok\n{4, 9, 300}\n0\n";
     // The greatest numbers, at each verb that takes one and needs no memory for it.
-    (
-        b"insert a 5\ncontains a 18446744073709551614\nremove a 18446744073709551614\nremove a 18446744073709551615\ntruncate a 18446744073709551614\ntruncate a 18446744073709551615\nextend a 18446744073709551615\nextend a 7 18446744073709551615 9\nrest iter a 18446744073709551614\nrest iter a 18446744073709551615\nrest union a b 18446744073709551615\nrest intersection a b 18446744073709551615\nrest difference a b 18446744073709551615\nrest symmetric_difference a b 18446744073709551615\nremove a 18446744073709551616\nrest iter a 18446744073709551616\ntruncate a 18446744073709551616\nitems a\n",
-        b"true\nfalse\nfalse\nfalse\nok\nok\nrefused element\nrefused element\n0 {}\n0 {}\n0 {}\n0 {}\n0 {}\n0 {}\nbad number\nbad number\nbad number\n{5, 7}\n",
-    ),
-    (b"", b""),
+    b"insert a 5\ncontains a 18446744073709551614\nremove a 18446744073709551614\nremove a 18446744073709551615\ntruncate a 18446744073709551614\ntruncate a 18446744073709551615\nextend a 18446744073709551615\nextend a 7 18446744073709551615 9\nrest iter a 18446744073709551614\nrest iter a 18446744073709551615\nrest union a b 18446744073709551615\nrest intersection a b 18446744073709551615\nrest difference a b 18446744073709551615\nrest symmetric_difference a b 18446744073709551615\nremove a 18446744073709551616\nrest iter a 18446744073709551616\ntruncate a 18446744073709551616\nitems a\n",
+        b"true\nfalse\nfalse\nfalse\nok\nok\nrefused element\nrefused element\n0 {}\n0 {}\n0 {}\n0 {}\n0 {}\n0 {}\nbad number\nbad number\nbad number\n{5, 7}\n";
+    b"", b"";
     // The last line may lack its newline.
-    (
-        b"insert p 0\ninsert p 10\nitems p",
-        b"true\ntrue\n{0, 10}\n",
-    ),
+    b"insert p 0\ninsert p 10\nitems p", b"true\ntrue\n{0, 10}\n";
     // A carriage return, a tab, a byte past ASCII, a capital letter, a plus sign and spaces at the ends.
-    (
-        b"count a\r\n\tcount a\ncount\t a\ncount \xC3\xA4\nCount a\ninsert a +1\n count a\ncount a \n\n",
-        b"bad command\nbad command\nbad command\nbad command\nbad command\nbad command\nbad command\nbad command\nbad command\n",
-    ),
-];
+    b"count a\r\n\tcount a\ncount\t a\ncount \xC3\xA4\nCount a\ninsert a +1\n count a\ncount a \n\n",
+        b"bad command\nbad command\nbad command\nbad command\nbad command\nbad command\nbad command\nbad command\nbad command\n";
+};
 
 // The status of the program, and what it says.
 type Ended = (u8, &'static str);

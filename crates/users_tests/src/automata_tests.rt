@@ -1,5 +1,5 @@
 //! Automata of textbooks, worked out by hand, the examples of the doc comments, and large automata.
-use crate::expect::{Test, expect, expect_eq, ok, set_of, sets_of, shows};
+use crate::expect::{Test, expect, expect_eq, ok, set_of, sets_of, shows, table};
 use automata::{Dfa, DfaError, Nfa, accepts, determinize, equivalent};
 use bit_set::{BitBlock, BitSet};
 use std::alloc::AllocError;
@@ -244,27 +244,17 @@ fn accept_marked<B: BitBlock>(rt: &impl Test, both: &Both<B>, length: usize, mar
 
 // An automaton, how many states the deterministic one may have, the marks of the words of each length, and how many
 // states and symbols the deterministic one has.
-const WORDS: &[(Edges<'static>, usize, &[&[u8]], (usize, usize))] = &[
-    (
-        THIRD_FROM_END,
-        8,
-        &[b"0", b"00", b"0000", b"00001111", b"0000111100001111"],
-        (8, 2),
-    ),
-    (THIRD_FROM_END, 100, &[], (8, 2)),
-    (NOTHING, 1, &[b"0", b"00"], (1, 0)),
-    (EMPTY_WORD, 1, &[b"1", b"00"], (1, 0)),
-    (
-        NONE_ACCEPTS,
-        8,
-        &[b"0", b"00", b"0000", b"00000000"],
-        (8, 2),
-    ),
+const WORDS: &[(Edges<'static>, usize, &[&[u8]], (usize, usize))] = table! {
+    THIRD_FROM_END, 8, &[b"0", b"00", b"0000", b"00001111", b"0000111100001111"], (8, 2);
+    THIRD_FROM_END, 100, &[], (8, 2);
+    NOTHING, 1, &[b"0", b"00"], (1, 0);
+    EMPTY_WORD, 1, &[b"1", b"00"], (1, 0);
+    NONE_ACCEPTS, 8, &[b"0", b"00", b"0000", b"00000000"], (8, 2);
     // The second state of the deterministic one is the empty set.
-    (ZEROS, 2, &[b"1", b"10", b"1000", b"10000000"], (2, 2)),
+    ZEROS, 2, &[b"1", b"10", b"1000", b"10000000"], (2, 2);
     // Its states are past the first blocks of sets.
-    (FAR_STATES, 10, &[b"1", b"00", b"1000", b"00000000"], (4, 1)),
-];
+    FAR_STATES, 10, &[b"1", b"00", b"1000", b"00000000"], (4, 1);
+};
 
 #[test]
 fn automata_accept_their_words(rt: HostRuntime) {

@@ -1,6 +1,6 @@
 //! The solver and the analyses, over programs of textbooks, problems at the edge and chains of many blocks, and the
 //! examples of the doc comments.
-use crate::expect::{Test, expect, expect_eq, ok};
+use crate::expect::{Test, expect, expect_eq, ok, table};
 use bit_set::{BitBlock, BitSet};
 use dataflow::{
     DefinitionBlock, ExpressionBlock, FlowBlock, VariableBlock, available_expressions,
@@ -94,7 +94,7 @@ fn parts_of<B: BitBlock>(rt: &impl Test, problem: Problem, number: usize) -> Par
 
 // The blocks of a problem, of a kind with these fields.
 macro_rules! blocks_of {
-    ($rt:expr, $problem:expr, $block:ident { $neighbours:ident, $generated:ident, $killed:ident }) => {{
+    ($rt:expr, $problem:expr => $block:ident: $neighbours:ident, $generated:ident, $killed:ident) => {{
         let mut blocks = Vec::new($rt.alloc());
         for number in 0..count_of($problem) {
             let Parts { neighbours, generated, killed } = parts_of($rt, $problem, number);
@@ -106,51 +106,19 @@ macro_rules! blocks_of {
 }
 
 fn flow_blocks<B: BitBlock>(rt: &impl Test, problem: Problem) -> Vec<FlowBlock<B>> {
-    blocks_of!(
-        rt,
-        problem,
-        FlowBlock {
-            sources,
-            generated,
-            killed
-        }
-    )
+    blocks_of!(rt, problem => FlowBlock: sources, generated, killed)
 }
 
 fn variable_blocks<B: BitBlock>(rt: &impl Test, problem: Problem) -> Vec<VariableBlock<B>> {
-    blocks_of!(
-        rt,
-        problem,
-        VariableBlock {
-            successors,
-            used,
-            assigned
-        }
-    )
+    blocks_of!(rt, problem => VariableBlock: successors, used, assigned)
 }
 
 fn definition_blocks<B: BitBlock>(rt: &impl Test, problem: Problem) -> Vec<DefinitionBlock<B>> {
-    blocks_of!(
-        rt,
-        problem,
-        DefinitionBlock {
-            predecessors,
-            defined,
-            overwritten
-        }
-    )
+    blocks_of!(rt, problem => DefinitionBlock: predecessors, defined, overwritten)
 }
 
 fn expression_blocks<B: BitBlock>(rt: &impl Test, problem: Problem) -> Vec<ExpressionBlock<B>> {
-    blocks_of!(
-        rt,
-        problem,
-        ExpressionBlock {
-            predecessors,
-            computed,
-            killed
-        }
-    )
+    blocks_of!(rt, problem => ExpressionBlock: predecessors, computed, killed)
 }
 
 // The set of each block.
@@ -202,76 +170,38 @@ const OWN: &[Row] = &[(0b1, 0b001, 0b011)];
 const PAST: &[Row] = &[(0b101, 0b001, 0b011)];
 
 // Programs, with the results worked out by hand.
-const PROGRAMS: &[(Analysis, &[Row], &[u32])] = &[
+const PROGRAMS: &[(Analysis, &[Row], &[u32])] = table! {
     // a = 0; do { b = a + 1; c = c + b; a = b * 2; } while a < n; return c, with a block for each statement. The values
     // are a, b and c. Before the loop c alone is live, at its first statement and its test a and c, between them b and c.
-    (
-        Analysis::Live,
-        &[
-            (0b10, 0b000, 0b001),
-            (0b100, 0b001, 0b010),
-            (0b1000, 0b110, 0b100),
-            (0b1_0000, 0b010, 0b001),
-            (0b10_0010, 0b001, 0),
-            (0, 0b100, 0),
-        ],
-        &[0b100, 0b101, 0b110, 0b110, 0b101, 0b100],
-    ),
+    Analysis::Live,
+        &[(0b10, 0b000, 0b001), (0b100, 0b001, 0b010), (0b1000, 0b110, 0b100),
+            (0b1_0000, 0b010, 0b001), (0b10_0010, 0b001, 0), (0, 0b100, 0)],
+        &[0b100, 0b101, 0b110, 0b110, 0b101, 0b100];
     // Seven definitions, of i, j, a in the first block, of i and j in the second, of a in the third and of i in the fourth.
     // The second is the head of a loop that the fourth ends, with the third on one of two ways between them.
-    (
-        Analysis::Reaching,
-        &[
-            (0, 0b000_0111, 0b111_1000),
-            (0b1001, 0b001_1000, 0b100_0011),
-            (0b10, 0b010_0000, 0b000_0100),
-            (0b110, 0b100_0000, 0b000_1001),
-        ],
-        &[0b000_0111, 0b011_1100, 0b011_1000, 0b111_0100],
-    ),
+    Analysis::Reaching,
+        &[(0, 0b000_0111, 0b111_1000), (0b1001, 0b001_1000, 0b100_0011), (0b10, 0b010_0000, 0b000_0100),
+            (0b110, 0b100_0000, 0b000_1001)],
+        &[0b000_0111, 0b011_1100, 0b011_1000, 0b111_0100];
     // x = a + b; y = a * b; while y > a + b { a = a + 1; x = a + b; }. The expressions are a + b, a * b and a + 1.
-    (
-        Analysis::Available(3),
-        &[
-            (0, 0b001, 0),
-            (0b1, 0b010, 0),
-            (0b1_0010, 0b001, 0),
-            (0b100, 0, 0b111),
-            (0b1000, 0b001, 0),
-        ],
-        &[0b001, 0b011, 0b001, 0, 0b001],
-    ),
-    (
-        Analysis::Reaching,
-        IRREDUCIBLE,
-        &[0b0001, 0b0111, 0b0110, 0b1101],
-    ),
-    (
-        Analysis::Available(4),
-        IRREDUCIBLE,
-        &[0b0001, 0b0010, 0b0100, 0b1000],
-    ),
+    Analysis::Available(3),
+        &[(0, 0b001, 0), (0b1, 0b010, 0), (0b1_0010, 0b001, 0), (0b100, 0, 0b111), (0b1000, 0b001, 0)],
+        &[0b001, 0b011, 0b001, 0, 0b001];
+    Analysis::Reaching, IRREDUCIBLE, &[0b0001, 0b0111, 0b0110, 0b1101];
+    Analysis::Available(4), IRREDUCIBLE, &[0b0001, 0b0010, 0b0100, 0b1000];
     // Block 0 assigns x and goes on to block 2, which uses it. Block 1, which uses y, is never entered.
-    (
-        Analysis::Live,
-        &[(0b100, 0, 0b01), (0b100, 0b10, 0), (0, 0b01, 0)],
-        &[0, 0b11, 0b01],
-    ),
+    Analysis::Live, &[(0b100, 0, 0b01), (0b100, 0b10, 0), (0, 0b01, 0)], &[0, 0b11, 0b01];
     // A loop that is never entered. All is available there that it does not kill.
-    (
-        Analysis::Available(4),
-        &[(0, 0b001, 0), (0b10, 0b010, 0b100)],
-        &[0b0001, 0b1011],
-    ),
+    Analysis::Available(4), &[(0, 0b001, 0), (0b10, 0b010, 0b100)], &[0b0001, 0b1011];
     // No block, and no expression.
-    (Analysis::Flow, &[], &[]),
-    (Analysis::Available(7), &[], &[]),
-    (Analysis::Available(0), &[(0b1, 0b11, 0)], &[0]),
-    (Analysis::Flow, OWN, &[0b001]),
-    (Analysis::Available(3), OWN, &[0b101]),
-    (Analysis::Flow, PAST, &[0b001]),
-    (Analysis::Available(3), PAST, &[0b001]),
-];
+    Analysis::Flow, &[], &[];
+    Analysis::Available(7), &[], &[];
+    Analysis::Available(0), &[(0b1, 0b11, 0)], &[0];
+    Analysis::Flow, OWN, &[0b001];
+    Analysis::Available(3), OWN, &[0b101];
+    Analysis::Flow, PAST, &[0b001];
+    Analysis::Available(3), PAST, &[0b001];
+};
 
 #[test]
 fn programs_have_their_sets(rt: HostRuntime) {

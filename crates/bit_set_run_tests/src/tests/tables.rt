@@ -1,5 +1,5 @@
 //! Commands executed on a table by hand. What came of them is compared as the text that Debug shows.
-use crate::expect::{Test, expect, expect_eq, ok};
+use crate::expect::{Test, expect, expect_eq, ok, table};
 use bit_set_commands::read_line;
 use bit_set_run::laws::replies_agree;
 use bit_set_run::{Command, Numbers, SetName, Table, run};
@@ -42,20 +42,13 @@ fn check_replies(rt: &impl Test, lines: &str, wanted: &str) {
 }
 
 // Commands, their end and their replies. Memory ends the commands at one that stays undone, or is done in front.
-const REPLIES: &[(&str, &str)] = &[
-    (
-        "insert a 5\nremove a 6\ncontains a 5\ncount a\nitems a\ninsert a 18446744073709551615\ninsert a 18446744073709551614\ncount a",
-        "Err(Memory(6)) [Truth(true), Truth(false), Truth(true), Number(1), Items(Numbers { items: [5] }), Element, Items(Numbers { items: [5] })]",
-    ),
-    (
-        "count a\nextend a 5 18446744073709551614\ncount a",
-        "Err(Memory(1)) [Number(0), Items(Numbers { items: [5] })]",
-    ),
-    (
-        "insert a 5\nreserve a 64\nshrink a\nreserve a 18446744073709551615\ninsert a 6",
-        "Err(Memory(3)) [Truth(true), Done, Done, Items(Numbers { items: [5] })]",
-    ),
-];
+const REPLIES: &[(&str, &str)] = table! {
+    "insert a 5\nremove a 6\ncontains a 5\ncount a\nitems a\ninsert a 18446744073709551615\ninsert a 18446744073709551614\ncount a",
+        "Err(Memory(6)) [Truth(true), Truth(false), Truth(true), Number(1), Items(Numbers { items: [5] }), Element, Items(Numbers { items: [5] })]";
+    "count a\nextend a 5 18446744073709551614\ncount a", "Err(Memory(1)) [Number(0), Items(Numbers { items: [5] })]";
+    "insert a 5\nreserve a 64\nshrink a\nreserve a 18446744073709551615\ninsert a 6",
+        "Err(Memory(3)) [Truth(true), Done, Done, Items(Numbers { items: [5] })]";
+};
 
 #[test]
 fn commands_have_replies(rt: HostRuntime) {
@@ -98,39 +91,23 @@ fn check_sizes(rt: &impl Test, commands: &[Command], [one, other]: Shown, wanted
 }
 
 // Commands, and the sizes that are shown after each.
-const SIZES: &[(&str, Shown, &str)] = &[
-    (
-        "count a\ninsert a 400\ninsert a 3\nextend a 7 500\ntruncate a 450\ntruncate a 900\nempty a\ncopy a b\nreset a\ncopy a b",
-        LENGTHS,
-        "0 0, 401 0, 401 0, 501 0, 450 0, 450 0, 450 0, 450 450, 0 450, 0 0, ",
-    ),
+const SIZES: &[(&str, Shown, &str)] = table! {
+    "count a\ninsert a 400\ninsert a 3\nextend a 7 500\ntruncate a 450\ntruncate a 900\nempty a\ncopy a b\nreset a\ncopy a b",
+        LENGTHS, "0 0, 401 0, 401 0, 501 0, 450 0, 450 0, 450 0, 450 450, 0 450, 0 0, ";
     // What is appended keeps its length, and what is split off has that of the set that it comes from, but an end of
     // no numbers has none.
-    (
-        "extend a 2 6\nextend b 1 3 40\nappend a b\nsplit_off a 3 b\nappend b a\nsplit_off b 50 a\nsplit_off b 0 a\nsplit_off a 0 a",
-        LENGTHS,
-        "7 0, 7 41, 41 41, 3 41, 3 41, 0 41, 41 0, 41 0, ",
-    ),
+    "extend a 2 6\nextend b 1 3 40\nappend a b\nsplit_off a 3 b\nappend b a\nsplit_off b 50 a\nsplit_off b 0 a\nsplit_off a 0 a",
+        LENGTHS, "7 0, 7 41, 41 41, 3 41, 3 41, 0 41, 41 0, 41 0, ";
     // What is asked for exactly is a whole number of blocks.
-    (
-        "count a\nreserve_exact a 100\ninsert a 3\nreserve a 5\nshrink a\nremove a 3\nshrink a",
-        LENGTH_AND_CAPACITY,
-        "0 0, 0 128, 4 128, 4 128, 32 32, 32 32, 0 0, ",
-    ),
+    "count a\nreserve_exact a 100\ninsert a 3\nreserve a 5\nshrink a\nremove a 3\nshrink a", LENGTH_AND_CAPACITY,
+        "0 0, 0 128, 4 128, 4 128, 32 32, 32 32, 0 0, ";
     // A set without capacity gets the blocks that it is asked for, 32 for 1,000.
-    (
-        "reserve a 1000\nreserve_exact b 1000",
-        CAPACITIES,
-        "1024 0, 1024 1024, ",
-    ),
+    "reserve a 1000\nreserve_exact b 1000", CAPACITIES, "1024 0, 1024 1024, ";
     // A copy and what is split off have the blocks of their length. Nothing that is copied or split off at the length
     // has any, and all that is split off has those that were there.
-    (
-        "reserve_exact a 500\nextend a 40 1 3\ncopy a b\nreset b\nshrink b\nsplit_off a 3 b\nsplit_off a 0 b\ncopy a b\nsplit_off b 0 a\nsplit_off a 5 b",
-        CAPACITIES,
-        "512 0, 512 0, 512 64, 512 64, 512 0, 512 64, 0 512, 0 512, 512 0, 512 0, ",
-    ),
-];
+    "reserve_exact a 500\nextend a 40 1 3\ncopy a b\nreset b\nshrink b\nsplit_off a 3 b\nsplit_off a 0 b\ncopy a b\nsplit_off b 0 a\nsplit_off a 5 b",
+        CAPACITIES, "512 0, 512 0, 512 64, 512 64, 512 0, 512 64, 0 512, 0 512, 512 0, 512 0, ";
+};
 
 #[test]
 fn sets_have_their_sizes(rt: HostRuntime) {
