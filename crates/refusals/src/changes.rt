@@ -1,8 +1,8 @@
 // Calls on a set and another one that is lent to them, or that make one in the place of the set.
 use crate::faults::Fault;
+use crate::groups::Group;
 use crate::plain::{BYTES, Plain, is_made};
 use crate::states::{LENT, LENT_ELEMENTS, Start, State, first_set, is_state, set_of, works};
-use crate::steps::{Step, are_right};
 use crate::sweep::Trial;
 use bit_set::bit_vec::BitVec;
 use bit_set::{BitBlock, BitSet, SetError};
@@ -41,8 +41,8 @@ pub enum Call {
     Make(Make),
     /// Makes a set over blocks of 32 bits, by a call that has no other ones.
     Plain(Plain),
-    /// Calls that take no memory, each with the number that it returns.
-    Steps(&'static [(Step, usize)]),
+    /// Calls that take no memory.
+    Group(Group),
 }
 
 pub enum InPlace {
@@ -281,7 +281,7 @@ impl<B: BitBlock> Trial<Change> for Sets<B> {
             Call::Report(call) => return Ok(reported(alloc, call, &mut self.set, &self.lent)?),
             Call::Put(call) => return Ok(put_in(call, &mut self.set)?),
             Call::Plain(call) => return is_made(alloc, call),
-            Call::Steps(steps) => return Ok(are_right(alloc, steps, &mut self.set, &self.lent)),
+            Call::Group(group) => return Ok(group.is_right(alloc, &mut self.set, &self.lent)),
         }
         Ok(true)
     }

@@ -1,14 +1,10 @@
 // The calls on sets, in the order in which they are made, with what each may ask for and leaves.
 use crate::asks::Ask::{self, Exact, Grown, Lists, Other};
 use crate::changes::{Bits, Call, Change, Exchange, InPlace, Make, Order, Put, Report};
-use crate::failing_writers::Text;
+use crate::groups::Group;
 use crate::plain::Plain;
 use crate::states::State::{self, Blocks, Filled, Of};
 use crate::states::{AMPLE, EMPTY, FIRST, FULL, LENT, LONG, SHORT};
-use crate::steps::{
-    Alter, AlterBits, Number, OfBits, OfNew, Step, Truth, TruthOfBits, Walk as Count, Walk as Hint,
-    Walk as Sum,
-};
 use crate::sweep::Row;
 
 const NONE: &[Ask] = &[];
@@ -123,81 +119,23 @@ pub const PLAIN: &[Row<Change>] = changes! {
     "plain_bits_from_bytes", &[Exact(128)], Plain::BitsFromBytes, FULL, FIRST, LENT, FIRST;
 };
 
-// A row for each group of calls that take no memory: its name, the calls with their numbers, and what the set then is.
-macro_rules! groups {
-    ($($name:literal, [$($kind:ident::$step:ident$(($($with:expr),+))? => $wanted:literal),+], $left:expr;)*) => {
-        &[$(Row {
-            name: $name,
-            asks: NONE,
-            call: Change {
-                call: Call::Steps(&[$((Step::$kind($kind::$step$(($($with),+))?), $wanted)),+]),
-                start: LONG, returned: $left, lent: LENT, failed: LENGTHENED,
-            },
-        }),*]
-    };
-}
-
-pub const GROUPS: &[Row<Change>] = groups! {
-    "empty_ones", [
-        OfNew::Count => 0, OfNew::Capacity => 0, OfNew::IsEmpty => 1, OfNew::IsPlainEmpty => 1, OfNew::BitsLen => 0,
-        OfNew::LenInTable => 0, OfNew::Numbers => 0
-    ], LENGTHENED;
-    "questions", [
-        Number::Count => 2, Number::Len => 2, Truth::Contains(447) => 1, Truth::IsEmpty => 0, Truth::HasCapacity => 1,
-        Truth::IsSubset => 0, Truth::IsSuperset => 0, Truth::IsDisjoint => 0
-    ], LENGTHENED;
-    "comparisons", [
-        Truth::Equals => 0, Truth::EqualsItself => 1, Truth::IsGreater => 1, Truth::IsPartlyGreater => 1,
-        Truth::IsLess => 0, Number::Hash => 16
-    ], LENGTHENED;
-    "walks", [
-        Sum::Own => 450, Count::Own => 1, Sum::Union => 5457, Sum::Intersection => 3, Sum::Difference => 447,
-        Sum::Symmetric => 5454
-    ], LENGTHENED;
-    "hints", [
-        Hint::Own => 1, Hint::Union => 1, Hint::Intersection => 5001, Hint::Difference => 1, Hint::Symmetric => 1
-    ], LENGTHENED;
-    "counts", [
-        Count::Union => 4, Count::Intersection => 1, Count::Difference => 1, Count::Symmetric => 3, Sum::Own => 450
-    ], LENGTHENED;
-    "moves", [Alter::IntoBitsAndBack => 0, Number::Count => 2, OfBits::Len => 5001], LENGTHENED;
-    "texts", [Alter::Truncate(448) => 0, Text::Set => 1, Text::SetDebug => 1, Text::BitsDebug => 1], FIRST;
-    "changes", [
-        Alter::Truncate(100) => 0, Number::Count => 1, Alter::Remove(3) => 1, Alter::Remove(3) => 0,
-        Alter::MakeEmpty => 0, OfBits::Len => 100, Alter::Clear => 0, Number::Count => 0, Alter::Reset => 0,
-        OfBits::Len => 0
-    ], EMPTY;
-    "bits", [
-        OfBits::Len => 5001, TruthOfBits::Has(447) => 1, TruthOfBits::IsPast(5001) => 1, TruthOfBits::HasCapacity => 1,
-        TruthOfBits::HasBlocks => 1, TruthOfBits::HasNone => 0, TruthOfBits::IsSubset => 0,
-        TruthOfBits::IsDisjoint => 0
-    ], LENGTHENED;
-    "bit_walks", [TruthOfBits::GivesBlocks => 1], LENGTHENED;
-    "nonzero_walks", [
-        OfBits::CountOnes => 2, OfBits::CountNonzero => 2, TruthOfBits::GivesAllPastFirst => 1
-    ], LENGTHENED;
-    "bit_changes", [
-        AlterBits::SetTrue(5) => 0, AlterBits::ReplaceByFalse(447) => 1, AlterBits::MergeBlocks => 0,
-        AlterBits::Merge => 0, TruthOfBits::Has(7) => 1, AlterBits::Truncate(448) => 0, OfBits::Len => 448,
-        AlterBits::CutZeroBlocks => 0, TruthOfBits::IsOneBlock => 1, AlterBits::Fill => 0, TruthOfBits::HasNone => 0,
-        AlterBits::RemoveAll => 0, OfBits::Len => 0
-    ], EMPTY;
-    "ends", [
-        Number::First => 3, Number::Last => 447, Number::Next(4) => 447, Number::Previous(447) => 3,
-        Number::NextMissing(3) => 4, Alter::PopFirst => 3, Alter::PopLast => 447
-    ], Of(&[], 5001);
-    "ranges", [
-        Number::CountIn(0, 448) => 2, Truth::ContainsAnyIn(4, 447) => 0, Truth::ContainsAllIn(447, 448) => 1,
-        Alter::RemoveRange(0, 447) => 0, Alter::ToggleRange(446, 448) => 1, Alter::InsertRange(0, 2) => 1,
-        Number::Count => 3, Alter::RetainPositive => 0, Number::Count => 2
-    ], Of(&[1, 446], 5001);
-    "shifts", [
-        Number::FirstGap(4, 443) => 4, Number::FirstGap(4, 444) => 448, Alter::ShiftUp(4000) => 1,
-        Number::First => 4003, Alter::ShiftDown(4004) => 0, Number::First => 443, Number::Count => 1
-    ], Of(&[443], 5001);
-    "bit_ends", [
-        OfBits::CountOnesIn(0, 448) => 2, TruthOfBits::AnyIn(4, 447) => 0, TruthOfBits::AllIn(447, 448) => 1,
-        OfBits::FirstOneFrom(4) => 447, OfBits::LastOneBefore(447) => 3, OfBits::FirstZeroFrom(3) => 4
-    ], LENGTHENED;
-    "runs", [Truth::HasTwoRuns => 1, Truth::IsProperSubset => 0], LENGTHENED;
+/// Groups of calls that take no memory.
+pub const GROUPS: &[Row<Change>] = changes! {
+    "empty_ones", NONE, Group::EmptyOnes, LONG, LENGTHENED, LENT, LENGTHENED;
+    "questions", NONE, Group::Questions, LONG, LENGTHENED, LENT, LENGTHENED;
+    "comparisons", NONE, Group::Comparisons, LONG, LENGTHENED, LENT, LENGTHENED;
+    "walks", NONE, Group::Walks, LONG, LENGTHENED, LENT, LENGTHENED;
+    "hints", NONE, Group::Hints, LONG, LENGTHENED, LENT, LENGTHENED;
+    "counts", NONE, Group::Counts, LONG, LENGTHENED, LENT, LENGTHENED;
+    "moves", NONE, Group::Moves, LONG, LENGTHENED, LENT, LENGTHENED;
+    "texts", NONE, Group::Texts, LONG, FIRST, LENT, LENGTHENED;
+    "changes", NONE, Group::Changes, LONG, EMPTY, LENT, LENGTHENED;
+    "bits", NONE, Group::Bits, LONG, LENGTHENED, LENT, LENGTHENED;
+    "bit_walks", NONE, Group::BitWalks, LONG, LENGTHENED, LENT, LENGTHENED;
+    "bit_changes", NONE, Group::BitChanges, LONG, EMPTY, LENT, LENGTHENED;
+    "ends", NONE, Group::Ends, LONG, Of(&[], 5001), LENT, LENGTHENED;
+    "ranges", NONE, Group::Ranges, LONG, Of(&[1, 446], 5001), LENT, LENGTHENED;
+    "shifts", NONE, Group::Shifts, LONG, Of(&[443], 5001), LENT, LENGTHENED;
+    "bit_ends", NONE, Group::BitEnds, LONG, LENGTHENED, LENT, LENGTHENED;
+    "runs", NONE, Group::Runs, LONG, LENGTHENED, LENT, LENGTHENED;
 };
