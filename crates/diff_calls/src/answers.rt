@@ -10,6 +10,15 @@ const LENGTH: usize = 3;
 
 const NO_BOUND: usize = usize::MAX;
 
+// What a call returns that cannot fail.
+#[derive(Clone, Copy)]
+pub(crate) enum Answer {
+    Number(usize),
+    Truth(bool),
+    Item(Option<usize>),
+    Bit(Option<bool>),
+}
+
 // Words, until memory is refused to them or to a call. The script ends then, so no call has a path of its own for that.
 #[derive(Drop)]
 pub(crate) struct Answers {
@@ -61,6 +70,15 @@ impl Answers {
         match bit {
             Some(bit) => self.number(1 + usize::from(bit)),
             None => self.number(0),
+        }
+    }
+
+    pub(crate) fn answer(&mut self, answer: Answer) {
+        match answer {
+            Answer::Number(number) => self.number(number),
+            Answer::Truth(truth) => self.truth(truth),
+            Answer::Item(item) => self.item(item),
+            Answer::Bit(bit) => self.bit(bit),
         }
     }
 

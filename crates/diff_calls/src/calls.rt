@@ -1,31 +1,27 @@
 // The calls of a script, by what they take and return. The place of a call in the table is its number.
 use bit_set::bit_vec::Merge;
 
-// What makes a set.
+// What makes a set, or the bit vector of one.
 #[derive(Clone, Copy)]
 pub(crate) enum Making {
     New,
     WithCapacity,
     FromBytes,
     FromBytesLsb,
+    Bits,
+    BitsFromElem,
+    BitsFromBytes,
 }
 
-// What makes a set of all four sets.
+// What makes a set of all four sets, or of the numbers of a line.
 #[derive(Clone, Copy)]
 pub(crate) enum Gathering {
     UnionOf,
     IntersectionOf,
+    FromIter,
 }
 
-// What makes the bit vector of a set.
-#[derive(Clone, Copy)]
-pub(crate) enum Listing {
-    New,
-    FromElem,
-    FromBytes,
-}
-
-// What changes a set, and may fail or says whether it did.
+// What changes a set, and may fail or says whether it did, or what it took out.
 #[derive(Clone, Copy)]
 pub(crate) enum Changing {
     Insert,
@@ -39,6 +35,8 @@ pub(crate) enum Changing {
     Toggle,
     Set,
     ShiftUp,
+    PopFirst,
+    PopLast,
 }
 
 // What leaves less of a set, and returns nothing.
@@ -53,16 +51,10 @@ pub(crate) enum Lessening {
     ShiftDown,
 }
 
-// What takes an element out of a set.
-#[derive(Clone, Copy)]
-pub(crate) enum Popping {
-    First,
-    Last,
-}
-
-// What makes a set of a second one, or changes both.
+// What makes a set of a second one, or changes both, or makes a set of its own bit vector.
 #[derive(Clone, Copy)]
 pub(crate) enum Moving {
+    IntoBitVec,
     CloneFrom,
     Clone,
     Append,
@@ -80,9 +72,9 @@ pub(crate) enum Fusing {
     CopyDifference,
 }
 
-// What returns a number of a set, alone or beside a second one.
+// What returns a number, a truth value or an element of a set, alone or beside a second one.
 #[derive(Clone, Copy)]
-pub(crate) enum Counting {
+pub(crate) enum Reading {
     Count,
     Len,
     CountInRange,
@@ -91,11 +83,6 @@ pub(crate) enum Counting {
     Intersection,
     Difference,
     SymmetricDifference,
-}
-
-// What returns a truth value of a set, alone or beside a second one.
-#[derive(Clone, Copy)]
-pub(crate) enum Asking {
     Contains,
     IsEmpty,
     Capacity,
@@ -106,11 +93,6 @@ pub(crate) enum Asking {
     ContainsAllInRange,
     ContainsAnyInRange,
     IsProperSubset,
-}
-
-// What returns an element of a set, where there is one.
-#[derive(Clone, Copy)]
-pub(crate) enum Finding {
     First,
     Last,
     Next,
@@ -178,31 +160,22 @@ pub(crate) enum Ranged {
     Negate,
 }
 
-// What returns a number of it.
+// What returns a number, a truth value or a place of it, alone or beside a second one.
 #[derive(Clone, Copy)]
-pub(crate) enum BitCounting {
+pub(crate) enum BitReading {
     Len,
     CountOnes,
     CountOnesInRange,
     FirstZeroFrom,
-}
-
-// What returns a truth value of it, alone or beside a second one.
-#[derive(Clone, Copy)]
-pub(crate) enum BitAsking {
     None,
     Capacity,
     IsSubsetOf,
     IsDisjointFrom,
     AllInRange,
     AnyInRange,
-}
-
-// What returns a place in it, where there is one.
-#[derive(Clone, Copy)]
-pub(crate) enum BitFinding {
     FirstOneFrom,
     LastOneBefore,
+    Get,
 }
 
 // What makes a text or bytes of it.
@@ -229,14 +202,6 @@ pub(crate) enum Looking {
     ZerosInBlock,
 }
 
-// What is of no such kind.
-#[derive(Clone, Copy)]
-pub(crate) enum Alone {
-    FromIter,
-    IntoBitVec,
-    Get,
-}
-
 // A call. Those that are named as `..General` are over blocks of any type, and those without that over blocks of 32 bits
 // alone; those named as `..AndTell` say whether they changed anything.
 #[derive(Clone, Copy)]
@@ -244,18 +209,13 @@ pub(crate) enum Call {
     Make(Making),
     MakeGeneral(Making),
     Gather(Gathering),
-    List(Listing),
-    ListGeneral(Listing),
     Change(Changing),
     Lessen(Lessening),
-    Pop(Popping),
     Combine(Merge),
     CombineAndTell(Merge),
     Fuse(Fusing),
     Move(Moving),
-    Count(Counting),
-    Ask(Asking),
-    Find(Finding),
+    Read(Reading),
     Tell(Telling),
     Walk(Walking),
     Write(Writing),
@@ -264,10 +224,7 @@ pub(crate) enum Call {
     MergeBlocks(Merge),
     MergeAndTell(Merge),
     FuseBits(Fusing),
-    CountBits(BitCounting),
-    AskBits(BitAsking),
-    FindBit(BitFinding),
-    Alone(Alone),
+    ReadBits(BitReading),
     TellBits(BitTelling),
     Look(Looking),
 }
@@ -278,39 +235,35 @@ macro_rules! calls {
 }
 
 const CALLS: &[Call] = calls! {
-    Make(Making): New; MakeGeneral(Making): New; Make(Making): WithCapacity;
-    MakeGeneral(Making): WithCapacity; Make(Making): FromBytes; MakeGeneral(Making): FromBytes;
-    Make(Making): FromBytesLsb; MakeGeneral(Making): FromBytesLsb; Alone(Alone): FromIter; List(Listing): New;
-    ListGeneral(Listing): New; List(Listing): FromElem; ListGeneral(Listing): FromElem;
-    List(Listing): FromBytes; ListGeneral(Listing): FromBytes; Gather(Gathering): UnionOf IntersectionOf;
+    Make(Making): New; MakeGeneral(Making): New; Make(Making): WithCapacity; MakeGeneral(Making): WithCapacity;
+    Make(Making): FromBytes; MakeGeneral(Making): FromBytes; Make(Making): FromBytesLsb;
+    MakeGeneral(Making): FromBytesLsb; Gather(Gathering): FromIter; Make(Making): Bits;
+    MakeGeneral(Making): Bits; Make(Making): BitsFromElem; MakeGeneral(Making): BitsFromElem;
+    Make(Making): BitsFromBytes; MakeGeneral(Making): BitsFromBytes; Gather(Gathering): UnionOf IntersectionOf;
     Change(Changing): Insert Remove Extend; Lessen(Lessening): Truncate MakeEmpty Clear Reset;
-    Change(Changing): ReserveLen ReserveLenExact ShrinkToFit; Alone(Alone): IntoBitVec;
-    Move(Moving): CloneFrom; Combine(Merge): Union Intersection Difference Symmetric;
+    Change(Changing): ReserveLen ReserveLenExact ShrinkToFit; Move(Moving): IntoBitVec CloneFrom;
+    Combine(Merge): Union Intersection Difference Symmetric;
     CombineAndTell(Merge): Union Intersection Difference Symmetric;
     Fuse(Fusing): UnionWithDifference UnionWithIntersection CopyDifference; Change(Changing): InsertRange;
-    Lessen(Lessening): RemoveRange; Change(Changing): ToggleRange Toggle Set; Pop(Popping): First Last;
+    Lessen(Lessening): RemoveRange; Change(Changing): ToggleRange Toggle Set PopFirst PopLast;
     Lessen(Lessening): Retain; Change(Changing): ShiftUp; Lessen(Lessening): ShiftDown;
-    Move(Moving): Clone Append SplitOff BitsClone BitsCloneTail CopyRange; Ask(Asking): Contains;
-    Count(Counting): Count Len; Ask(Asking): IsEmpty Capacity IsSubset IsSuperset IsDisjoint Eq;
-    Tell(Telling): Cmp Hash Display Debug Json; Ask(Asking): ContainsAllInRange ContainsAnyInRange;
-    Count(Counting): CountInRange; Find(Finding): First Last Next Previous; Count(Counting): NextMissing;
-    Tell(Telling): ToBytes ToBytesLsb; Find(Finding): FirstGap; Ask(Asking): IsProperSubset;
-    Tell(Telling): Ranges; Count(Counting): Union Intersection Difference SymmetricDifference;
+    Move(Moving): Clone Append SplitOff BitsClone BitsCloneTail CopyRange;
+    Read(Reading): Contains Count Len IsEmpty Capacity IsSubset IsSuperset IsDisjoint Eq;
+    Tell(Telling): Cmp Hash Display Debug Json;
+    Read(Reading): ContainsAllInRange ContainsAnyInRange CountInRange First Last Next Previous NextMissing;
+    Tell(Telling): ToBytes ToBytesLsb; Read(Reading): FirstGap IsProperSubset; Tell(Telling): Ranges;
+    Read(Reading): Union Intersection Difference SymmetricDifference;
     Walk(Walking): Iter IntoIter IterFrom IterEnds Range Nth Missing Runs Union Intersection Difference
-        SymmetricDifference;
-    Write(Writing): Set Replace Fill Truncate RemoveAll; Lengthen(Lengthening): Grow Reserve ReserveExact;
-    Write(Writing): ShrinkToFit CutZeroBlocks CloneFrom;
+        SymmetricDifference; Write(Writing): Set Replace Fill Truncate RemoveAll;
+    Lengthen(Lengthening): Grow Reserve ReserveExact; Write(Writing): ShrinkToFit CutZeroBlocks CloneFrom;
     MergeBlocks(Merge): Union Intersection Difference Symmetric;
     MergeAndTell(Merge): Union Intersection Difference Symmetric;
     FuseBits(Fusing): UnionWithDifference UnionWithIntersection CopyDifference;
-    WriteRange(Ranged): Set Clear Negate; Write(Writing): KeepInBlock; CountBits(BitCounting): Len;
-    Alone(Alone): Get; AskBits(BitAsking): None; CountBits(BitCounting): CountOnes;
-    AskBits(BitAsking): Capacity;
+    WriteRange(Ranged): Set Clear Negate; Write(Writing): KeepInBlock;
+    ReadBits(BitReading): Len Get None CountOnes Capacity;
     Look(Looking): Storage Blocks NextIf Nonzero NonzeroPastFirst NonzeroPast NonzeroEnds Refill RefillEnds
-        Mismatch Block;
-    AskBits(BitAsking): IsSubsetOf IsDisjointFrom; TellBits(BitTelling): Debug;
-    CountBits(BitCounting): CountOnesInRange; AskBits(BitAsking): AllInRange AnyInRange;
-    FindBit(BitFinding): FirstOneFrom LastOneBefore; CountBits(BitCounting): FirstZeroFrom;
+        Mismatch Block; ReadBits(BitReading): IsSubsetOf IsDisjointFrom; TellBits(BitTelling): Debug;
+    ReadBits(BitReading): CountOnesInRange AllInRange AnyInRange FirstOneFrom LastOneBefore FirstZeroFrom;
     Look(Looking): ZerosInBlock; TellBits(BitTelling): ToBytes;
 };
 

@@ -1,13 +1,13 @@
 // Calls that change a set, alone or by a second one, and those that make a set of a second one or change both.
 use crate::answers::Answers;
-use crate::calls::{Changing, Lessening, Moving, Popping};
+use crate::calls::{Changing, Lessening, Moving};
 use bit_set::bit_vec::{BitVec, Merge};
 use bit_set::{BitBlock, BitSet};
 use std::alloc::{AllocError, Global};
 use std::mem;
 
 // Gives the set its own bit vector back, and returns the length.
-pub(crate) fn through_bit_vec<B: BitBlock>(alloc: Global, set: &mut BitSet<B>) -> usize {
+fn through_bit_vec<B: BitBlock>(alloc: Global, set: &mut BitSet<B>) -> usize {
     let bits = mem::replace(set, BitSet::new_general(alloc)).into_bit_vec();
     let len = bits.len();
     *set = BitSet::from_bit_vec_general(bits);
@@ -33,6 +33,8 @@ pub(crate) fn change<B: BitBlock>(
         Changing::Toggle => answers.change(set.toggle(number)),
         Changing::Set => answers.change(set.set(number, end == 1)),
         Changing::ShiftUp => answers.outcome(set.shift_up(number)),
+        Changing::PopFirst => answers.item(set.pop_first()),
+        Changing::PopLast => answers.item(set.pop_last()),
     }
 }
 
@@ -50,13 +52,6 @@ pub(crate) fn lessen<B: BitBlock>(
         Lessening::RemoveRange => set.remove_range(number..end),
         Lessening::Retain => set.retain(|element| element % 3 != number % 3),
         Lessening::ShiftDown => set.shift_down(number),
-    }
-}
-
-pub(crate) fn pop<B: BitBlock>(popping: Popping, set: &mut BitSet<B>) -> Option<usize> {
-    match popping {
-        Popping::First => set.pop_first(),
-        Popping::Last => set.pop_last(),
     }
 }
 
@@ -131,6 +126,7 @@ pub(crate) fn move_over<B: BitBlock>(
     answers: &mut Answers,
 ) {
     match moving {
+        Moving::IntoBitVec => answers.number(through_bit_vec(alloc, set)),
         Moving::CloneFrom => answers.ended(set.clone_from(other)),
         Moving::Clone => put(set, other.clone(alloc), answers),
         Moving::Append => answers.ended(set.append(other)),

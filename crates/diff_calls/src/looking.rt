@@ -1,53 +1,37 @@
 // Calls that read the bit vector that a set lends, by what they return.
-use crate::answers::Answers;
+use crate::answers::{Answer, Answers};
 use crate::block_walks::{
     blocks, next_if, nonzero, nonzero_ends, nonzero_past, refill, refill_ends,
 };
 use crate::blocks::{mismatch, single, storage, zeros};
-use crate::calls::{BitAsking, BitCounting, BitFinding, BitTelling, Looking};
+use crate::calls::{BitReading, BitTelling, Looking};
 use crate::widths::Width;
 use bit_set::BitBlock;
 use bit_set::bit_vec::{BitVec, Steps};
 use std::alloc::Global;
 
-pub(crate) fn count_bits<B: BitBlock>(
-    counting: BitCounting,
-    bits: &BitVec<B>,
-    number: usize,
-    end: usize,
-) -> usize {
-    match counting {
-        BitCounting::Len => bits.len(),
-        BitCounting::CountOnes => bits.count_ones(),
-        BitCounting::CountOnesInRange => bits.count_ones_in_range(number..end),
-        BitCounting::FirstZeroFrom => bits.first_zero_from(number),
-    }
-}
-
-pub(crate) fn ask_bits<B: BitBlock>(
-    asking: BitAsking,
+pub(crate) fn read_bits<B: BitBlock>(
+    reading: BitReading,
     bits: &BitVec<B>,
     other: &BitVec<B>,
-    (start, end): (usize, usize),
-) -> bool {
-    match asking {
-        BitAsking::None => bits.none(),
-        BitAsking::Capacity => bits.len() <= bits.capacity(),
-        BitAsking::IsSubsetOf => bits.is_subset_of(other, &mut Steps::new()),
-        BitAsking::IsDisjointFrom => bits.is_disjoint_from(other, &mut Steps::new()),
-        BitAsking::AllInRange => bits.all_in_range(start..end),
-        BitAsking::AnyInRange => bits.any_in_range(start..end),
-    }
-}
-
-pub(crate) fn find_bit<B: BitBlock>(
-    finding: BitFinding,
-    bits: &BitVec<B>,
-    place: usize,
-) -> Option<usize> {
-    match finding {
-        BitFinding::FirstOneFrom => bits.first_one_from(place),
-        BitFinding::LastOneBefore => bits.last_one_before(place),
+    (number, end): (usize, usize),
+) -> Answer {
+    match reading {
+        BitReading::Len => Answer::Number(bits.len()),
+        BitReading::CountOnes => Answer::Number(bits.count_ones()),
+        BitReading::CountOnesInRange => Answer::Number(bits.count_ones_in_range(number..end)),
+        BitReading::FirstZeroFrom => Answer::Number(bits.first_zero_from(number)),
+        BitReading::None => Answer::Truth(bits.none()),
+        BitReading::Capacity => Answer::Truth(bits.len() <= bits.capacity()),
+        BitReading::IsSubsetOf => Answer::Truth(bits.is_subset_of(other, &mut Steps::new())),
+        BitReading::IsDisjointFrom => {
+            Answer::Truth(bits.is_disjoint_from(other, &mut Steps::new()))
+        }
+        BitReading::AllInRange => Answer::Truth(bits.all_in_range(number..end)),
+        BitReading::AnyInRange => Answer::Truth(bits.any_in_range(number..end)),
+        BitReading::FirstOneFrom => Answer::Item(bits.first_one_from(number)),
+        BitReading::LastOneBefore => Answer::Item(bits.last_one_before(number)),
+        BitReading::Get => Answer::Bit(bits.get(number)),
     }
 }
 

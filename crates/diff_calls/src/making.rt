@@ -1,6 +1,6 @@
-// Sets and bit vectors that are made of bytes, of one truth value or of nothing, over blocks of any type.
-use crate::calls::{Gathering, Listing, Making};
-use bit_set::bit_vec::{BitVec, BitsError};
+// Sets and bit vectors that are made of bytes, of one truth value, of other sets or of nothing.
+use crate::calls::{Gathering, Making};
+use bit_set::bit_vec::BitVec;
 use bit_set::{BitBlock, BitSet, SetError};
 use std::alloc::{AllocError, Global};
 
@@ -12,68 +12,55 @@ pub(crate) fn bytes_of(alloc: Global, numbers: &[usize]) -> Result<Vec<u8>, Allo
     Ok(bytes)
 }
 
-// A set whose making fails for memory alone.
-pub(crate) fn sized<B: BitBlock>(
-    made: Result<BitSet<B>, AllocError>,
-) -> Result<BitSet<B>, SetError> {
-    match made {
-        Ok(set) => Ok(set),
-        Err(fault) => Err(SetError::Memory(fault)),
-    }
-}
-
-// Likewise a bit vector.
-pub(crate) fn sized_bits<B: BitBlock>(
-    made: Result<BitVec<B>, AllocError>,
-) -> Result<BitVec<B>, BitsError> {
-    match made {
-        Ok(bits) => Ok(bits),
-        Err(fault) => Err(BitsError::Memory(fault)),
-    }
-}
-
+// The set by a call for any type of blocks: as long as is said, or of these bytes, or of so many times a truth value.
 pub(crate) fn made<B: BitBlock>(
     alloc: Global,
     making: Making,
-    len: usize,
+    (len, bit): (usize, bool),
     bytes: &[u8],
 ) -> Result<BitSet<B>, SetError> {
-    match making {
-        Making::New => Ok(BitSet::new_general(alloc)),
-        Making::WithCapacity => sized(BitSet::with_capacity_general(alloc, len)),
-        Making::FromBytes => BitSet::from_bytes_general(alloc, bytes),
-        Making::FromBytesLsb => BitSet::from_bytes_lsb_general(alloc, bytes),
-    }
+    Ok(match making {
+        Making::New => BitSet::new_general(alloc),
+        Making::WithCapacity => BitSet::with_capacity_general(alloc, len)?,
+        Making::FromBytes => BitSet::from_bytes_general(alloc, bytes)?,
+        Making::FromBytesLsb => BitSet::from_bytes_lsb_general(alloc, bytes)?,
+        Making::Bits => BitSet::from_bit_vec_general(BitVec::new_general(alloc)),
+        Making::BitsFromElem => {
+            BitSet::from_bit_vec_general(BitVec::from_elem_general(alloc, len, bit)?)
+        }
+        Making::BitsFromBytes => {
+            BitSet::from_bit_vec_general(BitVec::from_bytes_general(alloc, bytes)?)
+        }
+    })
+}
+
+// The same by a call that is at `u32` alone.
+pub(crate) fn made_plain(
+    alloc: Global,
+    making: Making,
+    (len, bit): (usize, bool),
+    bytes: &[u8],
+) -> Result<BitSet<u32>, SetError> {
+    Ok(match making {
+        Making::New => BitSet::new(alloc),
+        Making::WithCapacity => BitSet::with_capacity(alloc, len)?,
+        Making::FromBytes => BitSet::from_bytes(alloc, bytes)?,
+        Making::FromBytesLsb => BitSet::from_bytes_lsb(alloc, bytes)?,
+        Making::Bits => BitSet::from_bit_vec(BitVec::new(alloc)),
+        Making::BitsFromElem => BitSet::from_bit_vec(BitVec::from_elem(alloc, len, bit)?),
+        Making::BitsFromBytes => BitSet::from_bit_vec(BitVec::from_bytes(alloc, bytes)?),
+    })
 }
 
 pub(crate) fn gathered<B: BitBlock>(
     alloc: Global,
     gathering: Gathering,
     sets: &[BitSet<B>],
+    numbers: &[usize],
 ) -> Result<BitSet<B>, SetError> {
-    sized(match gathering {
-        Gathering::UnionOf => BitSet::union_of(alloc, sets),
-        Gathering::IntersectionOf => BitSet::intersection_of(alloc, sets),
-    })
-}
-
-// The set of a bit vector.
-fn set_of<B: BitBlock>(made: Result<BitVec<B>, BitsError>) -> Result<BitSet<B>, SetError> {
-    match made {
-        Ok(bits) => Ok(BitSet::from_bit_vec_general(bits)),
-        Err(fault) => Err(SetError::from(fault)),
-    }
-}
-
-pub(crate) fn listed<B: BitBlock>(
-    alloc: Global,
-    listing: Listing,
-    value: (usize, bool),
-    bytes: &[u8],
-) -> Result<BitSet<B>, SetError> {
-    set_of(match listing {
-        Listing::New => Ok(BitVec::new_general(alloc)),
-        Listing::FromElem => sized_bits(BitVec::from_elem_general(alloc, value.0, value.1)),
-        Listing::FromBytes => BitVec::from_bytes_general(alloc, bytes),
+    Ok(match gathering {
+        Gathering::UnionOf => BitSet::union_of(alloc, sets)?,
+        Gathering::IntersectionOf => BitSet::intersection_of(alloc, sets)?,
+        Gathering::FromIter => BitSet::from_iter(alloc, numbers.iter().copied())?,
     })
 }

@@ -1,61 +1,41 @@
 // Calls that read a set, alone or beside a second one, by what they return.
-use crate::answers::Answers;
-use crate::calls::{Asking, Counting, Finding, Telling};
+use crate::answers::{Answer, Answers};
+use crate::calls::{Reading, Telling};
 use crate::feed::feed_of;
 use crate::widths::Width;
 use bit_set::{BitBlock, BitSet};
 use std::alloc::Global;
 
-pub(crate) fn count<B: BitBlock>(
-    counting: Counting,
+pub(crate) fn read<B: BitBlock>(
+    reading: Reading,
     set: &BitSet<B>,
     other: &BitSet<B>,
     (number, end): (usize, usize),
-) -> usize {
-    match counting {
-        Counting::Count => set.count(),
-        Counting::Len => set.len(),
-        Counting::CountInRange => set.count_in_range(number..end),
-        Counting::NextMissing => set.next_missing(number),
-        Counting::Union => set.union_count(other),
-        Counting::Intersection => set.intersection_count(other),
-        Counting::Difference => set.difference_count(other),
-        Counting::SymmetricDifference => set.symmetric_difference_count(other),
-    }
-}
-
-pub(crate) fn ask<B: BitBlock>(
-    asking: Asking,
-    set: &BitSet<B>,
-    other: &BitSet<B>,
-    (number, end): (usize, usize),
-) -> bool {
-    match asking {
-        Asking::Contains => set.contains(number),
-        Asking::IsEmpty => set.is_empty(),
-        Asking::Capacity => set.get_ref().len() <= set.capacity(),
-        Asking::IsSubset => set.is_subset(other),
-        Asking::IsSuperset => set.is_superset(other),
-        Asking::IsDisjoint => set.is_disjoint(other),
-        Asking::Eq => *set == *other,
-        Asking::ContainsAllInRange => set.contains_all_in_range(number..end),
-        Asking::ContainsAnyInRange => set.contains_any_in_range(number..end),
-        Asking::IsProperSubset => set.is_proper_subset(other),
-    }
-}
-
-pub(crate) fn find<B: BitBlock>(
-    finding: Finding,
-    set: &BitSet<B>,
-    number: usize,
-    count: usize,
-) -> Option<usize> {
-    match finding {
-        Finding::First => set.first(),
-        Finding::Last => set.last(),
-        Finding::Next => set.next(number),
-        Finding::Previous => set.previous(number),
-        Finding::FirstGap => set.first_gap(number, count),
+) -> Answer {
+    match reading {
+        Reading::Count => Answer::Number(set.count()),
+        Reading::Len => Answer::Number(set.len()),
+        Reading::CountInRange => Answer::Number(set.count_in_range(number..end)),
+        Reading::NextMissing => Answer::Number(set.next_missing(number)),
+        Reading::Union => Answer::Number(set.union_count(other)),
+        Reading::Intersection => Answer::Number(set.intersection_count(other)),
+        Reading::Difference => Answer::Number(set.difference_count(other)),
+        Reading::SymmetricDifference => Answer::Number(set.symmetric_difference_count(other)),
+        Reading::Contains => Answer::Truth(set.contains(number)),
+        Reading::IsEmpty => Answer::Truth(set.is_empty()),
+        Reading::Capacity => Answer::Truth(set.get_ref().len() <= set.capacity()),
+        Reading::IsSubset => Answer::Truth(set.is_subset(other)),
+        Reading::IsSuperset => Answer::Truth(set.is_superset(other)),
+        Reading::IsDisjoint => Answer::Truth(set.is_disjoint(other)),
+        Reading::Eq => Answer::Truth(*set == *other),
+        Reading::ContainsAllInRange => Answer::Truth(set.contains_all_in_range(number..end)),
+        Reading::ContainsAnyInRange => Answer::Truth(set.contains_any_in_range(number..end)),
+        Reading::IsProperSubset => Answer::Truth(set.is_proper_subset(other)),
+        Reading::First => Answer::Item(set.first()),
+        Reading::Last => Answer::Item(set.last()),
+        Reading::Next => Answer::Item(set.next(number)),
+        Reading::Previous => Answer::Item(set.previous(number)),
+        Reading::FirstGap => Answer::Item(set.first_gap(number, end)),
     }
 }
 

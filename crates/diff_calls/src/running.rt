@@ -2,13 +2,13 @@
 use crate::answers::Answers;
 use crate::bits::{fuse_bits, lengthen, merge_and_tell, merge_blocks, write, write_range};
 use crate::blocks::storage;
-use crate::calls::{Alone, Call, Fusing};
-use crate::changing::{change, combine, combine_and_tell, lessen, move_over, pop, through_bit_vec};
+use crate::calls::{Call, Fusing};
+use crate::changing::{change, combine, combine_and_tell, lessen, move_over};
 use crate::lines::Line;
-use crate::looking::{ask_bits, count_bits, find_bit, look, tell_bits};
-use crate::making::{bytes_of, gathered, listed, made};
+use crate::looking::{look, read_bits, tell_bits};
+use crate::making::{bytes_of, gathered, made};
 use crate::matrices::run_matrices;
-use crate::reading::{ask, count, find, tell};
+use crate::reading::{read, tell};
 use crate::walks::walk_over;
 use crate::widths::Width;
 use bit_set::bit_vec::BitVec;
@@ -52,10 +52,9 @@ fn look_at<B: Width>(
 ) {
     let (first, second) = (line.first, line.second);
     match line.call {
-        Call::CountBits(counting) => answers.number(count_bits(counting, bits, first, second)),
-        Call::AskBits(asking) => answers.truth(ask_bits(asking, bits, other, (first, second))),
-        Call::FindBit(finding) => answers.item(find_bit(finding, bits, first)),
-        Call::Alone(Alone::Get) => answers.bit(bits.get(first)),
+        Call::ReadBits(reading) => {
+            answers.answer(read_bits(reading, bits, other, (first, second)));
+        }
         Call::TellBits(telling) => tell_bits(alloc, telling, bits, answers),
         Call::Look(looking) => look(looking, bits, other, (first, second), answers),
         _ => {}
@@ -77,17 +76,12 @@ fn change_by<B: Width>(
             lessen(lessening, set, first, second);
             answers.truth(true);
         }
-        Call::Pop(popping) => answers.item(pop(popping, set)),
-        Call::Alone(Alone::IntoBitVec) => answers.number(through_bit_vec(alloc, set)),
         Call::Combine(merge) => answers.ended(combine(merge, set, other)),
         Call::CombineAndTell(merge) => answers.told(combine_and_tell(merge, set, other)),
         Call::Move(moving) => move_over(alloc, moving, (set, other), (first, second), answers),
-        Call::CountBits(_)
-        | Call::AskBits(_)
-        | Call::FindBit(_)
-        | Call::Alone(Alone::Get)
-        | Call::TellBits(_)
-        | Call::Look(_) => look_at(alloc, line, set.get_mut(), other.get_ref(), answers),
+        Call::ReadBits(_) | Call::TellBits(_) | Call::Look(_) => {
+            look_at(alloc, line, set.get_mut(), other.get_ref(), answers);
+        }
         _ => write_to(line, set.get_mut(), other.get_ref(), answers),
     }
 }
@@ -125,28 +119,14 @@ impl<B: Width> Sets<B> {
 
     // Calls that make a set.
     fn make(&mut self, alloc: Global, line: &Line<'_>, bytes: &[u8], answers: &mut Answers) {
-        let (name, len) = (line.set, line.first);
-        let value = (len, line.second == 1);
-        match line.call {
-            Call::Make(making) => self.put(name, B::made(alloc, making, len, bytes), answers),
-            Call::MakeGeneral(making) => {
-                self.put(name, made(alloc, making, len, bytes), answers);
-            }
-            Call::Gather(gathering) => {
-                let made = gathered(alloc, gathering, &self.sets);
-                self.put(name, made, answers);
-            }
-            Call::List(listing) => {
-                self.put(name, B::listed(alloc, listing, value, bytes), answers);
-            }
-            Call::ListGeneral(listing) => {
-                self.put(name, listed(alloc, listing, value, bytes), answers);
-            }
-            _ => {
-                let numbers = line.numbers.iter().copied();
-                self.put(name, BitSet::from_iter(alloc, numbers), answers);
-            }
-        }
+        let value = (line.first, line.second == 1);
+        let made = match line.call {
+            Call::Make(making) => B::made(alloc, making, value, bytes),
+            Call::MakeGeneral(making) => made(alloc, making, value, bytes),
+            Call::Gather(gathering) => gathered(alloc, gathering, &self.sets, line.numbers),
+            _ => return,
+        };
+        self.put(line.set, made, answers);
     }
 
     // The same, with the bytes of a line.
@@ -162,9 +142,7 @@ impl<B: Width> Sets<B> {
         let (set, other) = (self.named(line.set), self.named(line.other));
         let (first, second) = (line.first, line.second);
         match line.call {
-            Call::Count(counting) => answers.number(count(counting, set, other, (first, second))),
-            Call::Ask(asking) => answers.truth(ask(asking, set, other, (first, second))),
-            Call::Find(finding) => answers.item(find(finding, set, first, second)),
+            Call::Read(reading) => answers.answer(read(reading, set, other, (first, second))),
             Call::Tell(telling) => tell(alloc, telling, set, other, answers),
             Call::Walk(walking) => walk_over(walking, set, other, (first, second), answers),
             _ => {}
@@ -215,15 +193,10 @@ impl<B: Width> Sets<B> {
     // Makes the call of a line.
     fn call(&mut self, alloc: Global, line: &Line<'_>, answers: &mut Answers) {
         match line.call {
-            Call::Make(_)
-            | Call::MakeGeneral(_)
-            | Call::Alone(Alone::FromIter)
-            | Call::Gather(_)
-            | Call::List(_)
-            | Call::ListGeneral(_) => self.make_of_bytes(alloc, line, answers),
-            Call::Count(_) | Call::Ask(_) | Call::Find(_) | Call::Tell(_) | Call::Walk(_) => {
-                self.read(alloc, line, answers);
+            Call::Make(_) | Call::MakeGeneral(_) | Call::Gather(_) => {
+                self.make_of_bytes(alloc, line, answers);
             }
+            Call::Read(_) | Call::Tell(_) | Call::Walk(_) => self.read(alloc, line, answers),
             Call::Fuse(_) | Call::FuseBits(_) => self.fuse(alloc, line, answers),
             _ => self.change(alloc, line, answers),
         }

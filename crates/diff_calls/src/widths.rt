@@ -1,8 +1,7 @@
 // The types of blocks that scripts run over.
 use crate::answers::Answers;
-use crate::calls::{Listing, Making};
-use crate::making::{listed, made, sized, sized_bits};
-use bit_set::bit_vec::{BitVec, BitsError};
+use crate::calls::Making;
+use crate::making::{made, made_plain};
 use bit_set::{BitBlock, BitSet, JsonBlock, JsonError, SetError};
 use serde_json::Value;
 use std::alloc::{AllocError, Global};
@@ -14,20 +13,10 @@ pub(crate) trait Width: BitBlock {
     fn made(
         alloc: Global,
         making: Making,
-        len: usize,
-        bytes: &[u8],
-    ) -> Result<BitSet<Self>, SetError> {
-        made(alloc, making, len, bytes)
-    }
-
-    // Likewise the set of a bit vector.
-    fn listed(
-        alloc: Global,
-        listing: Listing,
         value: (usize, bool),
         bytes: &[u8],
     ) -> Result<BitSet<Self>, SetError> {
-        listed(alloc, listing, value, bytes)
+        made(alloc, making, value, bytes)
     }
 
     // The lowest 64 bits of the number, and those above.
@@ -71,14 +60,6 @@ fn there_and_back<B: JsonBlock>(alloc: Global, set: &BitSet<B>, answers: &mut An
     }
 }
 
-// The set of a bit vector, by the call that is at `u32` alone.
-fn set_of(made: Result<BitVec<u32>, BitsError>) -> Result<BitSet<u32>, SetError> {
-    match made {
-        Ok(bits) => Ok(BitSet::from_bit_vec(bits)),
-        Err(fault) => Err(SetError::from(fault)),
-    }
-}
-
 impl Width for u8 {
     fn halves(self) -> (usize, usize) {
         (usize::from(self), 0)
@@ -103,28 +84,10 @@ impl Width for u32 {
     fn made(
         alloc: Global,
         making: Making,
-        len: usize,
-        bytes: &[u8],
-    ) -> Result<BitSet<u32>, SetError> {
-        match making {
-            Making::New => Ok(BitSet::new(alloc)),
-            Making::WithCapacity => sized(BitSet::with_capacity(alloc, len)),
-            Making::FromBytes => BitSet::from_bytes(alloc, bytes),
-            Making::FromBytesLsb => BitSet::from_bytes_lsb(alloc, bytes),
-        }
-    }
-
-    fn listed(
-        alloc: Global,
-        listing: Listing,
         value: (usize, bool),
         bytes: &[u8],
     ) -> Result<BitSet<u32>, SetError> {
-        set_of(match listing {
-            Listing::New => Ok(BitVec::new(alloc)),
-            Listing::FromElem => sized_bits(BitVec::from_elem(alloc, value.0, value.1)),
-            Listing::FromBytes => BitVec::from_bytes(alloc, bytes),
-        })
+        made_plain(alloc, making, value, bytes)
     }
 
     fn halves(self) -> (usize, usize) {
