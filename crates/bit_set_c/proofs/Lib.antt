@@ -3,6 +3,7 @@ pub mod BlockNumbers
 pub mod Bounds
 pub mod ByteDigits
 pub mod Loans
+pub mod Names
 pub mod Nulls
 pub mod Outcomes
 pub mod RowBlocks

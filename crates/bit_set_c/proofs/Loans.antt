@@ -1,25 +1,9 @@
 -- What C lends of a value, as what a `&` or a `&mut` to it holds. Assumes `Logic`.
-use Rattle.std.proofs.Common.{◌≡◌, ℕ, List, [], ◌∷◌, ◌++◌, refl, sym}
-use seplogic.Ra.Ura.{Ura}
-use base.Fraction.{full_share}
-use base.Logic.{ent, sep}
-use base.Fml.{Lft, Share, Fml, Incl, ftrue, flft, fbor, fres, fsep}
+use Rattle.bit_set_c.proofs.Names.{ !, [], await, bor_fracture, bor_open, by, cell_at, closes_cut, Denots, done, ent, fbor, fjoin, flft, Fml, follows_by, fpack, fres, fsep, fsplit, ftrue, full_share, group, hidden_shr, Incl, keep, later, Lft, lies_at, List, Logic, meet_⊑_left, mem, move, MutBor, nothing, now, part_at, part_of, Ptr, qed, RattleType, refl, rewrite, sem, sep, Share, split, split3, such_by, sym, updating, Ura, use1, use2, Val, ‵, ℕ, ◌$◌, ◌++◌, ◌∵◌, ◌∷◌, ◌≡◌, ◌⊛◌}
 use base.Before.{chain}
-use contract.BorrowLft.{meet_⊑_left}
 use mathlib.Core.Option.{none}
-use types.Logic.{Logic, sem}
-use types.Kit.{‵, ◌⊛◌, ◌∵◌, later, ◌$◌, !, qed, by, move, keep, use1, use2, split, split3, group, fsplit, fjoin, fpack, rewrite, updating, await, now, done}
-use types.Tokens.{bor_open, bor_fracture}
-use denote.Follow.{such_by, follows_by}
-use mir.Val.{Val}
-use denote.Memory.{mem, cell_at, part_at, part_of, hidden_shr}
 use denote.Param.Laws.{Laws}
-use denote.RattleType.{Denots, RattleType}
 use denote.Opens.{shr_dup}
-use denote.RawPtr.{Ptr, lies_at}
-use denote.Ref.{MutBor}
-use denote.Shares.{closes_cut}
-use denote.Steps.{nothing}
 use denote.Struct.Owning.{Owning, fields, row, shape, to}
 use denote.Struct.OwningLaws.{part_out, part_in}
 use denote.Struct.Struct.{Struct}

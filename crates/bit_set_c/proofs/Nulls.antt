@@ -1,19 +1,6 @@
 -- The pointer that C owns is null just where there is no value. Assumes `Logic`.
-use Rattle.std.proofs.Common.{◌≡◌, [], ◌∷◌, refl, sym, subst, lit<}
-use Rattle.std.specs.Prelude.{Bool, false, true, Option, Some, None, is_some}
-use seplogic.Ra.Ura.{Ura}
+use Rattle.bit_set_c.proofs.Names.{ !, [], block_ptr, Bool, by, emp, ent, fact, fact_i, fact_mono, fact_use, false, feq, feq_l, fst∗, full_share, guard, guard_i, is_some, lies_at, lit<, Logic, lone, never, never_e, None, null_ptr, op2_val, Option, Ptr, ptr_ne, ptr_val, qed, RattleType, refl, sem, snd∗, Some, SProp, subst, sym, Testable, true, Ura, vbool, via, vnull, ‵, ◌∷◌, ◌≡◌}
 use mir.Raw.{raw as bare}
-use mir.Syntax.{ptr_ne}
-use mir.Val.{vbool, vnull, op2_val}
-use base.Fraction.{full_share}
-use base.Logic.{SProp, ent, emp, never, never_e, fst∗, snd∗, via, guard, guard_i}
-use base.Fml.{feq}
-use contract.Monad.{fact, fact_i, fact_mono, fact_use}
-use types.Logic.{Logic, sem}
-use types.Kit.{‵, !, qed, by, feq_l}
-use denote.Memory.{lone}
-use denote.RattleType.{RattleType}
-use denote.RawPtr.{Ptr, block_ptr, null_ptr, ptr_val, lies_at, Testable}
 use Rattle.std.proofs.GlobalToken.{dealloc_token-Testable}
 use Rattle.std.specs.Global.{Global}
 use Rattle.std.specs.contracts.impls.GlobalAllocator.TheImpl.{ghosts}
