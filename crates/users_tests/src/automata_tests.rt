@@ -90,19 +90,15 @@ fn examples_of_automata(rt: HostRuntime) {
     ok(&rt, example(&rt, &dfa));
 }
 
+macro_rules! edges {
+    ($($from:literal $by:literal $to:literal),*) => { &[$(($from, $by, $to)),*] };
+}
+
 // The words of 0 and 1 whose third symbol from the end is 1.
 const THIRD_FROM_END: Edges<'static> = Edges {
     states: 4,
     symbols: 2,
-    edges: &[
-        (0, 0, 0),
-        (0, 1, 0),
-        (0, 1, 1),
-        (1, 0, 2),
-        (1, 1, 2),
-        (2, 0, 3),
-        (2, 1, 3),
-    ],
+    edges: edges!(0 0 0, 0 1 0, 0 1 1, 1 0 2, 1 1 2, 2 0 3, 2 1 3),
     starts: &[0],
     accepting: &[3],
 };
@@ -111,17 +107,7 @@ const THIRD_FROM_END: Edges<'static> = Edges {
 const THIRD_FROM_END_AGAIN: Edges<'static> = Edges {
     states: 5,
     symbols: 2,
-    edges: &[
-        (3, 0, 3),
-        (3, 1, 3),
-        (3, 1, 1),
-        (3, 1, 4),
-        (1, 0, 2),
-        (1, 1, 2),
-        (4, 1, 2),
-        (2, 0, 0),
-        (2, 1, 0),
-    ],
+    edges: edges!(3 0 3, 3 1 3, 3 1 1, 3 1 4, 1 0 2, 1 1 2, 4 1 2, 2 0 0, 2 1 0),
     starts: &[3],
     accepting: &[0],
 };
@@ -188,16 +174,7 @@ const FAR_STATES: Edges<'static> = Edges {
 const NOT_FOURTEEN: Edges<'static> = Edges {
     states: 8,
     symbols: 1,
-    edges: &[
-        (0, 0, 1),
-        (1, 0, 2),
-        (2, 0, 0),
-        (3, 0, 4),
-        (4, 0, 5),
-        (5, 0, 6),
-        (6, 0, 7),
-        (7, 0, 3),
-    ],
+    edges: edges!(0 0 1, 1 0 2, 2 0 0, 3 0 4, 4 0 5, 5 0 6, 6 0 7, 7 0 3),
     starts: &[0, 3],
     accepting: &[0, 1, 3, 4, 5, 6],
 };

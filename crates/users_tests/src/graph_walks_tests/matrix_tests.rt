@@ -1,6 +1,6 @@
 //! The closures and the dominators of graphs, worked out by hand, and the examples of the doc comments.
 use super::rows_of;
-use crate::expect::{Test, expect, expect_eq, expect_eq_at, ok, sets_of};
+use crate::expect::{Test, expect, expect_eq, expect_eq_at, ok, sets_of, table};
 use bit_matrix::{BitBlock, BitMatrix, MatrixError};
 use graph_walks::{Graph, dominators, reflexive_transitive_closure, transitive_closure};
 
@@ -77,44 +77,20 @@ fn examples_of_matrices(rt: HostRuntime) {
     ok(&rt, four_nodes(&rt));
 }
 
-// How many columns a matrix has, the rows of the graph, and those of its two closures.
-type Closures = (
-    usize,
-    &'static [&'static [usize]],
-    &'static [&'static [usize]],
-    &'static [&'static [usize]],
-);
+type Rows = &'static [&'static [usize]];
 
-const CLOSURES: &[Closures] = &[
+// How many columns a matrix has, the rows of the graph, and those of its two closures.
+type Closures = (usize, Rows, Rows, Rows);
+
+const CLOSURES: &[Closures] = table! {
     // 0 leads into the loop of 1, 2 and 3, and nothing to 4, which leads there too.
-    (
-        5,
-        &[&[1], &[2], &[3], &[1], &[0]],
-        &[
-            &[1, 2, 3],
-            &[1, 2, 3],
-            &[1, 2, 3],
-            &[1, 2, 3],
-            &[0, 1, 2, 3],
-        ],
-        &[
-            &[0, 1, 2, 3],
-            &[1, 2, 3],
-            &[1, 2, 3],
-            &[1, 2, 3],
-            &[0, 1, 2, 3, 4],
-        ],
-    ),
+    5, &[&[1], &[2], &[3], &[1], &[0]], &[&[1, 2, 3], &[1, 2, 3], &[1, 2, 3], &[1, 2, 3], &[0, 1, 2, 3]],
+        &[&[0, 1, 2, 3], &[1, 2, 3], &[1, 2, 3], &[1, 2, 3], &[0, 1, 2, 3, 4]];
     // The node 2 has a row and is no column.
-    (
-        2,
-        &[&[1], &[0], &[1]],
-        &[&[0, 1], &[0, 1], &[0, 1]],
-        &[&[0, 1], &[0, 1], &[0, 1]],
-    ),
+    2, &[&[1], &[0], &[1]], &[&[0, 1], &[0, 1], &[0, 1]], &[&[0, 1], &[0, 1], &[0, 1]];
     // If there are fewer rows, 2 and 3 are columns and have no row.
-    (4, &[&[1], &[3]], &[&[1, 3], &[3]], &[&[0, 1, 3], &[1, 3]]),
-];
+    4, &[&[1], &[3]], &[&[1, 3], &[3]], &[&[0, 1, 3], &[1, 3]];
+};
 
 #[test]
 fn graphs_have_closures(rt: HostRuntime) {
@@ -136,58 +112,26 @@ fn check_graph<B: BitBlock, G: Graph>(rt: &impl Test, graph: G, entry: usize, li
 }
 
 // The edges of a graph, its entry, and the rows of its dominators.
-const DOMINATORS: &[(&[&[usize]], usize, &[&[usize]])] = &[
+const DOMINATORS: &[(Rows, usize, Rows)] = table! {
     // Loops within loops, and a back edge from 8 to the entry.
-    (
-        &[
-            &[1, 2],
-            &[2],
-            &[3],
-            &[2, 4, 5],
-            &[6],
-            &[6],
-            &[3, 7],
-            &[2, 8, 9],
-            &[0],
-            &[6],
-        ],
-        0,
-        &[
-            &[0],
-            &[0, 1],
-            &[0, 2],
-            &[0, 2, 3],
-            &[0, 2, 3, 4],
-            &[0, 2, 3, 5],
-            &[0, 2, 3, 6],
-            &[0, 2, 3, 6, 7],
-            &[0, 2, 3, 6, 7, 8],
-            &[0, 2, 3, 6, 7, 9],
-        ],
-    ),
+    &[&[1, 2], &[2], &[3], &[2, 4, 5], &[6], &[6], &[3, 7], &[2, 8, 9], &[0], &[6]], 0,
+        &[&[0], &[0, 1], &[0, 2], &[0, 2, 3], &[0, 2, 3, 4], &[0, 2, 3, 5], &[0, 2, 3, 6],
+            &[0, 2, 3, 6, 7], &[0, 2, 3, 6, 7, 8], &[0, 2, 3, 6, 7, 9]];
     // Loops that are entered at more than one node.
-    (&[&[1, 2], &[2], &[1]], 0, &[&[0], &[0, 1], &[0, 2]]),
-    (
-        &[&[1], &[0, 2], &[1], &[1, 2], &[0], &[3, 4]],
-        5,
-        &[&[0, 5], &[1, 5], &[2, 5], &[3, 5], &[4, 5], &[5]],
-    ),
+    &[&[1, 2], &[2], &[1]], 0, &[&[0], &[0, 1], &[0, 2]];
+    &[&[1], &[0, 2], &[1], &[1, 2], &[0], &[3, 4]], 5, &[&[0, 5], &[1, 5], &[2, 5], &[3, 5], &[4, 5], &[5]];
     // No path leads to 2 and 3, and an edge from 2 to 1 takes nothing out of the row of 1.
-    (
-        &[&[1], &[], &[1, 3], &[2]],
-        0,
-        &[&[0], &[0, 1], &[0, 1, 2, 3], &[0, 1, 2, 3]],
-    ),
+    &[&[1], &[], &[1, 3], &[2]], 0, &[&[0], &[0, 1], &[0, 1, 2, 3], &[0, 1, 2, 3]];
     // Edges to the entry, from a node to itself and past the end change nothing.
-    (OUTWARD, 0, &[&[0], &[0, 1], &[0, 1, 2]]),
+    OUTWARD, 0, &[&[0], &[0, 1], &[0, 1, 2]];
     // From past the end no node is reached.
-    (OUTWARD, 3, &[&[0, 1, 2], &[0, 1, 2], &[0, 1, 2]]),
-    (OUTWARD, usize::MAX, &[&[0, 1, 2], &[0, 1, 2], &[0, 1, 2]]),
-    (&[], 0, &[]),
-    (&[&[0]], 0, &[&[0]]),
-];
+    OUTWARD, 3, &[&[0, 1, 2], &[0, 1, 2], &[0, 1, 2]];
+    OUTWARD, usize::MAX, &[&[0, 1, 2], &[0, 1, 2], &[0, 1, 2]];
+    &[], 0, &[];
+    &[&[0]], 0, &[&[0]];
+};
 
-const OUTWARD: &[&[usize]] = &[&[0, 1, 9], &[0, 1, 2], &[2, 70, 1]];
+const OUTWARD: Rows = &[&[0, 1, 9], &[0, 1, 2], &[2, 70, 1]];
 
 // So it is of the graph as lists, as sets and as a matrix.
 #[test]
