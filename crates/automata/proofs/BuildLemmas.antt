@@ -5,14 +5,11 @@ use Rattle.std.proofs.lemmas.Bool.{true≢false, cases_eq, cases_lt, eq-eqb, ne_
 use Rattle.std.proofs.lemmas.List.{get_or_append_left, get_or_past, get_or_push, length_push}
 use Rattle.std.proofs.lemmas.Nat.{div-add-mod', div-mul-add, mod-mul-add, mod_below, row_fits}
 use Rattle.std.specs.Cmp.{both_ways}
-use Rattle.bit_set.specs.Members.{IsSameSet, Updates}
-use Rattle.bit_set.specs.Sets.{IsAscending, has}
-use Rattle.automata.specs.Building.{Builds, IsEntry, Meets}
-use Rattle.automata.specs.Numbering.{IsNew, Numbers, set_of}
+use Rattle.bit_set.specs.{Members.{IsSameSet, Updates}, Sets.{IsAscending, has}}
+use Rattle.automata.specs.{Building.{Builds, IsEntry, Meets}, Numbering.{IsNew, Numbers, set_of}}
 use Rattle.automata.specs.Runs.{Accepts, Automaton, IsEnd, IsImage, IsReach, Run, onward, row_of, successors}
 use Rattle.automata.specs.Tables.{AreApart, AreReached, IsAcceptedBy, IsSubsetTable, IsTable, IsWordOver, ReachesMoreThan, Table, end_from, next_state}
-use Rattle.automata.proofs.StepLemmas.{end_none, end_on}
-use Rattle.automata.proofs.NumberingLemmas.{before_or_last, set_before, set_last}
+use Rattle.automata.proofs.{NumberingLemmas.{before_or_last, set_before, set_last}, StepLemmas.{end_none, end_on}}
 
 -- ---- words
 

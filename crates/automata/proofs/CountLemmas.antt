@@ -2,13 +2,10 @@
 use Rattle.std.proofs.Common.{◌≡◌, ℕ, ◌<◌, ◌≤◌, true, eqb, inl, inr, List, [], ◌∷◌, ◌++◌, length, zero, suc, get_or, refl, sym, ap, ◌∙◌, arith}
 use Rattle.std.proofs.lemmas.Bool.{true≢false, cases_lt, eqb-true, ne_eqb, or_cases}
 use Rattle.std.proofs.lemmas.List.{get_or_append_left, get_or_default, get_or_push, length_push}
-use Rattle.std.proofs.lemmas.Map.Keys.{IsDistinct-from_apart}
-use Rattle.std.proofs.lemmas.Map.Steps.{length-le_from_distinct_below}
+use Rattle.std.proofs.{lemmas.Map.Keys.IsDistinct-from_apart, lemmas.Map.Steps.length-le_from_distinct_below}
 use Rattle.std.specs.List.{IsDistinct, list_any}
-use Rattle.bit_set.specs.Members.{IsSameSet}
-use Rattle.bit_set.specs.Sets.{has}
-use Rattle.automata.specs.Numbering.{set_of}
-use Rattle.automata.specs.Runs.{Automaton}
+use Rattle.bit_set.specs.{Members.IsSameSet, Sets.has}
+use Rattle.automata.specs.{Numbering.set_of, Runs.Automaton}
 use Rattle.automata.specs.Tables.{IsSubsetTable, IsWordOver, ReachesMoreThan, Table, end_of}
 use Rattle.automata.proofs.BuildLemmas.{same_reach}
 

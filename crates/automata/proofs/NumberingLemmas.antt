@@ -2,14 +2,10 @@
 use Rattle.std.proofs.Common.{◌≡◌, ℕ, ◌<◌, true, false, cond, ◌⊎◌, inl, inr, List, [], ◌∷◌, ◌++◌, Option, Some, None, IsTrue, length, refl, sym, ap, ◌∙◌, ◌↔◌, arith}
 use Rattle.std.proofs.lemmas.Bool.{true≢false, cases_lt}
 use Rattle.std.proofs.lemmas.List.{get_or_append_left, get_or_push, length_push, map_push}
-use Rattle.std.specs.Ordering.{is_eq}
-use Rattle.std.specs.declared.cmp.Ordering.{Ordering}
+use Rattle.std.specs.{Ordering.is_eq, declared.cmp.Ordering.Ordering}
 use Rattle.std.specs.declared.cmp.Ordering.TheVariants.{Less, Equal, Greater}
-use Rattle.bit_set.specs.Bits.{Bits}
-use Rattle.bit_set.specs.Order.{order_of_sets, same_sets}
-use Rattle.bit_set.specs.Sets.{elements}
-use Rattle.automata.specs.Numbering.{Finds, IsNew, Numbers, set_of}
-use Rattle.automata.specs.Runs.{row_of_sets}
+use Rattle.bit_set.specs.{Bits.Bits, Order.{order_of_sets, same_sets}, Sets.elements}
+use Rattle.automata.specs.{Numbering.{Finds, IsNew, Numbers, set_of}, Runs.row_of_sets}
 
 pub is_equal : (o : Ordering) → is_eq o ≡ true → o ≡ Equal
 is_equal Less h = absurd (true≢false (sym h))

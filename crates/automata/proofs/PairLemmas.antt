@@ -1,15 +1,13 @@
 -- Pairs of states that one word reaches in two tables.
 use Rattle.std.proofs.Common.{◌≡◌, ℕ, ◌+◌, ◌*◌, ◌<◌, ◌≤◌, Bool, not, true, false, cond, ◌&&◌, ◌||◌, eqb, ltb, ◌⊎◌, inl, inr}
 use Rattle.std.proofs.Common.{List, [], ◌∷◌, ◌++◌, length, append_assoc, get_or, reverse, refl, sym, ap, subst, ◌∙◌, ◌↔◌}
-use Rattle.std.proofs.Common.{arith}
+use Rattle.std.proofs.{Common.arith, Math.Bool.and-false, lemmas.Nat.row_fits}
 use mathlib.Core.Bool.{beq}
 use Rattle.std.proofs.lemmas.Bool.{true≢false, cases_eq, cases_lt, eq-eqb, eqb-true, lt-ltb, le-ltb, or_cases, or_left, or_right}
 use Rattle.std.proofs.lemmas.List.{get_or_append_left, get_or_default, get_or_push, length_push, reverse-append}
-use Rattle.std.proofs.{lemmas.Nat.row_fits, Math.Bool.and-false}
 use Rattle.bit_set.specs.Sets.{has}
 use Rattle.bit_matrix.specs.Matrices.{ChangesRow, Matrix, has_at}
-use Rattle.automata.specs.declared.equivalence.Pair.{Pair}
-use Rattle.automata.specs.Pairs.{does_accept, step_of, symbols_of, walk_from}
+use Rattle.automata.specs.{Pairs.{does_accept, step_of, symbols_of, walk_from}, declared.equivalence.Pair.Pair}
 use Rattle.automata.specs.Searching.{Explores, IsLinked, IsListed, Spells, first_pair, onward, pair_at, start}
 use Rattle.automata.specs.Tables.{AcceptTheSame, IsAcceptedBy, IsAcceptedByOne, IsTable, IsWordOver, Table, end_from, next_state}
 use Rattle.automata.proofs.{BuildLemmas.{one_place, place_inside}, NumberingLemmas.before_or_last}

@@ -1,11 +1,8 @@
 -- Sets of states, from one symbol to the next.
 use Rattle.std.proofs.Common.{◌≡◌, ℕ, ◌<◌, ◌≤◌, Bool, not, true, false, ◌||◌, ◌&&◌, eqb, cond, ◌⊎◌, inl, inr, List, [], ◌∷◌, ◌++◌, length, map, get_or, refl, sym, ap, ◌∙◌, ◌↔◌, arith}
 use Rattle.std.proofs.{lemmas.Bool.{true≢false, cases_eq, eq-eqb, ne_eqb, or_cases, or_left, or_right}, Math.Bool.or-false}
-use Rattle.std.proofs.lemmas.List.{get_or_default, get_or_past, length-map}
-use Rattle.std.proofs.Math.ListN.{get_or-map}
-use Rattle.bit_set.specs.Bits.{Bits}
-use Rattle.bit_set.specs.Sets.{elements, has, is_disjoint}
-use Rattle.bit_set.specs.Members.{IsDisjoint, IsUnion, Updates}
+use Rattle.std.proofs.{Math.ListN.get_or-map, lemmas.List.{get_or_default, get_or_past, length-map}}
+use Rattle.bit_set.specs.{Bits.Bits, Members.{IsDisjoint, IsUnion, Updates}, Sets.{elements, has, is_disjoint}}
 use Rattle.automata.specs.Bounds.{set_at}
 use Rattle.automata.specs.Runs.{Accepts, Automaton, IsEnd, IsImage, Leads, Run, here, onward, row_of, row_of_sets, successors}
 

@@ -1,6 +1,5 @@
 -- How long the sets of an automaton are.
-use Rattle.std.specs.Prelude.{ℕ, ◌≤◌, List, [], length, map, slice_index_or}
-use Rattle.std.specs.Global.{Vec}
+use Rattle.std.specs.{Global.Vec, Prelude.{ℕ, ◌≤◌, List, [], length, map, slice_index_or}}
 use Rattle.bit_set.specs.Bits.{Bits}
 
 -- a set of a row, and an empty set of no length past its end

@@ -1,8 +1,7 @@
 -- A table on its way: sets that are numbered, and of the first of them where the symbols lead.
 use Rattle.std.specs.Prelude.{◌≡◌, ℕ, ◌+◌, ◌*◌, ◌<◌, IsTrue, List, length}
 use Rattle.bit_set.specs.Sets.{IsAscending, has}
-use Rattle.automata.specs.Numbering.{set_of}
-use Rattle.automata.specs.Runs.{Automaton, IsImage, row_of}
+use Rattle.automata.specs.{Numbering.set_of, Runs.{Automaton, IsImage, row_of}}
 use Rattle.automata.specs.Tables.{AreApart, AreReached, next_state}
 
 -- the symbol leads from set i to the set that the table says

@@ -1,7 +1,6 @@
 -- Sets that are numbered in the order in which they were met, each once.
 use Rattle.std.specs.Prelude.{◌≡◌, ◌≢◌, ℕ, ◌<◌, ◌++◌, ◌⊎◌, List, [], ◌∷◌, Option, Some, length, slice_index_or}
-use Rattle.bit_set.specs.Bits.{Bits}
-use Rattle.bit_set.specs.Sets.{elements}
+use Rattle.bit_set.specs.{Bits.Bits, Sets.elements}
 
 -- the set with a number, and the empty one where there is none
 abbrev pub set_of : List (List ℕ) → ℕ → List ℕ

@@ -1,8 +1,6 @@
 -- Automata, and the words that they accept. States and symbols are numbers, and a word is a list of symbols.
-use Rattle.std.specs.Prelude.{ℕ, ◌↔◌, IsTrue, List, [], ◌∷◌, map, slice_index_or}
-use Rattle.std.specs.Global.{Vec}
-use Rattle.bit_set.specs.Bits.{Bits}
-use Rattle.bit_set.specs.Sets.{elements, has}
+use Rattle.std.specs.{Global.Vec, Prelude.{ℕ, ◌↔◌, IsTrue, List, [], ◌∷◌, map, slice_index_or}}
+use Rattle.bit_set.specs.{Bits.Bits, Sets.{elements, has}}
 
 -- What contracts see of an automaton: for each symbol a row, which has for each state the states to which that symbol
 -- leads from it; the states in which a run may start, and those in which it may end. And `longest`, the length of the

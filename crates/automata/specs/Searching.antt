@@ -1,9 +1,7 @@
 -- A search through the pairs of states of two tables that one word reaches.
 use Rattle.std.specs.Prelude.{◌≡◌, ℕ, ◌+◌, ◌*◌, ◌<◌, ◌++◌, IsTrue, List, [], ◌∷◌, length, slice_index_or}
 use Rattle.bit_matrix.specs.Matrices.{Matrix, has_at}
-use Rattle.automata.specs.declared.equivalence.Pair.{Pair}
-use Rattle.automata.specs.Pairs.{step_of, symbols_of}
-use Rattle.automata.specs.Tables.{Table}
+use Rattle.automata.specs.{Pairs.{step_of, symbols_of}, Tables.Table, declared.equivalence.Pair.Pair}
 
 -- the first pair, which the empty word reaches
 abbrev pub first_pair : Pair

@@ -1,9 +1,7 @@
 -- Deterministic automata, and the words that they accept. A run starts in state 0.
 use Rattle.std.specs.Prelude.{◌≡◌, ℕ, ◌+◌, ◌*◌, ◌<◌, ◌⊎◌, ◌↔◌, IsTrue, List, [], ◌∷◌, length, slice_index}
-use Rattle.bit_set.specs.Members.{IsSameSet}
-use Rattle.bit_set.specs.Sets.{has}
-use Rattle.automata.specs.Numbering.{set_of}
-use Rattle.automata.specs.Runs.{Automaton, IsReach}
+use Rattle.bit_set.specs.{Members.IsSameSet, Sets.has}
+use Rattle.automata.specs.{Numbering.set_of, Runs.{Automaton, IsReach}}
 
 -- What contracts see of a deterministic automaton: how many states and symbols it has; for each state and symbol, at
 -- state * symbols + symbol, the state to which the symbol leads; and the accepting states.

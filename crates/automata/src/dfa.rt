@@ -1,7 +1,6 @@
 // Deterministic automata.
 ghost use Rattle.std.specs.Prelude.{◌≡◌, ◌<◌, ◌≤◌, ◌↔◌, IfNone, IfSome, IsTrue};
-ghost use Rattle.automata.specs.Pairs.{does_accept, step_of};
-ghost use Rattle.automata.specs.Tables.{IsAcceptedBy, IsTable, IsWordOver, end_from};
+ghost use Rattle.automata.specs.{Pairs.{does_accept, step_of}, Tables.{IsAcceptedBy, IsTable, IsWordOver, end_from}};
 
 use bit_set::{BitBlock, BitSet};
 use std::marker::Model;

@@ -1,8 +1,7 @@
 // Whether two deterministic automata accept the same words.
 ghost use Rattle.std.specs.Prelude.{◌≡◌, ◌+◌, ◌*◌, ◌<◌, ◌≤◌, ◌++◌, ◌∷◌, ◌||◌, ◌==◌, [], ℕ, false, if◌then◌else◌, IfNone, IfOk, IfSome, OnOk, length};
 ghost use Rattle.bit_matrix.specs.Matrices.{ChangesRow, has_at};
-ghost use Rattle.automata.specs.Pairs.{symbols_of};
-ghost use Rattle.automata.specs.Searching.{Explores, HasPlaces, Spells, pair_at};
+ghost use Rattle.automata.specs.{Pairs.symbols_of, Searching.{Explores, HasPlaces, Spells, pair_at}};
 ghost use Rattle.automata.specs.Tables.{AcceptTheSame, IsAcceptedByOne};
 
 use crate::Dfa;

@@ -1,8 +1,7 @@
 // Sets of states, from one symbol to the next.
 ghost use Rattle.std.specs.Prelude.{◌≡◌, OnOk, IsOk};
 ghost use Rattle.bit_set.specs.Sets.{elements};
-ghost use Rattle.automata.specs.Bounds.{AreWithin, IsRowWithin};
-ghost use Rattle.automata.specs.Runs.{IsImage, row_of, row_of_sets, rows_of_sets};
+ghost use Rattle.automata.specs.{Bounds.{AreWithin, IsRowWithin}, Runs.{IsImage, row_of, row_of_sets, rows_of_sets}};
 
 use bit_set::{BitBlock, BitSet};
 use std::alloc::AllocError;

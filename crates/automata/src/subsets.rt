@@ -1,9 +1,7 @@
 // The deterministic automaton that accepts the same words.
 ghost use Rattle.std.specs.Prelude.{◌≡◌, ◌+◌, ◌*◌, ◌<◌, ◌≤◌, ◌↔◌, ℕ, IfOk, IsErrOf, IsOk, IsTrue, List, OnOk, [], length};
 ghost use Rattle.bit_set.specs.Sets.{elements, has};
-ghost use Rattle.automata.specs.Building.{Builds, Meets};
-ghost use Rattle.automata.specs.Numbering.{set_of};
-ghost use Rattle.automata.specs.Runs.{Accepts};
+ghost use Rattle.automata.specs.{Building.{Builds, Meets}, Numbering.set_of, Runs.Accepts};
 ghost use Rattle.automata.specs.Tables.{IsAcceptedBy, IsSubsetTable, ReachesMoreThan};
 
 use crate::numbering::Numbering;

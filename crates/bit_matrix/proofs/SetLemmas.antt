@@ -1,10 +1,9 @@
 -- A set put into a row, and a row made a set.
 use Rattle.std.proofs.Common.{◌≡◌, ◌≢◌, ℕ, ◌+◌, ◌-◌, ◌*◌, ◌/◌, ◌%◌, ◌<◌, ◌≤◌, ◌==◌, ◌↔◌, Bool, true, false, ◌&&◌, ◌||◌}
 use Rattle.std.proofs.Common.{if◌then◌else◌, min, nat_lt, List, [], All, length, map, get_or, take, replicate, sym, ap, ap₂}
-use Rattle.std.proofs.Common.{◌∙◌, arith, inl, inr, mod-lt}
+use Rattle.std.proofs.{Common.{◌∙◌, arith, inl, inr, mod-lt}, lemmas.List.{length-map, length-replicate}}
 use Rattle.std.proofs.lemmas.{Bool.{cases_eq, cases_lt, Decides.nat_tests}, Nat.{div-add-mod', div_below, mul-le}}
 use Rattle.std.proofs.lemmas.List.{ext_get_or, get_or-replicate, get_or-set_other, get_or-set_same, get_or-take, get_or_past}
-use Rattle.std.proofs.lemmas.List.{length-map, length-replicate}
 use Rattle.bit_blocks.specs.{Bits.{blocks_for, blocks_of}, Digits.is_one, Storage.value_at, declared.block.merge.Merge.TheVariants.Union}
 use Rattle.bit_words.specs.Kept.{KeepsInBlock}
 use Rattle.bit_blocks.proofs.{BitsLemmas.{block_past, blocks_for-below, blocks_of-digit, length-blocks_of, read_back}, StorageLemmas.value_at-index}

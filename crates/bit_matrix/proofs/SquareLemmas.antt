@@ -1,8 +1,7 @@
 -- Squares of bits that are transposed, from one pair of blocks to all of a strip.
 use Rattle.std.proofs.Common.{◌≡◌, ◌≢◌, ℕ, ◌+◌, ◌*◌, ◌/◌, ◌%◌, ◌<◌, ◌==◌, Bool, true, false, not, ◌&&◌, ◌||◌, nat_lt, List, length, get_or, set, refl, sym, ap, ap₂, ◌∙◌, arith, inl, inr}
-use Rattle.std.proofs.lemmas.Bool.{cases_eq, Decides.nat_tests}
+use Rattle.std.proofs.{lemmas.Bool.{cases_eq, Decides.nat_tests}, lemmas.List.{get_or-set_other, get_or-set_same}}
 use Rattle.std.proofs.lemmas.Nat.{div-add-mod', div-mul-add, div_below, mod-mul-add, mod_below, row_fits, same_from_place}
-use Rattle.std.proofs.lemmas.List.{get_or-set_other, get_or-set_same}
 use Rattle.std.proofs.Math.Nat.{mul_comm}
 use Rattle.bit_blocks.specs.{Digits.{IsBoth, IsComplement, IsEither, IsShiftedLeft, IsShiftedRight, is_one}, Written.WritesBlocks}
 use Rattle.bit_blocks.proofs.Masks.{is_one-both, is_one-complement, is_one-either}

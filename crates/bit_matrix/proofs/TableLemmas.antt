@@ -1,9 +1,8 @@
 -- What the rows of a table have, and what becomes of them where its bits change.
 use Rattle.std.proofs.Common.{◌≡◌, ◌≢◌, ℕ, ◌+◌, ◌*◌, ◌/◌, ◌<◌, ◌≤◌, ◌==◌, Bool, false, ◌&&◌, if◌then◌else◌, nat_lt, List, [], length, get_or, set, replicate, sym, ap, ◌∙◌, arith, inl, inr}
 use Rattle.std.proofs.lemmas.Bool.{cases_eq, cases_lt, eq-eqb, ne_eqb, true≢false, Decides.nat_tests}
-use Rattle.std.proofs.lemmas.Nat.{div_below, mul-add-lt, same_from_place}
+use Rattle.std.proofs.{lemmas.List.{length-replicate, length-set}, lemmas.Nat.{div_below, mul-add-lt, same_from_place}}
 use Rattle.std.proofs.lemmas.List.{ext_get_or, get_or-set_other, get_or-set_same, get_or-replicate, get_or_past}
-use Rattle.std.proofs.lemmas.List.{length-replicate, length-set}
 use Rattle.std.proofs.lemmas.List.FromFn.{length-map-range_with_len, get_or-map-range_with_len}
 use Rattle.bit_blocks.specs.Storage.{WritesValue}
 use Rattle.bit_set.specs.{Ranges.span, Sets.{IsAscending, has}}

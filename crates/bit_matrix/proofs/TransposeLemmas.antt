@@ -2,8 +2,7 @@
 use Rattle.std.proofs.Common.{◌≡◌, ◌≢◌, ℕ, ◌+◌, ◌-◌, ◌*◌, ◌/◌, ◌%◌, ◌<◌, ◌≤◌, ◌==◌, ◌⊎◌, Bool, true, false, ◌&&◌, ◌||◌, nat_lt, List, get_or, refl, sym, ap, ap₂, ◌∙◌, arith, inl, inr}
 use Rattle.std.proofs.lemmas.Bool.{cases_eq, cases_lt, eq-eqb, ne_eqb, true≢false, Decides.nat_tests}
 use Rattle.std.proofs.lemmas.Nat.{div-add-mod', div-mul-add, div_below, mod-mul-add, mod_below, mul-add-lt, mul-le, row_fits}
-use Rattle.std.proofs.lemmas.Nat.{same_from_place}
-use Rattle.std.proofs.Math.Nat.{add-mul, mul_assoc, mul_comm}
+use Rattle.std.proofs.{Math.Nat.{add-mul, mul_assoc, mul_comm}, lemmas.Nat.same_from_place}
 use Rattle.bit_blocks.specs.Digits.{is_one}
 use Rattle.bit_matrix.specs.Squares.{AreExchanged, ArePairsExchanged, AreSquaresExchanged, IsExchanged, IsTransposedStrip, digit_in, index_of}
 

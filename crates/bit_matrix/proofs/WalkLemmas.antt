@@ -1,8 +1,7 @@
 -- The walk over a row: where it begins, and what it has left.
 use Rattle.std.proofs.Common.{◌≡◌, ℕ, ◌+◌, ◌-◌, ◌*◌, ◌/◌, ◌%◌, ◌^◌, ◌<◌, ◌≤◌, true, false, ◌&&◌, nat_le, List, [], ◌∷◌, ◌++◌}
 use Rattle.std.proofs.Common.{All, length, map, get_or, drop, refl, sym, ap, ap₂, ◌∙◌, arith, mul-le-mul_right, inl, inr}
-use Rattle.std.proofs.Common.{zero, suc, mod-lt, subst}
-use Rattle.std.proofs.iter.runs.Sources.{from_front, as_is}
+use Rattle.std.proofs.{Common.{zero, suc, mod-lt, subst}, iter.runs.Sources.{from_front, as_is}}
 use Rattle.std.proofs.lemmas.{Bool.{cases_lt, true≢false, Decides.nat_tests}, Nat.{div-add-mod', le-div}}
 use Rattle.std.proofs.lemmas.List.{get_or-drop, length-drop, length-map, drop_all}
 use Rattle.std.proofs.lemmas.List.Elements.{All-drop, All-head, All-nil, All-tail}
@@ -11,8 +10,7 @@ use Rattle.bit_blocks.specs.{Digits.is_one, Lowest.{IsCleared, IsLowest}, Storag
 use Rattle.bit_blocks.proofs.{BitsLemmas.block_past, StorageLemmas.{value_at-index, value_at-past}}
 use Rattle.bit_set.specs.{Indexes.{digits_from, indexes, values_in}, Sets.{IsAscending, has}}
 use Rattle.bit_set.proofs.IndexLemmas.{AscendsFrom-indexes, indexes-lowest, indexes-none, length-indexes-le}
-use Rattle.bit_set.proofs.IndexLemmas.{length-values_in, value_in}
-use Rattle.bit_set.proofs.RetainLemmas.{below_by_members}
+use Rattle.bit_set.proofs.{IndexLemmas.{length-values_in, value_in}, RetainLemmas.below_by_members}
 use Rattle.bit_set.proofs.SetLemmas.{AscendsFrom-lower, has-below, has-elements_from}
 use Rattle.bit_set.proofs.WalkLemmas.{CanWalk-moved, CanWalk-taken, indexes-pulled, pulled_along}
 use Rattle.bit_matrix.specs.Walks.{AdvancesInRow, IsRowWalk}

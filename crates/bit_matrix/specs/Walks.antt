@@ -1,6 +1,5 @@
 -- The walk over a row: a step of it, and its fields, which no public clause cites.
-use Rattle.std.specs.Prelude.{ℕ, All, List, Option, MatchOption, ⊤, length, map}
-use Rattle.std.specs.Iterator.{YieldsFirst}
+use Rattle.std.specs.{Iterator.YieldsFirst, Prelude.{ℕ, All, List, Option, MatchOption, ⊤, length, map}}
 use Rattle.bit_set.specs.{Indexes.{CanWalk, values_in}, Members.TakesLeast}
 
 -- A call of `next` that gave r went from the columns s to t: it took the first, which is the least, or gave None at the

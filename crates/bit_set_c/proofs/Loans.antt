@@ -7,8 +7,7 @@ use denote.Opens.{shr_dup}
 use denote.Struct.Owning.{Owning, fields, row, shape, to}
 use denote.Struct.OwningLaws.{part_out, part_in}
 use denote.Struct.Struct.{Struct}
-use Rattle.bit_set_c.specs.Handed.{IsAt, part, shares}
-use Rattle.bit_set_c.specs.Lends.{ends_as_is}
+use Rattle.bit_set_c.specs.{Handed.{IsAt, part, shares}, Lends.ends_as_is}
 
 -- a type of what C lends to be read, whose values say which part of a loan each is of, and where what is
 pub record Loan (X : RattleType) : Type 2 where

@@ -2,8 +2,7 @@
 use Rattle.bit_set_c.proofs.Names.{ !, [], block_ptr, Bool, by, emp, ent, fact, fact_i, fact_mono, fact_use, false, feq, feq_l, fst∗, full_share, guard, guard_i, is_some, lies_at, lit<, Logic, lone, never, never_e, None, null_ptr, op2_val, Option, Ptr, ptr_ne, ptr_val, qed, RattleType, refl, sem, snd∗, Some, SProp, subst, sym, Testable, true, Ura, vbool, via, vnull, ‵, ◌∷◌, ◌≡◌}
 use mir.Raw.{raw as bare}
 use Rattle.std.proofs.GlobalToken.{dealloc_token-Testable}
-use Rattle.std.specs.Global.{Global}
-use Rattle.std.specs.contracts.impls.GlobalAllocator.TheImpl.{ghosts}
+use Rattle.std.specs.{Global.Global, contracts.impls.GlobalAllocator.TheImpl.ghosts}
 use Rattle.bit_set_c.specs.Handed.{owns}
 
 -- the pointer may be tested, and what the test says

@@ -1,7 +1,6 @@
 -- What holds of the outcome of a call, or of what it made, holds of what C gets.
 use Rattle.std.proofs.Common.{◌≡◌, Bool, subst, sym}
-use Rattle.std.specs.Prelude.{IfSome, OnOk, Option, Some, None, Result, Ok, Err, ⊤}
-use Rattle.std.specs.Result.{is_ok}
+use Rattle.std.specs.{Prelude.{IfSome, OnOk, Option, Some, None, Result, Ok, Err, ⊤}, Result.is_ok}
 use Rattle.bit_set_c.specs.Answers.{done}
 
 pub on_done : {E : Type 0} (r : Result ⊤ E) (b : Bool) (P : Type 0) → b ≡ is_ok r → OnOk r P → OnOk (done b) P

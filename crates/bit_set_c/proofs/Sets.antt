@@ -7,9 +7,8 @@ use denote.Param.Shared.{copy_shared}
 use denote.Struct.Field.{u64-field}
 use denote.Struct.Laws.{u64-laws, u64-copy}
 use Rattle.std.proofs.BoxSteps.Form.{Bx}
-use Rattle.std.specs.Borrow.{RattleType, u64}
+use Rattle.std.specs.{Borrow.{RattleType, u64}, contracts.impls.GlobalAllocator.TheImpl.{ghosts, dict}}
 use Rattle.std.specs.contracts.alloc.Global as Heap
-use Rattle.std.specs.contracts.impls.GlobalAllocator.TheImpl.{ghosts, dict}
 use Rattle.std.proofs.alloc.Global.TheLaws as heap
 use Rattle.bit_blocks.specs.contracts.block.integers.U64BitBlock.TheImpl as block
 use Rattle.std.specs.contracts.prelude.U64PartialEq.TheImpl as eq

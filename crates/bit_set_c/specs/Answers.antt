@@ -1,11 +1,9 @@
 -- What the answers of calls say to C.
 use Rattle.std.specs.Prelude.{◌≡◌, ℕ, ℤ, zero, suc, pos, negsuc, Bool, true, false, not, ◌==◌, if◌then◌else◌, List, Option, Some, None, Result, Ok, Err, IfOk, alloc_error, ⊤}
-use Rattle.std.specs.declared.alloc.AllocError.{AllocError}
-use Rattle.std.specs.declared.ops.Range.{Range}
+use Rattle.std.specs.{declared.alloc.AllocError.AllocError, declared.ops.Range.Range}
 use Rattle.std.specs.declared.cmp.Ordering.{Ordering, TheVariants.{Less, Equal, Greater}}
 use Rattle.bit_words.specs.Bounds.{greatest}
-use Rattle.bit_set.specs.{Order.same_sets}
-use Rattle.bit_set.specs.declared.faults.SetError.{SetError, TheVariants.{Element, Length, Memory}}
+use Rattle.bit_set.specs.{Order.same_sets, declared.faults.SetError.{SetError, TheVariants.{Element, Length, Memory}}}
 
 -- of a call that fails for memory alone: whether it was done
 abbrev pub done : Bool → Result ⊤ AllocError

@@ -1,6 +1,5 @@
 -- The blocks of the sets and of the matrices, as `src/block.rt` has them.
-use Rattle.std.specs.Prelude.{ℕ}
-use Rattle.std.specs.Borrow.{RattleType, u64}
+use Rattle.std.specs.{Borrow.{RattleType, u64}, Prelude.ℕ}
 use Rattle.bit_blocks.specs.contracts.block.integers.U64BitBlock.TheImpl as block
 use Rattle.std.specs.contracts.prelude.U64PartialEq.TheImpl as eq
 use Rattle.std.specs.contracts.prelude.U64BitAnd.TheImpl as and

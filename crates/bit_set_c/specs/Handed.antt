@@ -1,9 +1,6 @@
 -- What C hands over of a value, a set or a matrix: the box that it owns, or a loan for a call. A row says how memory keeps it.
-use Rattle.std.specs.Prelude.{◌≡◌, ℕ, zero, suc, Option, Some, None}
-use Rattle.std.specs.Borrow.{Fml, RattleType, ffalse}
-use Rattle.std.specs.Box.Ownership.{box_owns}
-use Rattle.std.specs.Coded.{Coded, coded_option}
-use Rattle.std.specs.Global.{Global}
+use Rattle.std.specs.{Borrow.{Fml, RattleType, ffalse}, Global.Global, Prelude.{◌≡◌, ℕ, zero, suc, Option, Some, None}}
+use Rattle.std.specs.{Box.Ownership.box_owns, Coded.{Coded, coded_option}}
 use Rattle.std.specs.contracts.impls.GlobalAllocator.TheImpl.{ghosts}
 use base.Fml.{Lft, Share, feq, flft, fsep}
 use base.Fraction.{full_share, left}

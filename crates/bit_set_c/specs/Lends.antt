@@ -1,17 +1,14 @@
 -- What a set or a matrix that C lends is after it was handed on.
-use Rattle.std.specs.Prelude.{◌≡◌, ⊤}
-use Rattle.std.specs.Borrow.{Fml, Lends, MutBor, RattleType, follows_so}
+use Rattle.std.specs.{Borrow.{Fml, Lends, MutBor, RattleType, follows_so}, Prelude.{◌≡◌, ⊤}}
 use mathlib.Core.Option.{none}
 use Rattle.bit_blocks.specs.Bits.{Bits}
 use Rattle.bit_matrix.specs.Matrices.{Matrix}
-use Rattle.bit_set_c.specs.Block.{matrix_row, set_row}
-use Rattle.bit_set_c.specs.declared.handed.sets.Exclusive.{Exclusive}
+use Rattle.bit_set_c.specs.{Block.{matrix_row, set_row}, declared.handed.sets.Exclusive.Exclusive}
 use Rattle.bit_set_c.specs.contracts.handed.sets.Exclusive as exclusive
-use Rattle.bit_set_c.specs.declared.handed.sets.Shared.{Shared}
+use Rattle.bit_set_c.specs.{declared.handed.matrices.SharedMatrix.SharedMatrix, declared.handed.sets.Shared.Shared}
 use Rattle.bit_set_c.specs.contracts.handed.sets.Shared as shared
 use Rattle.bit_set_c.specs.declared.handed.matrices.ExclusiveMatrix.{ExclusiveMatrix}
 use Rattle.bit_set_c.specs.contracts.handed.matrices.ExclusiveMatrix as exclusive_matrix
-use Rattle.bit_set_c.specs.declared.handed.matrices.SharedMatrix.{SharedMatrix}
 use Rattle.bit_set_c.specs.contracts.handed.matrices.SharedMatrix as shared_matrix
 
 abbrev pub with_bits : Exclusive → Bits → Exclusive

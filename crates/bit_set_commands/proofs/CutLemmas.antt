@@ -1,7 +1,6 @@
 -- The parts of a text that is cut at a byte.
 use Rattle.std.proofs.Common.{◌≡◌, ◌≢◌, ℕ, true, false, not, ◌==◌, eqb, List, [], ◌∷◌, ◌++◌, length, arith, inl, inr, ap, sym, ◌∙◌, refl, ne_eqb, eq-eqb}
-use Rattle.std.proofs.lemmas.Bool.{false≢true}
-use Rattle.std.proofs.lemmas.Bool.Decides.{eqb_tells}
+use Rattle.std.proofs.{lemmas.Bool.false≢true, lemmas.Bool.Decides.eqb_tells}
 use Rattle.std.proofs.lemmas.List.Elements.{All-nil, All-cons, All-head, All-tail, All-weaker}
 use Rattle.std.proofs.lemmas.List.Splits.{length-slice_split, slice_split_none, slice_split_at, join_with_byte-slice_split}
 use Rattle.std.specs.List.{All, list_all, join_with_byte, onto_first}

@@ -1,12 +1,9 @@
 -- `lines_of`, a line at a time, and that it gives the lines of the input and no others.
 use Rattle.std.proofs.Common.{◌≡◌, ◌≢◌, ℕ, ◌==◌, inl, inr, false, List, [], ◌∷◌, ◌++◌, length, ap, sym, ◌∙◌, refl, ne_eqb, append_assoc, Option, None, Some, IfSome, IfNone, unwrap_or, Bor}
-use Rattle.std.proofs.lemmas.Bool.{false≢true}
-use Rattle.std.proofs.lemmas.Bool.Decides.{eqb_tells}
-use Rattle.std.proofs.lemmas.List.{same_from_push}
+use Rattle.std.proofs.{lemmas.Bool.false≢true, lemmas.Bool.Decides.eqb_tells, lemmas.List.same_from_push}
 use Rattle.std.proofs.lemmas.List.Elements.{All-nil, All-cons, All-head, All-tail}
 use Rattle.std.specs.List.{All, onto_first}
-use Rattle.bit_set_commands.specs.Cuts.{Lacks}
-use Rattle.bit_set_commands.specs.Lines.{lines_of, text_of_lines, EndsWithBytes, AreLines}
+use Rattle.bit_set_commands.specs.{Cuts.Lacks, Lines.{lines_of, text_of_lines, EndsWithBytes, AreLines}}
 
 -- a line that a byte 10 ends
 pub lines_of-ended : (text rest : List ℕ) → Lacks 10 text → lines_of (text ++ 10 ∷ rest) ≡ text ∷ lines_of rest

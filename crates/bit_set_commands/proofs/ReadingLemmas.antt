@@ -1,26 +1,15 @@
 -- Numbers read a digit at a time, and what a line's words come to.
 use Rattle.std.proofs.Common.{◌≡◌, ℕ, zero, suc, ◌+◌, ◌-◌, ◌*◌, ◌<◌, Bool, true, false, not, ◌&&◌, List, [], ◌∷◌, ◌++◌, length, take, get_or, ap, sym, ◌∙◌, refl, arith, eqb, nat_lt, ◌⊎◌, inl, inr, Option, None, Some, Result, Ok, Err, nat_le, if◌then◌else◌}
-use Rattle.std.specs.Char.{is_ascii_digit, digit_value, IsAsciiDigit}
-use Rattle.std.specs.Str.{all_ascii_digits}
-use Rattle.std.specs.Str.Parse.{digits_value}
-use Rattle.std.proofs.lemmas.Int.Digits.{digits_value_more}
-use Rattle.std.proofs.lemmas.Str.{digit_value_digit}
-use Rattle.std.proofs.lemmas.Bool.{and_parts, and_right}
-use Rattle.std.proofs.lemmas.Bool.Decides.{eqb_tells}
-use Rattle.std.proofs.lemmas.List.Folds.{list_all-append}
-use Rattle.std.specs.List.{list_all}
-use Rattle.std.specs.Option.{option_and_then, option_zip}
-use Rattle.std.specs.Result.{result_and}
-use Rattle.bit_set_commands.specs.Cuts.{Lacks}
-use Rattle.bit_set_commands.specs.declared.verbs.SetWalk.{SetWalk}
-use Rattle.bit_set_commands.specs.declared.verbs.SetWalk.TheVariants.{One, Two}
-use Rattle.bit_set_commands.specs.declared.reading.BadLine.{BadLine}
+use Rattle.std.specs.{Char.{is_ascii_digit, digit_value, IsAsciiDigit}, Str.all_ascii_digits, Str.Parse.digits_value}
+use Rattle.std.proofs.{lemmas.Bool.Decides.eqb_tells, lemmas.Int.Digits.digits_value_more, lemmas.Str.digit_value_digit}
+use Rattle.std.proofs.{lemmas.Bool.{and_parts, and_right}, lemmas.List.Folds.list_all-append}
+use Rattle.std.specs.{List.list_all, Option.{option_and_then, option_zip}, Result.result_and}
+use Rattle.bit_set_commands.specs.{Cuts.Lacks, declared.reading.BadLine.BadLine, declared.verbs.SetWalk.SetWalk}
+use Rattle.bit_set_commands.specs.{Spelling.numbers_of, Words.words_of, declared.verbs.SetWalk.TheVariants.{One, Two}}
 use Rattle.bit_set_commands.specs.declared.reading.BadLine.TheVariants.{BadCommand, BadNumber}
 use Rattle.bit_set_commands.specs.Reading.{alone, command_of, fitting_number, followed, name_alone, name_of, number_alone, number_of, reading, rest_command, rest_of, within_range}
-use Rattle.bit_set_commands.specs.Spelling.{numbers_of}
 use Rattle.bit_set_commands.specs.Verbs.{usage_of, walk_of, Usage, Name}
 use Rattle.bit_blocks.specs.Bounds.{greatest}
-use Rattle.bit_set_commands.specs.Words.{words_of}
 use Rattle.bit_set_commands.proofs.CutLemmas.{parts_at-first, parts_at-one, parts_some}
 
 -- a byte that is no digit

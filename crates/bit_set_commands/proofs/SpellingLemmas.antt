@@ -1,26 +1,19 @@
 -- The line of a command is read as that command.
 use Rattle.std.proofs.Common.{◌≡◌, ℕ, ◌+◌, ◌-◌, ◌<◌, ◌≤◌, ◌^◌, ◌==◌, not, true, ◌≢◌, List, [], ◌∷◌, ◌++◌, length, Some, Ok, map, arith, refl, ap, ◌∙◌, append-nil, nat_le, lt-ltb, le-leb}
-use Rattle.std.specs.Char.{is_ascii_digit}
-use Rattle.std.specs.Prelude.{codes, decimal}
-use Rattle.std.specs.List.{list_all, All, flat_map}
-use Rattle.std.specs.Str.{all_ascii_digits}
-use Rattle.std.specs.Str.Parse.{digits_value}
+use Rattle.std.specs.{Char.is_ascii_digit, List.{list_all, All, flat_map}, Prelude.{codes, decimal}}
+use Rattle.std.specs.{Str.all_ascii_digits, Str.Parse.digits_value}
 use Rattle.std.proofs.lemmas.Bool.{and_parts, false≢true}
 use Rattle.std.proofs.lemmas.Fmt.{decimal_nonempty, digits_decimal, digits_value-decimal}
 use Rattle.std.proofs.lemmas.List.Elements.{All-cons, All-head, All-nil, All-tail}
 use Rattle.std.proofs.lemmas.Str.Parse.{IsNumeralModel, numerals_by_value, tells_all_ascii_digits}
-use Rattle.bit_blocks.specs.declared.block.merge.Merge.{Merge}
+use Rattle.bit_blocks.specs.{Bounds.greatest, declared.block.merge.Merge.Merge}
 use Rattle.bit_blocks.specs.declared.block.merge.Merge.TheVariants.{Union, Intersection, Difference, Symmetric}
-use Rattle.bit_set_commands.specs.declared.commands.Command.{Command}
+use Rattle.bit_set_commands.specs.{Cuts.Lacks, declared.commands.Command.Command, declared.verbs.SetWalk.SetWalk}
 use Rattle.bit_set_commands.specs.declared.commands.Command.TheVariants as command
-use Rattle.bit_set_commands.specs.declared.verbs.SetWalk.{SetWalk}
-use Rattle.bit_set_commands.specs.declared.verbs.SetWalk.TheVariants.{One, Two}
-use Rattle.bit_set_commands.specs.Cuts.{Lacks}
+use Rattle.bit_set_commands.specs.{Words.words_of, declared.verbs.SetWalk.TheVariants.{One, Two}}
 use Rattle.bit_set_commands.specs.Reading.{all_numbers, command_of, name_of, number_of, reading, rest_command, within_range}
-use Rattle.bit_blocks.specs.Bounds.{greatest}
 use Rattle.bit_set_commands.specs.Spelling.{figures, letter, line_of, numbers_of, CanBeHad}
 use Rattle.bit_set_commands.specs.Verbs.{usage_of, walk_of, Usage, Name, NameAndNumber, TwoNames, NameAndNumbers, NamesAroundNumber, WalkAndItsWords}
-use Rattle.bit_set_commands.specs.Words.{words_of}
 use Rattle.bit_set_commands.proofs.CutLemmas.{lacks_by_test, parts_at-first, parts_at-one}
 
 own : IsNumeralModel (λ ds. all_ascii_digits ds ≡ true) (digits_value 10)

@@ -1,22 +1,14 @@
 -- A line with an empty word, or with a byte that no command has, is a bad command.
 use Rattle.std.proofs.Common.{◌≡◌, ⊎_elim, ℕ, Bool, true, false, ◌&&◌, ◌||◌, ◌==◌, nat_lt, nat_le, List, [], ◌∷◌, length, Option, None, Some, Err, inl, inr, arith, refl, ap, sym, ◌∙◌, leb-true, le-leb}
-use Rattle.std.specs.Char.{is_ascii_digit, is_ascii_lowercase}
-use Rattle.std.specs.Cmp.Lexicographic.{same_text}
-use Rattle.std.specs.Int.{is_in_range}
-use Rattle.std.specs.List.{list_all, onto_first, Contains}
-use Rattle.std.specs.Map.{lookup}
-use Rattle.std.specs.Option.{option_and_then, option_zip}
+use Rattle.std.specs.{Char.{is_ascii_digit, is_ascii_lowercase}, Cmp.Lexicographic.same_text, Int.is_in_range}
+use Rattle.std.specs.{List.{list_all, onto_first, Contains}, Map.lookup, Option.{option_and_then, option_zip}}
 use Rattle.std.specs.Str.{all_ascii_digits, bytes_eq}
-use Rattle.std.proofs.Math.Bool.{and-true, and_assoc}
+use Rattle.std.proofs.{Math.Bool.{and-true, and_assoc}, lemmas.Bool.Decides.eqb_tells, lemmas.List.Folds.list_all_at}
 use Rattle.std.proofs.lemmas.Bool.{and_cases, and_parts, and_right, false_from_ne_true, or_parts, true≢false}
-use Rattle.std.proofs.lemmas.List.Folds.{list_all_at}
-use Rattle.std.proofs.lemmas.Bool.Decides.{eqb_tells}
-use Rattle.bit_set_commands.specs.declared.reading.BadLine.TheVariants.{BadCommand}
-use Rattle.bit_set_commands.specs.declared.verbs.SetWalk.{SetWalk}
-use Rattle.bit_set_commands.specs.declared.verbs.SetWalk.TheVariants.{One, Two}
+use Rattle.bit_set_commands.specs.{declared.reading.BadLine.TheVariants.BadCommand, declared.verbs.SetWalk.SetWalk}
+use Rattle.bit_set_commands.specs.{Words.words_of, declared.verbs.SetWalk.TheVariants.{One, Two}}
 use Rattle.bit_set_commands.specs.Reading.{all_numbers, alone, command_in_words, command_of, followed, is_plain, name_alone, name_and_number, name_of, number_alone, number_and_name, number_of, reading, rest_command, rest_of}
 use Rattle.bit_set_commands.specs.Verbs.{usage_of, verbs, walk_of, walks, Usage, Name, NameAndNumber, TwoNames, NameAndNumbers, NamesAroundNumber, WalkAndItsWords}
-use Rattle.bit_set_commands.specs.Words.{words_of}
 use Rattle.bit_set_commands.proofs.ReadingLemmas.{nothing}
 
 -- a word that a command can have: not empty, and each byte is plain

@@ -1,19 +1,14 @@
 -- The text of a list of numbers, an item at a time.
 use Rattle.std.proofs.Common.{◌≡◌, ◌≢◌, ℕ, zero, suc, ◌+◌, ◌/◌, ◌%◌, ◌<◌, ◌≤◌, Bool, true, false, ◌==◌, nat_lt, if◌then◌else◌, List, [], ◌∷◌, ◌++◌, length, take, get_or, ap, sym, ◌∙◌, refl, arith, append_assoc, append-nil}
-use Rattle.std.proofs.lemmas.Grind.{flat_map-append}
-use Rattle.std.proofs.lemmas.List.{take_more}
+use Rattle.std.proofs.{lemmas.Grind.flat_map-append, lemmas.List.take_more}
 use Rattle.std.proofs.lemmas.List.Elements.{All-append, All-cons, All-nil}
-use Rattle.std.specs.Fmt.{digit_glyph, digits, digits_onto}
-use Rattle.std.specs.List.{flat_map, join_by}
+use Rattle.std.specs.{Fmt.{digit_glyph, digits, digits_onto}, List.{flat_map, join_by}, Prelude.{codes, decimal}}
 use Rattle.std.specs.declared.cmp.Ordering.TheVariants.{Less, Equal, Greater}
-use Rattle.bit_set_commands.specs.declared.commands.Reply.{Reply}
+use Rattle.bit_set_commands.specs.{Cuts.Lacks, declared.commands.Reply.Reply, declared.reading.BadLine.BadLine}
 use Rattle.bit_set_commands.specs.declared.commands.Reply.TheVariants.{Truth, Done, Number, Items, Order, Rest, Element, Same}
-use Rattle.bit_set_commands.specs.declared.reading.BadLine.{BadLine}
 use Rattle.bit_set_commands.specs.declared.reading.BadLine.TheVariants.{BadCommand, BadNumber}
-use Rattle.bit_set_commands.specs.Cuts.{Lacks}
 use Rattle.bit_set_commands.proofs.CutLemmas.{lacks_by_test}
 use Rattle.bit_set_commands.specs.Texts.{items_text, text_of, text_of_bad}
-use Rattle.std.specs.Prelude.{codes, decimal}
 
 -- one more item behind others
 join_by-push : (f : ℕ → List ℕ) (sep : List ℕ) (y : ℕ) (ys : List ℕ) (x : ℕ) → join_by f sep ((y ∷ ys) ++ x ∷ []) ≡ join_by f sep (y ∷ ys) ++ (sep ++ f x)

@@ -1,6 +1,5 @@
 -- A text cut at each index at which a byte is.
-use Rattle.std.specs.Prelude.{ℕ, ◌≢◌, List, ◌==◌}
-use Rattle.std.specs.List.{All, slice_split}
+use Rattle.std.specs.{List.{All, slice_split}, Prelude.{ℕ, ◌≢◌, List, ◌==◌}}
 
 -- no byte of the text is this one
 abbrev pub Lacks : ℕ → List ℕ → Type 0

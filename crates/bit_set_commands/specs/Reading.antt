@@ -1,21 +1,13 @@
 -- The command that a line spells.
 use Rattle.std.specs.Prelude.{ℕ, ◌-◌, Bool, ◌&&◌, ◌||◌, ◌==◌, nat_lt, nat_le, if◌then◌else◌, List, [], ◌∷◌, length, Option, None, Some, Result, Ok, Err}
-use Rattle.std.specs.Char.{is_ascii_digit, is_ascii_lowercase}
-use Rattle.std.specs.Int.{is_in_range}
-use Rattle.std.specs.List.{list_all}
-use Rattle.std.specs.Option.{option_and_then, option_map, option_zip}
-use Rattle.std.specs.Str.{all_ascii_digits}
-use Rattle.std.specs.Str.Parse.{digits_value}
-use Rattle.bit_set_commands.specs.declared.commands.Command.{Command}
+use Rattle.std.specs.{Char.{is_ascii_digit, is_ascii_lowercase}, Int.is_in_range, List.list_all, Str.all_ascii_digits}
+use Rattle.std.specs.{Option.{option_and_then, option_map, option_zip}, Str.Parse.digits_value}
+use Rattle.bit_set_commands.specs.{Words.words_of, declared.commands.Command.Command, declared.reading.BadLine.BadLine}
 use Rattle.bit_set_commands.specs.declared.commands.Command.TheVariants as command
-use Rattle.bit_set_commands.specs.declared.reading.BadLine.{BadLine}
-use Rattle.bit_set_commands.specs.declared.reading.BadLine.TheVariants.{BadCommand, BadNumber}
-use Rattle.bit_set_commands.specs.declared.verbs.SetWalk.{SetWalk}
-use Rattle.bit_set_commands.specs.declared.verbs.SetWalk.TheVariants.{One, Two}
+use Rattle.bit_set_commands.specs.{Spelling.numbers_of, declared.reading.BadLine.TheVariants.{BadCommand, BadNumber}}
+use Rattle.bit_set_commands.specs.{declared.verbs.SetWalk.SetWalk, declared.verbs.SetWalk.TheVariants.{One, Two}}
 use Rattle.bit_blocks.specs.Bounds.{greatest}
-use Rattle.bit_set_commands.specs.Spelling.{numbers_of}
 use Rattle.bit_set_commands.specs.Verbs.{usage_of, walk_of, Usage, Name, NameAndNumber, TwoNames, NameAndNumbers, NamesAroundNumber, WalkAndItsWords}
-use Rattle.bit_set_commands.specs.Words.{words_of}
 
 -- the place of the set that a word names: one letter from `a`, the first, to `p`
 abbrev pub name_of : List ℕ → Option ℕ

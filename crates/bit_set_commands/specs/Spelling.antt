@@ -1,11 +1,9 @@
 -- A line for each command.
-use Rattle.std.specs.Prelude.{ℕ, ◌+◌, ◌<◌, ◌≤◌, List, [], ◌∷◌, ◌++◌, codes, decimal}
-use Rattle.std.specs.List.{All, flat_map}
+use Rattle.std.specs.{List.{All, flat_map}, Prelude.{ℕ, ◌+◌, ◌<◌, ◌≤◌, List, [], ◌∷◌, ◌++◌, codes, decimal}}
 use Rattle.bit_set_commands.specs.declared.commands.Command.{Command}
 use Rattle.bit_set_commands.specs.declared.commands.Command.TheVariants.{Insert, Remove, Contains, Extend, Truncate, Empty, Reset, Reserve, ReserveExact, Shrink, Count, IsEmpty, Items, Copy, InPlace, Append, SplitOff, Walk, Subset, Superset, Disjoint, Equal, Compare, RestIter, RestWalk}
-use Rattle.bit_blocks.specs.declared.block.merge.Merge.{Merge}
+use Rattle.bit_blocks.specs.{Bounds.greatest, declared.block.merge.Merge.Merge}
 use Rattle.bit_blocks.specs.declared.block.merge.Merge.TheVariants.{Union, Intersection, Difference, Symmetric}
-use Rattle.bit_blocks.specs.Bounds.{greatest}
 
 -- what a command's line is made of: a word, or two for a rest, then the sets that it names, by their places, and
 -- its numbers

@@ -1,11 +1,8 @@
 -- The texts of replies.
-use Rattle.std.specs.Prelude.{ℕ, if◌then◌else◌, List, ◌++◌, codes, decimal}
-use Rattle.std.specs.List.{join_by}
-use Rattle.std.specs.declared.cmp.Ordering.{Ordering}
-use Rattle.std.specs.declared.cmp.Ordering.TheVariants.{Less, Equal, Greater}
-use Rattle.bit_set_commands.specs.declared.commands.Reply.{Reply}
+use Rattle.std.specs.{List.join_by, Prelude.{ℕ, if◌then◌else◌, List, ◌++◌, codes, decimal}}
+use Rattle.std.specs.{declared.cmp.Ordering.Ordering, declared.cmp.Ordering.TheVariants.{Less, Equal, Greater}}
+use Rattle.bit_set_commands.specs.{declared.commands.Reply.Reply, declared.reading.BadLine.BadLine}
 use Rattle.bit_set_commands.specs.declared.commands.Reply.TheVariants.{Truth, Done, Number, Items, Order, Rest, Element, Same}
-use Rattle.bit_set_commands.specs.declared.reading.BadLine.{BadLine}
 use Rattle.bit_set_commands.specs.declared.reading.BadLine.TheVariants.{BadCommand, BadNumber}
 
 -- the text of some numbers: in decimal, joined by a comma and a space, between braces

@@ -1,13 +1,9 @@
 -- The verbs of commands: what comes after each, and the command that it makes of that.
-use Rattle.std.specs.Prelude.{ℕ, List, [], ◌∷◌, codes, Option}
-use Rattle.std.specs.Map.{lookup}
-use Rattle.std.specs.Str.{bytes_eq}
+use Rattle.std.specs.{Map.lookup, Prelude.{ℕ, List, [], ◌∷◌, codes, Option}, Str.bytes_eq}
 use Rattle.bit_blocks.specs.declared.block.merge.Merge.TheVariants.{Union, Intersection, Difference, Symmetric}
-use Rattle.bit_set_commands.specs.declared.commands.Command.{Command}
+use Rattle.bit_set_commands.specs.{declared.commands.Command.Command, declared.verbs.SetWalk.SetWalk}
 use Rattle.bit_set_commands.specs.declared.commands.Command.TheVariants.{Insert, Remove, Contains, Extend, Truncate, Empty, Reset, Reserve, ReserveExact, Shrink, Count, IsEmpty, Items, Copy, InPlace, Append, SplitOff, Walk, Subset, Superset, Disjoint, Equal, Compare}
-use Rattle.bit_set_commands.specs.declared.verbs.SetWalk.{SetWalk}
-use Rattle.bit_set_commands.specs.declared.verbs.SetWalk.TheVariants.{One, Two}
-use Rattle.bit_set_commands.specs.declared.verbs.Verb.{Verb}
+use Rattle.bit_set_commands.specs.{declared.verbs.SetWalk.TheVariants.{One, Two}, declared.verbs.Verb.Verb}
 use Rattle.bit_set_commands.specs.declared.verbs.Verb.TheVariants as verb
 
 -- what comes after a verb, with the command that is made of it

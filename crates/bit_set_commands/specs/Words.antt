@@ -1,7 +1,5 @@
 -- The words of a line.
-use Rattle.std.specs.Prelude.{◌≡◌, ◌≢◌, ℕ, List, [], Option}
-use Rattle.std.specs.Borrow.{Bor}
-use Rattle.std.specs.List.{All, join_with_byte}
+use Rattle.std.specs.{Borrow.Bor, List.{All, join_with_byte}, Prelude.{◌≡◌, ◌≢◌, ℕ, List, [], Option}}
 use Rattle.std.specs.Option.{option_map_or}
 use Rattle.bit_set_commands.specs.Cuts.{Lacks, parts_at}
 

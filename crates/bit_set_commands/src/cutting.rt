@@ -1,9 +1,7 @@
 //! A text cut at a byte: an input into lines, a line into words.
 
 ghost use Rattle.std.specs.Prelude.{◌≡◌, ◌<◌, ◌∷◌, ◌++◌, [], IfNone, IfSome, MatchOption, length};
-ghost use Rattle.bit_set_commands.specs.Cuts.{Lacks};
-ghost use Rattle.bit_set_commands.specs.Lines.{lines_of};
-ghost use Rattle.bit_set_commands.specs.Words.{words_of, words_left};
+ghost use Rattle.bit_set_commands.specs.{Cuts.Lacks, Lines.lines_of, Words.{words_of, words_left}};
 
 /// What is before the first such byte and what is after it; `None` if there is none. One scan, up to that byte.
 #[inline]

@@ -1,12 +1,9 @@
 //! Consequences of the contracts' definitions, stated as proved facts.
 
 ghost use Rattle.std.specs.Prelude.{◌≡◌, ℕ, false, List, [], Contains, Ok, Err};
-ghost use Rattle.bit_set_commands.specs.declared.commands.Command.{Command};
-ghost use Rattle.bit_set_commands.specs.declared.reading.BadLine.TheVariants.{BadCommand};
-ghost use Rattle.bit_set_commands.specs.Lines.{lines_of, AreLines};
-ghost use Rattle.bit_set_commands.specs.Reading.{is_plain, reading};
-ghost use Rattle.bit_set_commands.specs.Spelling.{line_of, CanBeHad};
-ghost use Rattle.bit_set_commands.specs.Words.{words_of, AreWords};
+ghost use Rattle.bit_set_commands.specs.{Lines.{lines_of, AreLines}, declared.commands.Command.Command};
+ghost use Rattle.bit_set_commands.specs.{Reading.{is_plain, reading}, declared.reading.BadLine.TheVariants.BadCommand};
+ghost use Rattle.bit_set_commands.specs.{Spelling.{line_of, CanBeHad}, Words.{words_of, AreWords}};
 
 /// Every input is divided into lines in exactly one way; an empty input has none.
 pub fn lines_are_unique()

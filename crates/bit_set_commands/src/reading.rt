@@ -1,13 +1,10 @@
 //! A line read as a command.
 
 ghost use Rattle.std.specs.Prelude.{◌≡◌, refl, ℕ, ◌+◌, ◌-◌, ◌*◌, List, [], ◌∷◌, ◌++◌, Option, None, Err, IfOk, IsOkAnd, MatchResult, OnErr, slice_get};
-ghost use Rattle.std.specs.Char.{IsAsciiDigit};
-ghost use Rattle.std.specs.Option.{option_and_then};
-ghost use Rattle.bit_set_commands.specs.declared.commands.Command.TheVariants.{Extend};
+ghost use Rattle.std.specs.{Char.IsAsciiDigit, Option.option_and_then};
+ghost use Rattle.bit_set_commands.specs.{Spelling.numbers_of, declared.commands.Command.TheVariants.Extend};
 ghost use Rattle.bit_set_commands.specs.Reading.{all_numbers, command_of, fitting_number, followed, name_alone, name_of, number_alone, number_of, reading, rest_command, rest_of, within_range};
-ghost use Rattle.bit_set_commands.specs.Spelling.{numbers_of};
-ghost use Rattle.bit_set_commands.specs.Verbs.{usage, usage_of, NameAndNumbers};
-ghost use Rattle.bit_set_commands.specs.Words.{words_left, words_of};
+ghost use Rattle.bit_set_commands.specs.{Verbs.{usage, usage_of, NameAndNumbers}, Words.{words_left, words_of}};
 
 use crate::cutting::{first_word, split_once};
 use crate::verbs::{SetWalk, Verb, verb_of, walk_of};

@@ -1,9 +1,6 @@
 //! The first words of commands.
 
-ghost use Rattle.std.specs.Prelude.{◌≡◌, map};
-ghost use Rattle.std.specs.Map.{lookup};
-ghost use Rattle.std.specs.Option.{option_map};
-ghost use Rattle.std.specs.Str.{bytes_eq};
+ghost use Rattle.std.specs.{Map.lookup, Option.option_map, Prelude.{◌≡◌, map}, Str.bytes_eq};
 ghost use Rattle.bit_set_commands.specs.Verbs.{usage, usage_of, walk_of};
 
 use bit_blocks::block::merge::Merge;

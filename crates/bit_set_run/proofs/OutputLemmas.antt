@@ -1,15 +1,10 @@
 -- The output, a line at a time.
 use Rattle.std.proofs.Common.{◌≡◌, ℕ, suc, length, List, [], ◌∷◌, ◌++◌, map, Ok, Err, refl, ap, sym, ◌∙◌, append_assoc, append-nil}
-use Rattle.std.proofs.lemmas.List.{length-map}
-use Rattle.std.proofs.lemmas.List.Elements.{All-cons, All-nil}
+use Rattle.std.proofs.{lemmas.List.length-map, lemmas.List.Elements.{All-cons, All-nil}}
 use Rattle.std.specs.List.{All}
-use Rattle.bit_set_commands.specs.Cuts.{Lacks}
-use Rattle.bit_set_commands.specs.Lines.{text_of_lines, lines_of}
-use Rattle.bit_set_run.specs.Output.{line_text, line_texts_from, output, sets_after, Line}
-use Rattle.bit_set_commands.specs.Reading.{reading}
-use Rattle.bit_set_run.specs.Run.{no_sets, step, Sets}
-use Rattle.bit_set_commands.proofs.LineLemmas.{lines_of-all}
-use Rattle.bit_set_commands.proofs.TextLemmas.{text_of-lacks, text_of_bad-lacks}
+use Rattle.bit_set_commands.specs.{Cuts.Lacks, Lines.{text_of_lines, lines_of}, Reading.reading}
+use Rattle.bit_set_run.specs.{Output.{line_text, line_texts_from, output, sets_after, Line}, Run.{no_sets, step, Sets}}
+use Rattle.bit_set_commands.proofs.{LineLemmas.lines_of-all, TextLemmas.{text_of-lacks, text_of_bad-lacks}}
 
 line_text-lacks : (sets : Sets) (line : Line) → Lacks 10 (line_text sets line)
 line_text-lacks sets (Ok command) = text_of-lacks (step sets command).reply

@@ -4,10 +4,8 @@ use Rattle.std.proofs.lemmas.List.{set-set, set-get_or, map-set, get_or-map, get
 use Rattle.bit_set.specs.Bits.{Bits}
 use Rattle.bit_set_commands.specs.declared.commands.Command.{Command}
 use Rattle.bit_set_run.specs.Capacities.{bits_at, ChangesCapacities, KeepsCapacities, PairCapacities}
-use Rattle.bit_set_run.specs.Elements.{elements_of}
-use Rattle.bit_set_run.specs.Pairs.{command_of, pair_after, MayAsk}
+use Rattle.bit_set_run.specs.{Elements.elements_of, Pairs.{command_of, pair_after, MayAsk}, Run.{step, FailsAt}}
 use Rattle.bit_set_run.specs.declared.pairs.PairChange.{PairChange}
-use Rattle.bit_set_run.specs.Run.{step, FailsAt}
 
 -- what was read at a place is the set there
 pub read_at : (sets : List Bits) (place : ℕ) (set_read : Bits) → place < length sets → set_read ≡ get_or sets place set_read → set_read ≡ bits_at sets place

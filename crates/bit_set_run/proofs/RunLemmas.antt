@@ -1,12 +1,9 @@
 -- A run, one command on.
 use Rattle.std.proofs.Common.{◌≡◌, ℕ, ◌+◌, ◌<◌, ◌≤◌, ◌⊎◌, List, [], ◌∷◌, ◌++◌, length, get_or, take, append_assoc, refl, ap, sym, ◌∙◌}
-use Rattle.std.proofs.lemmas.List.{take_more}
-use Rattle.std.proofs.Common.{Result, Ok, Err, true, false, OnOk, OnErr}
+use Rattle.std.proofs.{Common.{Result, Ok, Err, true, false, OnOk, OnErr}, lemmas.List.take_more}
 use Rattle.std.specs.Result.{is_err}
-use Rattle.std.proofs.lemmas.Option.{slice_get_read}
-use Rattle.std.proofs.lemmas.Bool.{true≢false}
-use Rattle.bit_set_commands.specs.declared.commands.Command.{Command}
-use Rattle.bit_set_commands.specs.declared.commands.Reply.{Reply}
+use Rattle.std.proofs.{lemmas.Bool.true≢false, lemmas.Option.slice_get_read}
+use Rattle.bit_set_commands.specs.{declared.commands.Command.Command, declared.commands.Reply.Reply}
 use Rattle.bit_set_run.specs.Run.{Sets, step, run_of, FailsAt, StoppedAt}
 
 -- a run of commands and of one more

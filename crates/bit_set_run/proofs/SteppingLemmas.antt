@@ -1,24 +1,15 @@
 -- What single commands rest on: items up to the greatest number, walks, and an array of sets.
 use Rattle.std.proofs.Common.{◌≡◌, ◌==◌, if◌then◌else◌, cond, not, Bool, ℕ, ◌+◌, ◌<◌, ◌≤◌, true, false, eqb, List, [], ◌∷◌, ◌++◌, length, get_or, take, drop, map, set, Some, refl, sym, subst, ap, ◌∙◌, arith}
-use Rattle.std.proofs.Common.{Result, OnErr}
-use Rattle.std.proofs.lemmas.Bool.{ne_eqb}
-use Rattle.std.proofs.lemmas.Result.{on_err_weaker}
+use Rattle.std.proofs.{Common.{Result, OnErr, Iter}, lemmas.Bool.ne_eqb, lemmas.Result.on_err_weaker}
 use Rattle.std.proofs.lemmas.List.{append_assoc, take_more, take-append-drop, map-id, set-get_or, map-set, get_or-map}
-use Rattle.std.proofs.lemmas.List.Elements.{All-take}
-use Rattle.std.proofs.lemmas.Iterator.{YieldsList, YieldsList-from_slice}
+use Rattle.std.proofs.{lemmas.Iterator.{YieldsList, YieldsList-from_slice}, lemmas.List.Elements.All-take}
 use Rattle.std.proofs.lemmas.Iterator.Consumers.{YieldsList-from_copied, YieldsList-so_far, YieldsList-turn}
-use Rattle.std.proofs.Common.{Iter}
-use Rattle.std.specs.declared.iter.Copied.{Copied}
+use Rattle.std.specs.{Iterator.{HoldsAlong, YieldsThen}, List.{All, list_any}, declared.iter.Copied.Copied}
 use Rattle.std.proofs.iter.Yields.{copies, fronts}
-use Rattle.std.specs.Iterator.{HoldsAlong, YieldsThen}
-use Rattle.std.specs.List.{All, list_any}
-use Rattle.bit_set.specs.Bits.{Bits}
-use Rattle.bit_set.specs.Sets.{bound_of, elements, elements_from, has, put}
-use Rattle.bit_set_run.specs.Elements.{elements_of}
+use Rattle.bit_set.specs.{Bits.Bits, Bounds.greatest, Sets.{bound_of, elements, elements_from, has, put}}
+use Rattle.bit_set_run.specs.{Elements.elements_of, Run.{elements_before_greatest, step, reply_with, change_to}}
 use Rattle.bit_set_commands.specs.declared.commands.Command.TheVariants.{Insert}
 use Rattle.bit_set_commands.specs.declared.commands.Reply.TheVariants.{Truth, Element}
-use Rattle.bit_set.specs.Bounds.{greatest}
-use Rattle.bit_set_run.specs.Run.{elements_before_greatest, step, reply_with, change_to}
 
 -- a list of truth values is longer than each of its elements
 bound_from : (place : ℕ) (bs : List Bool) → bound_of (elements_from place bs) ≤ place + length bs

@@ -1,8 +1,7 @@
 -- What a command does to the capacities of sixteen sets over blocks of w bits. No public clause cites this.
 use Rattle.std.specs.Prelude.{◌≡◌, ℕ, ◌+◌, ◌<◌, ◌≤◌, ◌==◌, Bool, true, false, List, [], length, max, slice_index_or, slice_set}
 use Rattle.std.specs.List.{All}
-use Rattle.bit_set.specs.Bits.{Bits, blocks_for, capacity_of, whole_blocks}
-use Rattle.bit_set.specs.Bounds.{greatest}
+use Rattle.bit_set.specs.{Bits.{Bits, blocks_for, capacity_of, whole_blocks}, Bounds.greatest}
 use Rattle.bit_set_commands.specs.declared.commands.Command.{Command}
 use Rattle.bit_set_commands.specs.declared.commands.Command.TheVariants.{Insert, Remove, Extend, Truncate, Empty, Reset, Reserve, ReserveExact, Shrink, Copy, InPlace, Append, SplitOff}
 use Rattle.bit_set_run.specs.declared.pairs.PairChange.{PairChange}

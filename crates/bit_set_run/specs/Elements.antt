@@ -1,7 +1,6 @@
 -- What a table keeps in a set.
 use Rattle.std.specs.Prelude.{ℕ, List}
-use Rattle.bit_set.specs.Bits.{Bits}
-use Rattle.bit_set.specs.Sets.{elements}
+use Rattle.bit_set.specs.{Bits.Bits, Sets.elements}
 
 -- the numbers of a set, as the places at which its bit vector is true
 abbrev pub elements_of : Bits → List ℕ

@@ -1,9 +1,7 @@
 -- How a run over the lines of an input ends: what was read and what was written, at each outcome.
-use Rattle.std.specs.Prelude.{◌≡◌, ℕ, ◌+◌, List, Option, Result, Ok, Err}
-use Rattle.std.specs.Io.KnownBytes.{Appends}
-use Rattle.bit_set_run.specs.declared.streams.LinesFault.{LinesFault}
+use Rattle.std.specs.{Io.KnownBytes.Appends, Prelude.{◌≡◌, ℕ, ◌+◌, List, Option, Result, Ok, Err}}
+use Rattle.bit_set_run.specs.{Output.output, declared.streams.LinesFault.LinesFault}
 use Rattle.bit_set_run.specs.declared.streams.LinesFault.TheVariants.{Read, TooLarge, Memory, Write}
-use Rattle.bit_set_run.specs.Output.{output}
 use Rattle.bit_set_run.specs.Streams.{limit, GaveAll, GaveCount, GaveSome, GaveUntil, HoldsBeginning}
 
 -- the reader gave an input, to its end, and its output was written and nothing else

@@ -1,9 +1,8 @@
 -- The words that the program takes, and how it ends.
 use Rattle.std.specs.Prelude.{ℕ, Bool, if◌then◌else◌, List, [], ◌∷◌, codes, Option, None, Some, Result, Ok, Err, is_some}
 use Rattle.std.specs.Str.{bytes_eq}
-use Rattle.bit_set_run.specs.declared.starting.BlockType.{BlockType}
+use Rattle.bit_set_run.specs.{declared.starting.BlockType.BlockType, declared.streams.LinesFault.LinesFault}
 use Rattle.bit_set_run.specs.declared.starting.BlockType.TheVariants.{U8, U16, U32, U64, Usize, U128}
-use Rattle.bit_set_run.specs.declared.streams.LinesFault.{LinesFault}
 use Rattle.bit_set_run.specs.declared.streams.LinesFault.TheVariants.{Read, TooLarge, Memory, Write}
 
 -- the block type that a word names

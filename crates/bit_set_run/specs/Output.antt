@@ -1,11 +1,8 @@
 -- What the program writes for an input.
 use Prim.Native.String.{String}
 use Rattle.std.specs.Prelude.{◌≡◌, ℕ, codes, List, [], ◌∷◌, map, Result, Ok, Err}
-use Rattle.bit_set_commands.specs.declared.commands.Command.{Command}
-use Rattle.bit_set_commands.specs.declared.commands.Reply.{Reply}
-use Rattle.bit_set_commands.specs.declared.reading.BadLine.{BadLine}
-use Rattle.bit_set_commands.specs.Lines.{text_of_lines, lines_of}
-use Rattle.bit_set_commands.specs.Reading.{reading}
+use Rattle.bit_set_commands.specs.{Reading.reading, declared.commands.Command.Command, declared.commands.Reply.Reply}
+use Rattle.bit_set_commands.specs.{Lines.{text_of_lines, lines_of}, declared.reading.BadLine.BadLine}
 use Rattle.bit_set_run.specs.Run.{no_sets, run_of, step, Sets}
 use Rattle.bit_set_commands.specs.Texts.{text_of, text_of_bad}
 

@@ -1,12 +1,10 @@
 -- What a command does to sixteen sets of numbers, and what a run of commands does.
 use Rattle.std.specs.Prelude.{◌≡◌, ◌≢◌, ℕ, ◌<◌, ◌≤◌, ◌⊎◌, false, not, ◌==◌, if◌then◌else◌, List, [], ◌∷◌, ◌++◌, length, take, drop, replicate, slice_get, slice_index_or, slice_set, Some}
 use Rattle.std.specs.List.{list_any}
-use Rattle.bit_set_commands.specs.declared.commands.Command.{Command}
+use Rattle.bit_set_commands.specs.{declared.commands.Command.Command, declared.commands.Reply.Reply}
 use Rattle.bit_set_commands.specs.declared.commands.Command.TheVariants.{Insert, Remove, Contains, Extend, Truncate, Empty, Reset, Reserve, ReserveExact, Shrink, Count, IsEmpty, Items as ItemsOf, Copy, InPlace, Append, SplitOff, Walk, Subset, Superset, Disjoint, Equal, Compare, RestIter, RestWalk}
-use Rattle.bit_set_commands.specs.declared.commands.Reply.{Reply}
 use Rattle.bit_set_commands.specs.declared.commands.Reply.TheVariants.{Truth, Done, Number, Items, Order, Rest, Element, Same}
-use Rattle.bit_set.specs.Bounds.{greatest}
-use Rattle.bit_set.specs.Order.{order_of_sets, same_sets}
+use Rattle.bit_set.specs.{Bounds.greatest, Order.{order_of_sets, same_sets}}
 use Rattle.bit_set.specs.Sets.{bound_of, has, is_disjoint, is_subset, merge_of_sets, put, put_all, those_below, those_from, union, without}
 
 -- sixteen sets, by their places

@@ -1,7 +1,6 @@
 -- What reading an input to its end and writing an output do to a reader and a writer whose bytes are known.
-use Rattle.std.specs.Prelude.{◌≡◌, ◌≢◌, ℕ, ◌<◌, ◌≤◌, ◌⊎◌, List, [], ◌++◌, length, Option}
+use Rattle.std.specs.{Prelude.{◌≡◌, ◌≢◌, ℕ, ◌<◌, ◌≤◌, ◌⊎◌, List, [], ◌++◌, length, Option}, declared.io.Error.Error}
 use Rattle.std.specs.Io.KnownBytes.{Consumes, IsAtEnd, Appends}
-use Rattle.std.specs.declared.io.Error.{Error}
 
 -- the greatest number of bytes that an input may have
 abbrev pub limit : ℕ

@@ -1,10 +1,8 @@
 //! Consequences of the contracts' definitions, stated as proved facts.
 
 ghost use Rattle.std.specs.Prelude.{IfOk, OnOk, ◌≡◌, ℕ, List, [], ◌∷◌, codes, length, map, Err};
-ghost use Rattle.bit_set_commands.specs.declared.reading.BadLine.{BadLine};
-ghost use Rattle.bit_set_commands.specs.Lines.{lines_of};
+ghost use Rattle.bit_set_commands.specs.{Lines.lines_of, Reading.reading, declared.reading.BadLine.BadLine};
 ghost use Rattle.bit_set_run.specs.Output.{line_text, line_texts_from, output, sets_after, Gives, Line};
-ghost use Rattle.bit_set_commands.specs.Reading.{reading};
 ghost use Rattle.bit_set_run.specs.Run.{no_sets, run_of, Sets};
 
 use crate::{Command, Reply, RunFault, Table, run};

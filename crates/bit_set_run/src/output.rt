@@ -2,8 +2,7 @@
 
 ghost use Rattle.std.specs.Prelude.{◌≡◌, ◌≢◌, [], ◌∷◌, ◌++◌, IfOk, OnOk, OnErr};
 ghost use Rattle.bit_set_run.specs.Output.{line_text, output, sets_after};
-ghost use Rattle.bit_set_commands.specs.Reading.{reading};
-ghost use Rattle.bit_set_commands.specs.Texts.{text_of_bad};
+ghost use Rattle.bit_set_commands.specs.{Reading.reading, Texts.text_of_bad};
 
 use crate::Table;
 use crate::stepping::step;

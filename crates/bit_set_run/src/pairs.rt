@@ -2,9 +2,7 @@
 
 ghost use Rattle.std.specs.Prelude.{◌≡◌, map, IfOk, OnErr, OnOk};
 ghost use Rattle.bit_set_run.specs.Capacities.{ChangesCapacities, KeepsCapacities, PairCapacities};
-ghost use Rattle.bit_set_run.specs.Elements.{elements_of};
-ghost use Rattle.bit_set_run.specs.Pairs.{command_of, pair_after, MayAsk};
-ghost use Rattle.bit_set_run.specs.Run.{step, FailsAt};
+ghost use Rattle.bit_set_run.specs.{Elements.elements_of, Pairs.{command_of, pair_after, MayAsk}, Run.{step, FailsAt}};
 
 use crate::{Reply, SetName};
 use bit_set::bit_vec::Merge;

@@ -1,8 +1,7 @@
 // The whole program over any reader and writer: its words, and its status and text at the end. No line is read here.
 ghost use Rattle.std.specs.Prelude.{◌≡◌, ◌↔◌, IsTrue, false, map, string_bytes, is_some, Result};
-ghost use Rattle.bit_set_run.specs.Ended.{HasEnded};
+ghost use Rattle.bit_set_run.specs.{Ended.HasEnded, declared.streams.LinesFault.LinesFault};
 ghost use Rattle.bit_set_run.specs.Exits.{takes, text_at, status_at, type_of_words, type_of_word, usage};
-ghost use Rattle.bit_set_run.specs.declared.streams.LinesFault.{LinesFault};
 
 use crate::{LinesFault, run_lines};
 use std::alloc::Global;

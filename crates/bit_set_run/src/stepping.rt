@@ -2,11 +2,9 @@
 
 ghost use Rattle.std.specs.Prelude.{◌≡◌, ◌≢◌, ℕ, ◌+◌, ◌<◌, ◌≤◌, ◌==◌, ◌∷◌, false, not, map, List, length, drop, [], ◌++◌, IfOk, OnOk, OnErr, if◌then◌else◌};
 ghost use Rattle.std.specs.List.{list_any};
-ghost use Rattle.bit_set.specs.Sets.{bound_of, has, put, put_all};
+ghost use Rattle.bit_set.specs.{Bounds.greatest, Sets.{bound_of, has, put, put_all}};
 ghost use Rattle.bit_set_run.specs.Capacities.{ChangesCapacities, GrowsExactlyTo, GrowsPast, GrowsTo, KeepsCapacities, Shrinks};
-ghost use Rattle.bit_set_run.specs.Elements.{elements_of};
-ghost use Rattle.bit_set.specs.Bounds.{greatest};
-ghost use Rattle.bit_set_run.specs.Run.{step, elements_before_greatest, FailsAt};
+ghost use Rattle.bit_set_run.specs.{Elements.elements_of, Run.{step, elements_before_greatest, FailsAt}};
 ghost use Rattle.bit_set_commands.specs.declared.commands.Reply.TheVariants.{Truth, Done, Rest, Element};
 
 use crate::pairs::{PairChange, change_by_another};

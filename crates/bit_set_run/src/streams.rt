@@ -1,9 +1,7 @@
 // An input read to its end and an output written; no failed call is retried. The meaning of the bytes is elsewhere.
-ghost use Rattle.std.specs.Prelude.{◌≡◌, ◌≢◌, ℕ, ◌+◌, IfOk, IfErr, OnOk, OnErr, Err, Some};
-ghost use Rattle.std.specs.Io.KnownBytes.{Appends};
-ghost use Rattle.bit_set_run.specs.Exits.{text_at};
+ghost use Rattle.std.specs.{Io.KnownBytes.Appends, Prelude.{◌≡◌, ◌≢◌, ℕ, ◌+◌, IfOk, IfErr, OnOk, OnErr, Err, Some}};
+ghost use Rattle.bit_set_run.specs.{Exits.text_at, declared.streams.LinesFault.TheVariants.Memory};
 ghost use Rattle.bit_set_run.specs.Streams.{limit, GaveAll, GaveCount, GaveSome, GaveUntil, HoldsBeginning};
-ghost use Rattle.bit_set_run.specs.declared.streams.LinesFault.TheVariants.{Memory};
 
 use std::alloc::{AllocError, AllocFailed, Global};
 use std::error::Error;

@@ -1,7 +1,6 @@
 // The table of sixteen sets. What commands do to it is in `stepping`.
 ghost use Rattle.std.specs.Prelude.{◌≡◌};
-ghost use Rattle.bit_set_run.specs.Elements.{elements_of};
-ghost use Rattle.bit_set_run.specs.Run.{no_sets, set_of};
+ghost use Rattle.bit_set_run.specs.{Elements.elements_of, Run.{no_sets, set_of}};
 
 use crate::SetName;
 use crate::two_sets::set_of;

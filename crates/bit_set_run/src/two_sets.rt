@@ -2,8 +2,7 @@
 
 ghost use Rattle.std.specs.Prelude.{◌≡◌, ◌≢◌, [], drop, map, IfOk, OnErr};
 ghost use Rattle.bit_set.specs.Sets.{merge_of_sets};
-ghost use Rattle.bit_set_run.specs.Elements.{elements_of};
-ghost use Rattle.bit_set_run.specs.Run.{rest_of, set_of};
+ghost use Rattle.bit_set_run.specs.{Elements.elements_of, Run.{rest_of, set_of}};
 ghost use Rattle.bit_set_commands.specs.declared.commands.Reply.TheVariants.{Items};
 
 use crate::walking::{items, rest};

@@ -3,9 +3,8 @@ use Rattle.std.proofs.Common.{◌≡◌, ℕ, suc, zero, List, [], ◌∷◌, ma
 use Rattle.bit_set.specs.Sets.{elements, has}
 use Rattle.dataflow.specs.Analyses.{AreLive, AreReachingDefinitions, IsLive, ReachesEnd, assigned_in, defined_before}
 use Rattle.dataflow.specs.Analyses.{defined_here, defined_in, overwritten_in, predecessors_of, successors_of, used_here}
-use Rattle.dataflow.specs.Analyses.{used_in, used_later}
+use Rattle.dataflow.specs.{Analyses.{used_in, used_later}, declared.definitions.DefinitionBlock.DefinitionBlock}
 use Rattle.dataflow.specs.Flow.{AreReached, Flow, IsLeastSolution, Reaches, block_at, made, onward, set_at}
-use Rattle.dataflow.specs.declared.definitions.DefinitionBlock.{DefinitionBlock}
 use Rattle.dataflow.specs.declared.variables.VariableBlock.{VariableBlock}
 
 -- the parts of a block

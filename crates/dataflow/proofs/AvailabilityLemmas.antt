@@ -10,8 +10,7 @@ use Rattle.dataflow.specs.Availability.{after_kill, after_path, at_entry, comput
 use Rattle.dataflow.specs.Availability.{predecessors_of, starts_with_none}
 use Rattle.dataflow.specs.Flow.{AreReached, Flow, Reaches, block_at, made, onward, set_at}
 use Rattle.dataflow.specs.declared.expressions.ExpressionBlock.{ExpressionBlock}
-use Rattle.dataflow.proofs.AnalysisLemmas.{block_of}
-use Rattle.dataflow.proofs.TakeLemmas.{and_true, of_and}
+use Rattle.dataflow.proofs.{AnalysisLemmas.block_of, TakeLemmas.{and_true, of_and}}
 
 -- the sets below one are complements, and the others are as before
 pub record IsComplementedBelow (count i : ℕ) (old new : List (List ℕ)) : Type 0 where

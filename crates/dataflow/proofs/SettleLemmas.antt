@@ -2,8 +2,7 @@
 use Rattle.std.proofs.Common.{◌≡◌, ◌≢◌, ℕ, ◌+◌, ◌-◌, ◌^◌, ◌<◌, ◌≤◌, Bool, true, false, cond, suc, zero, eqb, ◌⊎◌, inl, inr, List, [], ◌∷◌, ◌++◌, length, map, refl, sym, ap, ◌∙◌, ◌↔◌, arith}
 use Rattle.std.proofs.lemmas.Bool.{true≢false, cases_eq, eq-eqb, eqb-true, ne_eqb, or_cases, or_left, or_right, Decides.nat_tests}
 use Rattle.std.proofs.lemmas.List.{get_or_past, length-map}
-use Rattle.bit_set.specs.Members.{HasNone, Updates, UpdatesRange}
-use Rattle.bit_set.specs.Sets.{has}
+use Rattle.bit_set.specs.{Members.{HasNone, Updates, UpdatesRange}, Sets.has}
 use Rattle.dataflow.specs.Flow.{Enters, Flow, HasAllDue, Reaches, block_at, made, onward, set_at}
 use Rattle.dataflow.specs.Worklist.{AreOnTheWay, PutsBack, TakesIn, place_of}
 use Rattle.dataflow.proofs.TakeLemmas.{in_push, same_lists}

@@ -1,8 +1,7 @@
 -- What the analyses of a compiler find, each in its own words.
 use Rattle.std.specs.Prelude.{◌≡◌, ℕ, ◌↔◌, ◌⊎◌, false, IsTrue, List, [], map, slice_index_or}
 use Rattle.bit_set.specs.Sets.{elements, has}
-use Rattle.dataflow.specs.Flow.{AreWithin, set_at}
-use Rattle.dataflow.specs.declared.variables.VariableBlock.{VariableBlock}
+use Rattle.dataflow.specs.{Flow.{AreWithin, set_at}, declared.variables.VariableBlock.VariableBlock}
 use Rattle.dataflow.specs.declared.definitions.DefinitionBlock.{DefinitionBlock}
 
 -- ---- live variables

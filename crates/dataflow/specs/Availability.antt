@@ -2,8 +2,7 @@
 use Rattle.std.specs.Prelude.{◌≡◌, ◌≢◌, ℕ, ◌<◌, ◌↔◌, ◌⊎◌, Bool, not, ◌&&◌, ◌||◌, ◌==◌, false, if◌then◌else◌, IsTrue, List, [], length, map, nat_le, nat_lt, slice_index_or}
 use Rattle.std.specs.List.{list_any}
 use Rattle.bit_set.specs.Sets.{difference, elements, has}
-use Rattle.dataflow.specs.Flow.{AreWithin, Flow, set_at}
-use Rattle.dataflow.specs.declared.expressions.ExpressionBlock.{ExpressionBlock}
+use Rattle.dataflow.specs.{Flow.{AreWithin, Flow, set_at}, declared.expressions.ExpressionBlock.ExpressionBlock}
 use Rattle.dataflow.specs.declared.expressions.MissingBlock.{MissingBlock}
 
 -- the predecessors of block b, and none where b is no block

@@ -1,7 +1,6 @@
 -- Values that flow from block to block, and the sets of those that reach each.
 use Rattle.std.specs.Prelude.{◌≡◌, ℕ, ◌↔◌, ◌⊎◌, false, IsTrue, List, [], map, slice_index_or}
-use Rattle.bit_set.specs.Bits.{Bits}
-use Rattle.bit_set.specs.Sets.{elements, has}
+use Rattle.bit_set.specs.{Bits.Bits, Sets.{elements, has}}
 
 -- What an analysis knows of a block: from which blocks values flow into it, which values it generates, and which of
 -- those that flow in it kills.

@@ -1,8 +1,7 @@
 // Reaching definitions: values that flow on from each definition until one overwrites it.
 ghost use Rattle.std.specs.Prelude.{◌≡◌, ℕ, ◌↔◌, IfOk, IsOk, IsTrue, length};
 ghost use Rattle.bit_set.specs.Sets.{has};
-ghost use Rattle.dataflow.specs.Analyses.{AreReachingDefinitions, ReachesEnd};
-ghost use Rattle.dataflow.specs.Flow.{lists_of, set_at};
+ghost use Rattle.dataflow.specs.{Analyses.{AreReachingDefinitions, ReachesEnd}, Flow.{lists_of, set_at}};
 
 use crate::{Block, solve};
 use bit_set::{BitBlock, BitSet};

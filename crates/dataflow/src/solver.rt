@@ -1,6 +1,5 @@
 // The least solution, by a list of the blocks that wait.
-ghost use Rattle.std.specs.Prelude.{◌≡◌, ◌<◌, ◌^◌, ℕ, IfOk, IsOk, OnOk, length, map, max, true, false};
-ghost use Rattle.std.specs.List.{fold};
+ghost use Rattle.std.specs.{List.fold, Prelude.{◌≡◌, ◌<◌, ◌^◌, ℕ, IfOk, IsOk, OnOk, length, map, max, true, false}};
 ghost use Rattle.bit_set.specs.Sets.{elements};
 ghost use Rattle.dataflow.specs.Flow.{AreReached, HasAllDue, IsLeastSolution, lists_of, set_at};
 ghost use Rattle.dataflow.specs.Worklist.{AreDependents, AreOnTheWay, TakesIn, Transfers, rows_of};

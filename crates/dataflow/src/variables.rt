@@ -1,8 +1,7 @@
 // Live variables: values that flow back from each use to the assignments before it.
 ghost use Rattle.std.specs.Prelude.{◌≡◌, ℕ, ◌↔◌, IfOk, IsOk, IsTrue, length};
 ghost use Rattle.bit_set.specs.Sets.{has};
-ghost use Rattle.dataflow.specs.Analyses.{AreLive, IsLive};
-ghost use Rattle.dataflow.specs.Flow.{lists_of, set_at};
+ghost use Rattle.dataflow.specs.{Analyses.{AreLive, IsLive}, Flow.{lists_of, set_at}};
 
 use crate::{Block, solve};
 use bit_set::{BitBlock, BitSet};

@@ -1,9 +1,7 @@
 // The blocks that wait, by places: a set of them, and in which order they are visited.
 ghost use Rattle.std.specs.Prelude.{◌≡◌, ◌<◌, ◌≤◌, ◌↔◌, ℕ, ◌*◌, ◌++◌, IfNone, IfOk, IfSome, IsOk, IsTrue, length, map, nat_lt};
 ghost use Rattle.std.specs.List.{list_any};
-ghost use Rattle.bit_set.specs.Members.{HasNone};
-ghost use Rattle.bit_set.specs.Choices.{IsFirstOf};
-ghost use Rattle.bit_set.specs.Sets.{elements, has, those_from};
+ghost use Rattle.bit_set.specs.{Choices.IsFirstOf, Members.HasNone, Sets.{elements, has, those_from}};
 ghost use Rattle.dataflow.specs.Worklist.{PutsBack, flowing_back, place_of};
 
 use crate::Block;

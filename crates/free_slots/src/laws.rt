@@ -1,8 +1,7 @@
 //! What whole runs of calls on slots amount to, stated as the contract of a function that does nothing.
 ghost use Rattle.std.specs.Prelude.{ℕ, ◌+◌, ◌<◌, ◌≤◌, ◌↔◌, ◌++◌, ◌∷◌, Bool, IsTrue, List, None, Some};
 ghost use Rattle.free_slots.specs.Runs.{Event, IsHeld, IsLowestUnheld, IsUnheldRun, Run, times_given, times_taken};
-ghost use Rattle.free_slots.specs.Runs.Event.{GiveBack, Take, TakeRun};
-ghost use Rattle.free_slots.specs.Slots.{SlotTable, all_free, is_taken};
+ghost use Rattle.free_slots.specs.{Runs.Event.{GiveBack, Take, TakeRun}, Slots.{SlotTable, all_free, is_taken}};
 
 use bit_set::laws::{members_of_merged_sets, members_of_sets, numbers_of_ranges};
 

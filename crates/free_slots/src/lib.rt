@@ -3,8 +3,7 @@
 
 ghost use Rattle.std.specs.Prelude.{◌≡◌, ◌≢◌, ◌≤◌, ◌<◌, ◌↔◌, false, length, IfOk, IfSome, IsOk, IsTrue, MatchOption, None, [], ◌+◌, ℕ};
 ghost use Rattle.bit_set.specs.Sets.{IsAscending, has, put, those_from, without};
-ghost use Rattle.free_slots.specs.Runs.{Happens};
-ghost use Rattle.free_slots.specs.Runs.Event.{GiveBack, Take, TakeRun};
+ghost use Rattle.free_slots.specs.{Runs.Happens, Runs.Event.{GiveBack, Take, TakeRun}};
 ghost use Rattle.free_slots.specs.Slots.{IsFreeRun, IsLowestFree, IsLowestRun, all_free, is_taken, without_run};
 
 pub mod laws;

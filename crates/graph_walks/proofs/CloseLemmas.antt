@@ -1,11 +1,9 @@
 -- Closing a graph by one node after another.
 use Rattle.std.proofs.Common.{◌≡◌, ℕ, ◌+◌, ◌<◌, ◌≤◌, Bool, true, false, ◌||◌, eqb, max, ◌⊎◌, inl, inr, List, [], ◌∷◌, length, map, get_or, suc, All, refl, sym, ap, ◌∙◌, ◌↔◌, arith}
 use Rattle.std.proofs.lemmas.Bool.{true≢false, cases_eq, cases_lt, eq-eqb, or_cases, or_left, or_right}
-use Rattle.std.proofs.lemmas.List.{get_or_default, get_or_past, length-map}
-use Rattle.std.proofs.Math.ListN.{get_or-map}
+use Rattle.std.proofs.{Math.ListN.get_or-map, lemmas.List.{get_or_default, get_or_past, length-map}}
 use Rattle.std.proofs.lemmas.List.Elements.{All-get_or, All-weaker}
-use Rattle.bit_set.specs.Bits.{Bits}
-use Rattle.bit_set.specs.Sets.{elements, has, union}
+use Rattle.bit_set.specs.{Bits.Bits, Sets.{elements, has, union}}
 use Rattle.graph_walks.specs.Closed.{IsClosed, IsClosureOf, IsOnTheWay, Joins, row}
 use Rattle.graph_walks.specs.Paths.{successors, Edge, Path, here, onward, LeadsTo, rows_of}
 

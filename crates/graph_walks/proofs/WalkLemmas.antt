@@ -2,14 +2,11 @@
 use Rattle.std.proofs.Common.{◌≡◌, ℕ, ◌+◌, ◌-◌, ◌*◌, ◌<◌, ◌≤◌, Bool, not, true, false, ◌||◌, cond, eqb, ltb, ◌⊎◌, inl, inr}
 use Rattle.std.proofs.Common.{List, [], ◌∷◌, ◌++◌, length, Option, Some, None, refl, sym, ap, ◌∙◌, ◌↔◌, arith}
 use Rattle.std.proofs.lemmas.Bool.{eqb-true, eq-eqb, ne_eqb, not-false, not-true, true≢false, cases_eq, or_cases, or_left, or_parts, or_right}
-use Rattle.std.proofs.lemmas.List.{append-nil, get_or_past, length_push}
-use Rattle.std.proofs.lemmas.List.Folds.{list_any-append}
+use Rattle.std.proofs.{lemmas.List.{append-nil, get_or_past, length_push}, lemmas.List.Folds.list_any-append}
 use Rattle.std.proofs.lemmas.List.Sums.{sum_by-cons, sum_by_push}
-use Rattle.std.specs.Iterator.{Yields, YieldsThen, Drains, YieldsFirst}
-use Rattle.std.specs.List.{sum_by}
+use Rattle.std.specs.{Iterator.{Yields, YieldsThen, Drains, YieldsFirst}, List.sum_by}
 use Rattle.bit_set.specs.Sets.{has, put, IsAscending}
-use Rattle.graph_walks.specs.Explored.{TakesOn}
-use Rattle.graph_walks.specs.Paths.{successors, Edge, Path, here, onward}
+use Rattle.graph_walks.specs.{Explored.TakesOn, Paths.{successors, Edge, Path, here, onward}}
 
 or_around : (a b c : Bool) → (a || (b || c)) ≡ ((b || (a || false)) || c)
 or_around a b c = grind arith

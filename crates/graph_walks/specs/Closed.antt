@@ -1,7 +1,6 @@
 -- What becomes of a graph that is closed.
 use Rattle.std.specs.Prelude.{◌≡◌, ℕ, ◌<◌, ◌≤◌, ◌↔◌, ◌⊎◌, max, IsTrue, false, List, [], length, slice_index_or}
-use Rattle.bit_set.specs.Bits.{Bits}
-use Rattle.bit_set.specs.Sets.{elements, has}
+use Rattle.bit_set.specs.{Bits.Bits, Sets.{elements, has}}
 use Rattle.bit_matrix.specs.Matrices.{Matrix}
 use Rattle.graph_walks.specs.Paths.{Edge, LeadsTo, Path}
 

@@ -1,6 +1,5 @@
 -- What a walk over a graph does.
-use Rattle.std.specs.Prelude.{◌≡◌, ℕ, ◌+◌, ◌≤◌, ◌||◌, ◌⊎◌, IsTrue, List, length}
-use Rattle.std.specs.List.{sum_by}
+use Rattle.std.specs.{List.sum_by, Prelude.{◌≡◌, ℕ, ◌+◌, ◌≤◌, ◌||◌, ◌⊎◌, IsTrue, List, length}}
 use Rattle.bit_set.specs.Sets.{has}
 
 -- Some items went into a set, and each that was new onto a stack, once.

@@ -1,7 +1,6 @@
 -- Graphs, and the paths through them. A graph is a list of rows: row u has the nodes to which an edge leads from u.
 use Rattle.std.specs.Prelude.{◌≡◌, ℕ, zero, suc, IsTrue, List, [], ◌∷◌, map, slice_index_or}
-use Rattle.bit_set.specs.Bits.{Bits}
-use Rattle.bit_set.specs.Sets.{elements, has}
+use Rattle.bit_set.specs.{Bits.Bits, Sets.{elements, has}}
 
 -- the row of a node; a node past the last row has none, and so no edge
 abbrev pub successors : List (List ℕ) → ℕ → List ℕ

@@ -1,7 +1,6 @@
 // The transitive closure of a graph of sets.
 ghost use Rattle.std.specs.Prelude.{◌≡◌, ◌<◌, ◌≤◌, ◌⊎◌, ℕ, All, IsOk, OnErr, OnOk, length, map};
-ghost use Rattle.graph_walks.specs.Closed.{IsClosed, IsClosureOf, IsOnTheWay, Joins, row};
-ghost use Rattle.graph_walks.specs.Paths.{rows_of};
+ghost use Rattle.graph_walks.specs.{Closed.{IsClosed, IsClosureOf, IsOnTheWay, Joins, row}, Paths.rows_of};
 
 use bit_set::laws::members_of_merged_sets;
 use bit_set::{BitBlock, BitSet};

@@ -1,11 +1,8 @@
 // The nodes to which paths lead.
 ghost use Rattle.std.specs.Prelude.{◌≡◌, ◌≢◌, ◌+◌, ◌<◌, ◌^◌, ◌↔◌, ℕ, IfErr, IfOk, IsErrOf, IsOk, IsTrue, List, OnOk, Some, [], length, not};
-ghost use Rattle.std.specs.Iterator.{Drains, IsFinite, YieldsThen};
-ghost use Rattle.std.specs.List.{sum_by};
-ghost use Rattle.bit_set.specs.Faults.{IsInsertFault};
-ghost use Rattle.bit_set.specs.Sets.{elements, has, put};
-ghost use Rattle.graph_walks.specs.Explored.{TakesOn};
-ghost use Rattle.graph_walks.specs.Paths.{Path, successors};
+ghost use Rattle.std.specs.{Iterator.{Drains, IsFinite, YieldsThen}, List.sum_by};
+ghost use Rattle.bit_set.specs.{Faults.IsInsertFault, Sets.{elements, has, put}};
+ghost use Rattle.graph_walks.specs.{Explored.TakesOn, Paths.{Path, successors}};
 
 use crate::Graph;
 use bit_set::bit_vec::Steps;

@@ -1,8 +1,6 @@
 -- Sets of numbers that lead on, each number to what is in its row.
 use Rattle.std.specs.Prelude.{◌≡◌, ℕ, ◌+◌, ◌-◌, ◌*◌, ◌<◌, ◌^◌, false, IsTrue, List, length, slice_index_or}
-use Rattle.bit_set.specs.Bits.{Bits}
-use Rattle.bit_set.specs.Members.{IsSubset}
-use Rattle.bit_set.specs.Sets.{elements, has}
+use Rattle.bit_set.specs.{Bits.Bits, Members.IsSubset, Sets.{elements, has}}
 
 -- the set has, with each member, what is in its row
 abbrev pub IsClosed : List Bits → List ℕ → Type 0

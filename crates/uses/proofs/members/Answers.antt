@@ -1,5 +1,4 @@
-use Rattle.std.proofs.lemmas.Iterator.Adapters.{fact_from_collect}
-use Rattle.std.proofs.lemmas.Result.{IfOk-weaker}
+use Rattle.std.proofs.{lemmas.Iterator.Adapters.fact_from_collect, lemmas.Result.IfOk-weaker}
 use Rattle.bit_set.proofs.CallerLemmas.{gives_left}
 use Rattle.uses.proofs.members.Goals as goal
 

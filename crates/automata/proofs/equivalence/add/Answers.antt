@@ -1,5 +1,4 @@
-use Rattle.std.proofs.Common.{refl, sym, ◌∙◌}
-use Rattle.std.proofs.lemmas.Bool.{not-false, not-true}
+use Rattle.std.proofs.{Common.{refl, sym, ◌∙◌}, lemmas.Bool.{not-false, not-true}}
 use Rattle.automata.proofs.equivalence.add.Goals as goal
 
 pub returns-in_err-push-clause-met : goal.returns-in_err-push-clause-met

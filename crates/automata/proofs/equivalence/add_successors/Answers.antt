@@ -1,6 +1,5 @@
 use Rattle.std.proofs.Common.{◌≡◌, ◌<◌, ◌∙◌, length, sym, arith, add-zero, refl}
-use Rattle.automata.specs.Pairs.{symbols_of}
-use Rattle.automata.specs.Searching.{pair_at}
+use Rattle.automata.specs.{Pairs.symbols_of, Searching.pair_at}
 use Rattle.automata.proofs.PairLemmas.{as_many, pair_on, read, same_pair, explored_pair}
 use Rattle.automata.proofs.equivalence.add_successors.Goals as goal
 

@@ -1,6 +1,5 @@
 use Rattle.std.proofs.Common.{◌≡◌, ◌+◌, ◌*◌, ◌<◌, ◌≤◌, ℕ, length}
-use Rattle.automata.specs.Pairs.{symbols_of}
-use Rattle.automata.specs.Searching.{Explores, HasPlaces, pair_at}
+use Rattle.automata.specs.{Pairs.symbols_of, Searching.{Explores, HasPlaces, pair_at}}
 use Rattle.automata.proofs.equivalence.add_successors.Given as goal
 
 abbrev pub invariant-loop-symbol : goal.invariant-loop-symbol

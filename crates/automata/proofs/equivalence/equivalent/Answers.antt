@@ -1,6 +1,5 @@
 use Rattle.std.proofs.Common.{◌≡◌, ◌+◌, ◌*◌, ◌<◌, ◌∙◌, ap, below_more, length, arith}
-use Rattle.automata.specs.Pairs.{symbols_of}
-use Rattle.automata.specs.Searching.{Spells}
+use Rattle.automata.specs.{Pairs.symbols_of, Searching.Spells}
 use Rattle.automata.proofs.PairLemmas.{agree_at, all_the_same, differ_at, explored_none}
 use Rattle.automata.proofs.equivalence.equivalent.Goals as goal
 

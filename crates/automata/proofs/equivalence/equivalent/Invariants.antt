@@ -1,6 +1,5 @@
 use Rattle.std.proofs.Common.{◌≡◌, ◌-◌, ◌*◌, ◌<◌, ◌≤◌, ◌^◌, ℕ, length}
-use Rattle.automata.specs.Pairs.{does_accept, symbols_of}
-use Rattle.automata.specs.Searching.{Explores, HasPlaces, pair_at}
+use Rattle.automata.specs.{Pairs.{does_accept, symbols_of}, Searching.{Explores, HasPlaces, pair_at}}
 use Rattle.automata.proofs.equivalence.equivalent.Given as goal
 
 abbrev pub invariant-loop-done : goal.invariant-loop-done

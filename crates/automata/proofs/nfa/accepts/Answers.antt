@@ -1,5 +1,4 @@
-use Rattle.std.proofs.Common.{◌≡◌, [], sym, ap, ◌∙◌, arith}
-use Rattle.std.proofs.lemmas.Bool.{eqb-true, true≢false}
+use Rattle.std.proofs.{Common.{◌≡◌, [], sym, ap, ◌∙◌, arith}, lemmas.Bool.{eqb-true, true≢false}}
 use Rattle.std.proofs.lemmas.List.{nil_from_length}
 use Rattle.bit_set.specs.Sets.{elements}
 use Rattle.automata.specs.Runs.{Automaton, IsEnd, rows_of_sets}

@@ -1,7 +1,6 @@
 use Rattle.std.proofs.Common.{take}
 use Rattle.bit_set.specs.Sets.{elements}
-use Rattle.automata.specs.Bounds.{AreWithin}
-use Rattle.automata.specs.Runs.{IsEnd, rows_of_sets}
+use Rattle.automata.specs.{Bounds.AreWithin, Runs.{IsEnd, rows_of_sets}}
 use Rattle.automata.proofs.nfa.follow.Given as goal
 
 abbrev pub invariant-loop-symbol : goal.invariant-loop-symbol

@@ -1,5 +1,4 @@
-use Rattle.std.proofs.Common.{◌≡◌, ◌<◌, [], length, ap, ◌∙◌, arith, below_more}
-use Rattle.std.proofs.lemmas.List.{get_or_default}
+use Rattle.std.proofs.{Common.{◌≡◌, ◌<◌, [], length, ap, ◌∙◌, arith, below_more}, lemmas.List.get_or_default}
 use Rattle.bit_set.specs.Bits.{Bits}
 use Rattle.automata.specs.Bounds.{set_at}
 use Rattle.automata.proofs.nfa.longest_of_row.Goals as goal

@@ -1,6 +1,5 @@
-use Rattle.std.proofs.Common.{◌≡◌, ◌<◌, [], length, map, get_or, arith, below_more}
+use Rattle.std.proofs.{Common.{◌≡◌, ◌<◌, [], length, map, get_or, arith, below_more}, lemmas.Grind.common_steps}
 use Rattle.bit_set.specs.Bits.{Bits}
-use Rattle.std.proofs.lemmas.Grind.{common_steps}
 use Rattle.std.specs.Global.{Vec}
 use Rattle.automata.specs.Bounds.{IsRowWithin}
 use Rattle.automata.proofs.StepLemmas.{mapped}

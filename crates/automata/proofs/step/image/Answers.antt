@@ -1,10 +1,6 @@
-use Rattle.std.proofs.Common.{◌≡◌, ◌≤◌, [], length, ap, sym, ◌∙◌, arith}
-use Rattle.std.proofs.lemmas.Bool.{ltb-false}
-use Rattle.bit_set.specs.Bits.{Bits}
-use Rattle.bit_set.specs.Sets.{elements}
-use Rattle.bit_set.specs.Members.{IsUnion}
-use Rattle.automata.specs.Bounds.{set_at}
-use Rattle.automata.specs.Runs.{row_of_sets, successors}
+use Rattle.std.proofs.{Common.{◌≡◌, ◌≤◌, [], length, ap, sym, ◌∙◌, arith}, lemmas.Bool.ltb-false}
+use Rattle.bit_set.specs.{Bits.Bits, Members.IsUnion, Sets.elements}
+use Rattle.automata.specs.{Bounds.set_at, Runs.{row_of_sets, successors}}
 use Rattle.automata.proofs.StepLemmas.{gathers_all, gathers_none, gathers_on, nowhere, row_at, row_past}
 use Rattle.automata.proofs.step.image.Goals as goal
 

@@ -1,9 +1,7 @@
-use Rattle.std.proofs.Common.{◌≡◌, ◌≤◌, [], length, map, get_or, sym}
-use Rattle.std.proofs.lemmas.Bool.{ltb-false}
+use Rattle.std.proofs.{Common.{◌≡◌, ◌≤◌, [], length, map, get_or, sym}, lemmas.Bool.ltb-false}
 use Rattle.std.specs.Global.{Vec}
 use Rattle.bit_set.specs.Bits.{Bits}
-use Rattle.automata.specs.Bounds.{IsRowWithin}
-use Rattle.automata.specs.Runs.{row_of, row_of_sets, rows_of_sets}
+use Rattle.automata.specs.{Bounds.IsRowWithin, Runs.{row_of, row_of_sets, rows_of_sets}}
 use Rattle.automata.proofs.StepLemmas.{image_past, mapped, mapped_past}
 use Rattle.automata.proofs.step.step.Goals as goal
 

@@ -1,11 +1,7 @@
-use Rattle.std.proofs.Common.{◌≡◌, ◌≤◌, true, false, length, refl, sym, arith, ◌∙◌}
-use Rattle.bit_set.specs.Members.{IsDisjoint, Updates}
-use Rattle.bit_set.specs.Sets.{elements, is_disjoint}
-use Rattle.automata.specs.Building.{Meets}
-use Rattle.automata.specs.Numbering.{set_of}
-use Rattle.automata.proofs.StepLemmas.{not_disjoint, shared}
-use Rattle.automata.proofs.BuildLemmas.{accept_on, accept_past}
-use Rattle.std.proofs.lemmas.Bool.{true≢false}
+use Rattle.std.proofs.{Common.{◌≡◌, ◌≤◌, true, false, length, refl, sym, arith, ◌∙◌}, lemmas.Bool.true≢false}
+use Rattle.bit_set.specs.{Members.{IsDisjoint, Updates}, Sets.{elements, is_disjoint}}
+use Rattle.automata.specs.{Building.Meets, Numbering.set_of}
+use Rattle.automata.proofs.{BuildLemmas.{accept_on, accept_past}, StepLemmas.{not_disjoint, shared}}
 use Rattle.automata.proofs.subsets.accepting_numbers.Goals as goal
 use Rattle.automata.proofs.subsets.accepting_numbers.Goals.{then-not-is_disjoint, else-not-is_disjoint}
 

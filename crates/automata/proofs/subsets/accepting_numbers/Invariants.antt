@@ -1,7 +1,6 @@
 use Rattle.std.proofs.Common.{◌≡◌, ℕ, ◌<◌, ◌≤◌, ◌↔◌, IsTrue, length}
 use Rattle.bit_set.specs.Sets.{elements, has}
-use Rattle.automata.specs.Building.{Meets}
-use Rattle.automata.specs.Numbering.{set_of}
+use Rattle.automata.specs.{Building.Meets, Numbering.set_of}
 use Rattle.automata.proofs.subsets.accepting_numbers.Given as goal
 
 abbrev pub invariant-loop-number : goal.invariant-loop-number

@@ -1,10 +1,7 @@
-use Rattle.std.proofs.Common.{◌≡◌, ◌<◌, Err, length, refl, ap, arith}
-use Rattle.std.proofs.lemmas.List.{length_push}
+use Rattle.std.proofs.{Common.{◌≡◌, ◌<◌, Err, length, refl, ap, arith}, lemmas.List.length_push}
 use Rattle.std.proofs.lemmas.Result.{err_from_is_err_and}
 use Rattle.bit_set.specs.Sets.{elements}
-use Rattle.automata.specs.Runs.{IsImage, row_of}
-use Rattle.automata.specs.Numbering.{set_of}
-use Rattle.automata.specs.declared.fault.DfaError.TheVariants.{TooMany}
+use Rattle.automata.specs.{Numbering.set_of, Runs.{IsImage, row_of}, declared.fault.DfaError.TheVariants.TooMany}
 use Rattle.automata.proofs.BuildLemmas.{as_many, more_than, reached_on, row_on}
 use Rattle.automata.proofs.subsets.add_row.Goals as goal
 

@@ -1,8 +1,6 @@
-use Rattle.std.proofs.Common.{◌≡◌, [], Err, ap}
-use Rattle.std.proofs.lemmas.Result.{err_from_is_err_and}
+use Rattle.std.proofs.{Common.{◌≡◌, [], Err, ap}, lemmas.Result.err_from_is_err_and}
 use Rattle.automata.specs.declared.fault.DfaError.TheVariants.{TooMany}
-use Rattle.automata.proofs.BuildLemmas.{is_subset_table, is_table, same_words}
-use Rattle.automata.proofs.CountLemmas.{no_more}
+use Rattle.automata.proofs.{BuildLemmas.{is_subset_table, is_table, same_words}, CountLemmas.no_more}
 use Rattle.automata.proofs.subsets.determinize.Goals as goal
 
 pub invariant_of-result : goal.invariant_of-result

@@ -1,5 +1,4 @@
-use Rattle.std.proofs.Common.{◌≡◌, Err, length, ap, arith}
-use Rattle.std.proofs.lemmas.Result.{err_from_is_err_and}
+use Rattle.std.proofs.{Common.{◌≡◌, Err, length, ap, arith}, lemmas.Result.err_from_is_err_and}
 use Rattle.bit_set.specs.Sets.{elements}
 use Rattle.automata.specs.declared.fault.DfaError.TheVariants.{TooMany}
 use Rattle.automata.proofs.BuildLemmas.{builds_first, more_than_none}

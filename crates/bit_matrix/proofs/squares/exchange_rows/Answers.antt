@@ -1,5 +1,4 @@
-use Rattle.std.proofs.Common.{map, ◌∙◌, arith}
-use Rattle.std.proofs.lemmas.List.{length-map}
+use Rattle.std.proofs.{Common.{map, ◌∙◌, arith}, lemmas.List.length-map}
 use Rattle.bit_matrix.proofs.SquareLemmas.{exchanged_more}
 use Rattle.bit_matrix.proofs.squares.exchange_rows.Goals as goal
 

@@ -1,5 +1,4 @@
-use Rattle.std.proofs.Common.{◌*◌, map, ap, ◌∙◌, arith}
-use Rattle.std.proofs.lemmas.{List.{length-map}}
+use Rattle.std.proofs.{Common.{◌*◌, map, ap, ◌∙◌, arith}, lemmas.{List.length-map}}
 use Rattle.bit_matrix.proofs.SquareLemmas.{loaded_more}
 use Rattle.bit_matrix.proofs.squares.load_strip.Goals as goal
 

@@ -1,5 +1,4 @@
-use Rattle.std.proofs.Common.{◌≡◌, ◌*◌, ◌/◌, ◌%◌, ap, subst, ◌∙◌, arith}
-use Rattle.std.proofs.Math.Nat.{mod_self}
+use Rattle.std.proofs.{Common.{◌≡◌, ◌*◌, ◌/◌, ◌%◌, ap, subst, ◌∙◌, arith}, Math.Nat.mod_self}
 use Rattle.bit_matrix.proofs.TransposeLemmas.{greater, single, some_squares, whole_squares, whole_strip, whole_twice}
 use Rattle.bit_matrix.proofs.squares.transpose_strip.Goals as goal
 

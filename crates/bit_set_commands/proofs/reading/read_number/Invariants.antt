@@ -1,6 +1,5 @@
 use Rattle.std.proofs.Common.{◌≡◌, true, take}
-use Rattle.std.specs.Str.{all_ascii_digits}
-use Rattle.std.specs.Str.Parse.{digits_value}
+use Rattle.std.specs.{Str.all_ascii_digits, Str.Parse.digits_value}
 use Rattle.bit_set_commands.specs.Reading.{fitting_number}
 use Rattle.bit_set_commands.proofs.reading.read_number.Given as goal
 

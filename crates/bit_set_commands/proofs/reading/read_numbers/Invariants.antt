@@ -1,7 +1,6 @@
 use Rattle.std.proofs.Common.{◌≡◌, ◌+◌, length}
 use Rattle.std.specs.Option.{option_map_or}
-use Rattle.bit_set_commands.specs.Reading.{all_numbers, within_range}
-use Rattle.bit_set_commands.specs.Words.{words_left}
+use Rattle.bit_set_commands.specs.{Reading.{all_numbers, within_range}, Words.words_left}
 use Rattle.bit_set_commands.proofs.ReadingLemmas.{told}
 use Rattle.bit_set_commands.proofs.reading.read_numbers.Given as goal
 

@@ -1,5 +1,4 @@
-use Rattle.bit_set_commands.proofs.CutLemmas.{parts_at-first, parts_at-one}
-use Rattle.bit_set_commands.proofs.ReadingLemmas.{rest_of-alone}
+use Rattle.bit_set_commands.proofs.{CutLemmas.{parts_at-first, parts_at-one}, ReadingLemmas.rest_of-alone}
 use Rattle.bit_set_commands.proofs.reading.read_rest.Goals as goal
 
 pub returns-in_default : goal.returns-in_default

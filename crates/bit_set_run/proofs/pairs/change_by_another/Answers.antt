@@ -1,9 +1,5 @@
-use Rattle.std.proofs.Common.{◌≡◌, ◌<◌, length, map, set, sym, ◌∙◌, arith}
-use Rattle.std.proofs.lemmas.Result.{err_from_is_err_and}
-use Rattle.bit_set_run.specs.Capacities.{KeepsCapacities}
-use Rattle.bit_set_run.specs.Elements.{elements_of}
-use Rattle.bit_set_run.specs.Pairs.{command_of}
-use Rattle.bit_set_run.specs.Run.{FailsAt}
+use Rattle.std.proofs.{Common.{◌≡◌, ◌<◌, length, map, set, sym, ◌∙◌, arith}, lemmas.Result.err_from_is_err_and}
+use Rattle.bit_set_run.specs.{Capacities.KeepsCapacities, Elements.elements_of, Pairs.command_of, Run.FailsAt}
 use Rattle.bit_set_run.proofs.PairLemmas.{HasDone, done_with, put_back_beside, put_back_both, read_at, read_beside, refused_with}
 use Rattle.bit_set_run.proofs.pairs.change_by_another.Given.{Over}
 use Rattle.bit_set_run.proofs.pairs.change_by_another.Goals.{In_err-changed, In_ok-changed}

@@ -1,9 +1,7 @@
 use Rattle.std.proofs.Common.{ap, ◌<◌, ◌==◌, ◌≢◌, ◌∙◌, if◌then◌else◌, [], map}
 use Rattle.std.proofs.lemmas.Result.{on_ok_weaker, on_err_weaker}
-use Rattle.bit_set.specs.Sets.{bound_of, elements, has, put, put_all, those_below, without}
-use Rattle.bit_set_run.specs.Elements.{elements_of}
-use Rattle.bit_set.specs.Bounds.{greatest}
-use Rattle.bit_set_run.specs.Run.{elements_before_greatest}
+use Rattle.bit_set.specs.{Bounds.greatest, Sets.{bound_of, elements, has, put, put_all, those_below, without}}
+use Rattle.bit_set_run.specs.{Elements.elements_of, Run.elements_before_greatest}
 use Rattle.bit_set_run.proofs.SteppingLemmas.{change_is, no_change_is, refused_at, set_at, sets-insert}
 use Rattle.bit_set_run.proofs.stepping.step.Goals as goal
 

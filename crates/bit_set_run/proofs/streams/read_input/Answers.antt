@@ -1,8 +1,6 @@
-use Rattle.std.proofs.Common.{◌++◌, ◌+◌, drop, take, arith}
-use Rattle.std.proofs.lemmas.List.{length-take}
+use Rattle.std.proofs.{Common.{◌++◌, ◌+◌, drop, take, arith}, lemmas.List.length-take}
 use Rattle.bit_set_run.proofs.StreamLemmas.{HasRead, HasRead-more, GaveCount-past, GaveSome-read}
-use Rattle.bit_set_run.proofs.streams.read_input.Given.{Over}
-use Rattle.bit_set_run.proofs.streams.read_input.Goals.{After-extend_from_slice}
+use Rattle.bit_set_run.proofs.{streams.read_input.Given.Over, streams.read_input.Goals.After-extend_from_slice}
 use Rattle.bit_set_run.proofs.streams.read_input.Goals as goal
 
 pub returns-then-len-count-gt-LIMIT-clause-too_large : goal.returns-then-len-count-gt-LIMIT-clause-too_large

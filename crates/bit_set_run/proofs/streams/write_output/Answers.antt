@@ -1,5 +1,4 @@
-use Rattle.std.proofs.Common.{rules, inl, inr}
-use Rattle.std.proofs.lemmas.List.{take_rest}
+use Rattle.std.proofs.{Common.{rules, inl, inr}, lemmas.List.take_rest}
 use Rattle.bit_set_run.proofs.StreamLemmas.{HasSent-more}
 use Rattle.bit_set_run.proofs.streams.write_output.Goals as goal
 

@@ -2,8 +2,7 @@ use Rattle.std.proofs.Common.{◌≡◌, ℕ, ◌+◌, ◌∷◌, ◌++◌, ◌<
 use Rattle.std.proofs.lemmas.List.{length-map, length-set, map-set, take_more}
 use Rattle.smallvec.specs.SmallVec.{SmallVec}
 use Rattle.dataflow.specs.Worklist.{row_at, rows_of}
-use Rattle.dataflow.proofs.DependentLemmas.{adds_on, adds_past, other_rows, row_written}
-use Rattle.dataflow.proofs.TakeLemmas.{mapped}
+use Rattle.dataflow.proofs.{DependentLemmas.{adds_on, adds_past, other_rows, row_written}, TakeLemmas.mapped}
 use Rattle.dataflow.proofs.dependents.add_dependent.Goals as goal
 use Rattle.dataflow.proofs.dependents.add_dependent.Goals.{then-source-rows+in_ok-push, else-source-rows}
 

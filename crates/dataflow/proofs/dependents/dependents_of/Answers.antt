@@ -2,8 +2,7 @@ use Rattle.std.proofs.Common.{◌≡◌, ℕ, [], ap, arith, drop, length, map, 
 use Rattle.std.proofs.lemmas.List.{length-map}
 use Rattle.smallvec.specs.SmallVec.{SmallVec}
 use Rattle.dataflow.specs.{Flow.{block_at}, Worklist.{rows_of}}
-use Rattle.dataflow.proofs.DependentLemmas.{more_depend, none_depend}
-use Rattle.dataflow.proofs.SettleLemmas.{with_source}
+use Rattle.dataflow.proofs.{DependentLemmas.{more_depend, none_depend}, SettleLemmas.with_source}
 use Rattle.dataflow.proofs.TakeLemmas.{mapped, written_back}
 use Rattle.dataflow.proofs.dependents.dependents_of.Goals as goal
 

@@ -1,9 +1,7 @@
 use Rattle.std.proofs.Common.{◌≡◌, ◌++◌, List, drop, length, map, take, ap, arith, refl, sym, true≢false}
 use Rattle.std.proofs.lemmas.List.{length-map}
-use Rattle.bit_set.specs.Bits.{Bits}
-use Rattle.bit_set.specs.Sets.{elements}
-use Rattle.dataflow.specs.Availability.{AreComplements, flow_of, missing_flow}
-use Rattle.dataflow.specs.Flow.{AreReached, Flow, lists_of}
+use Rattle.bit_set.specs.{Bits.Bits, Sets.elements}
+use Rattle.dataflow.specs.{Availability.{AreComplements, flow_of, missing_flow}, Flow.{AreReached, Flow, lists_of}}
 use Rattle.dataflow.proofs.AvailabilityLemmas.{AreFound, are_available, are_found, each_available}
 use Rattle.dataflow.proofs.TakeLemmas.{written_back}
 use Rattle.dataflow.proofs.expressions.available_expressions.Goals as goal

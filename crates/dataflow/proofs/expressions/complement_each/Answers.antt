@@ -1,10 +1,8 @@
 use Rattle.std.proofs.Common.{◌≡◌, ◌<◌, ◌&&◌, nat_lt, not, [], get_or, length, set, ap, ◌∙◌, arith}
 use Rattle.std.proofs.lemmas.List.{get_or_default}
 use Rattle.bit_set.specs.Sets.{elements, has}
-use Rattle.dataflow.specs.Availability.{IsComplement}
-use Rattle.dataflow.specs.Flow.{lists_of, set_at}
-use Rattle.dataflow.proofs.AvailabilityLemmas.{complements_on}
-use Rattle.dataflow.proofs.TakeLemmas.{as_long, others_stay, read_set, written}
+use Rattle.dataflow.specs.{Availability.IsComplement, Flow.{lists_of, set_at}}
+use Rattle.dataflow.proofs.{AvailabilityLemmas.complements_on, TakeLemmas.{as_long, others_stay, read_set, written}}
 use Rattle.dataflow.proofs.expressions.complement_each.Goals as goal
 
 pub loop-index-preserved : goal.loop-index-preserved

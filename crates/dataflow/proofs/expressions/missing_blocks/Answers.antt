@@ -1,8 +1,6 @@
-use Rattle.std.proofs.Common.{◌≡◌, List, ℕ, ap, length, map, if◌then◌else◌, ◌∙◌}
-use Rattle.std.proofs.lemmas.List.{take_all}
+use Rattle.std.proofs.{Common.{◌≡◌, List, ℕ, ap, length, map, if◌then◌else◌, ◌∙◌}, lemmas.List.take_all}
 use Rattle.bit_set.specs.Sets.{difference, elements}
-use Rattle.dataflow.specs.Availability.{flow_of, missing_flow, starts_with_none}
-use Rattle.dataflow.specs.Flow.{Flow}
+use Rattle.dataflow.specs.{Availability.{flow_of, missing_flow, starts_with_none}, Flow.Flow}
 use Rattle.dataflow.proofs.TakeLemmas.{push_mapped}
 use Rattle.dataflow.proofs.expressions.missing_blocks.Goals.{then-none+in_ok-missing, else-none+in_ok-missing-2}
 use Rattle.dataflow.proofs.expressions.missing_blocks.Goals as goal

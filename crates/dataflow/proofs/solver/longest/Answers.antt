@@ -1,5 +1,4 @@
-use Rattle.std.proofs.Common.{ap, ap₂, length, max, sym, ◌∙◌}
-use Rattle.std.proofs.lemmas.List.{Sums.fold_more, take_all}
+use Rattle.std.proofs.{Common.{ap, ap₂, length, max, sym, ◌∙◌}, lemmas.List.{Sums.fold_more, take_all}}
 use Rattle.std.specs.List.{fold}
 use Rattle.dataflow.proofs.solver.longest.Goals as goal
 

@@ -1,14 +1,11 @@
 use Rattle.std.proofs.Common.{◌≡◌, inl, inr, ℕ, Bool, true, false, ◌+◌, ◌*◌, ◌^◌, ◌<◌, [], map, length, refl, sym, ap, ◌∙◌, arith, true≢false}
 use Rattle.std.proofs.lemmas.List.{length-map}
-use Rattle.bit_set.specs.Bits.{Bits}
-use Rattle.bit_set.specs.Sets.{elements, has}
-use Rattle.dataflow.specs.Flow.{block_at, lists_of}
-use Rattle.dataflow.specs.Worklist.{TakesIn, place_of, row_at, rows_of}
+use Rattle.bit_set.specs.{Bits.Bits, Sets.{elements, has}}
+use Rattle.dataflow.specs.{Flow.{block_at, lists_of}, Worklist.{TakesIn, place_of, row_at, rows_of}}
 use Rattle.smallvec.specs.SmallVec.{SmallVec}
 use Rattle.dataflow.proofs.SettleLemmas.{all_wait, few_after, lacking, nearer, none_waits, on_the_way, one_less, visited_grown, visited_same, waited}
-use Rattle.dataflow.proofs.TakeLemmas.{mapped}
+use Rattle.dataflow.proofs.{TakeLemmas.mapped, solver.settle.Goals.{then-branch, else-branch}}
 use Rattle.dataflow.proofs.solver.settle.Goals as goal
-use Rattle.dataflow.proofs.solver.settle.Goals.{then-branch, else-branch}
 
 -- a block that there is has a place among those that wait
 place_inside : (count : ℕ) (from_last : Bool) (b : ℕ) → b < count → place_of count from_last b < count

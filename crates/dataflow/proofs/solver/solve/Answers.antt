@@ -1,8 +1,6 @@
 use Rattle.std.proofs.Common.{◌≡◌, ◌++◌, map, drop, length, take, arith}
 use Rattle.dataflow.specs.Flow.{lists_of}
-use Rattle.dataflow.proofs.FlowLemmas.{are_reached, is_least}
-use Rattle.dataflow.proofs.SettleLemmas.{first_way}
-use Rattle.dataflow.proofs.TakeLemmas.{written_back}
+use Rattle.dataflow.proofs.{FlowLemmas.{are_reached, is_least}, SettleLemmas.first_way, TakeLemmas.written_back}
 use Rattle.dataflow.proofs.solver.solve.Goals as goal
 
 pub settle-requires-clause-sets : goal.settle-requires-clause-sets

@@ -1,11 +1,8 @@
-use Rattle.std.proofs.Common.{◌≡◌, [], set, ap, ◌∙◌}
-use Rattle.std.proofs.lemmas.List.{get_or_default}
+use Rattle.std.proofs.{Common.{◌≡◌, [], set, ap, ◌∙◌}, lemmas.List.get_or_default}
 use Rattle.bit_set.specs.Sets.{elements}
-use Rattle.dataflow.specs.Flow.{lists_of, set_at}
-use Rattle.dataflow.specs.Worklist.{Transfers}
+use Rattle.dataflow.specs.{Flow.{lists_of, set_at}, Worklist.Transfers}
 use Rattle.dataflow.proofs.TakeLemmas.{as_many_back, others_back, others_stay, put_back, read_set, same_back, takes_transfer, written}
-use Rattle.dataflow.proofs.solver.take_in.Given.{Over}
-use Rattle.dataflow.proofs.solver.take_in.Goals.{After-drop-sets-2}
+use Rattle.dataflow.proofs.{solver.take_in.Given.Over, solver.take_in.Goals.After-drop-sets-2}
 use Rattle.dataflow.proofs.solver.take_in.Goals as goal
 
 -- the set that was taken out

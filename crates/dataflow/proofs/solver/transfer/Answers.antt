@@ -1,8 +1,6 @@
 use Rattle.std.proofs.Common.{◌≡◌, ◌+◌, ◌<◌, ◌≤◌, ◌++◌, ◌∷◌, [], get_or, length, sym, take, arith}
-use Rattle.std.proofs.lemmas.Bool.{ltb-false}
-use Rattle.std.proofs.lemmas.List.{take_more}
-use Rattle.bit_set.specs.Members.{IsUnionWithDifference}
-use Rattle.bit_set.specs.Sets.{elements}
+use Rattle.std.proofs.{lemmas.Bool.ltb-false, lemmas.List.take_more}
+use Rattle.bit_set.specs.{Members.IsUnionWithDifference, Sets.elements}
 use Rattle.dataflow.specs.Flow.{lists_of, set_at}
 use Rattle.dataflow.proofs.TakeLemmas.{grew_on, mapped_past, read_set, same_on, transfers_on, transfers_past}
 use Rattle.dataflow.proofs.solver.transfer.Goals as goal

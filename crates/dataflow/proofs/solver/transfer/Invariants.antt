@@ -1,7 +1,6 @@
 use Rattle.std.proofs.Common.{◌≡◌, ◌<◌, true, false, length, take}
 use Rattle.bit_set.specs.Sets.{elements}
-use Rattle.dataflow.specs.Flow.{lists_of}
-use Rattle.dataflow.specs.Worklist.{Transfers}
+use Rattle.dataflow.specs.{Flow.lists_of, Worklist.Transfers}
 use Rattle.dataflow.proofs.solver.transfer.Given as goal
 
 -- what the sources so far have is in

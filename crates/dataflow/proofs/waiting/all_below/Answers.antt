@@ -1,5 +1,4 @@
-use Rattle.bit_set.specs.Members.{UpdatesRange}
-use Rattle.bit_set.specs.Sets.{elements}
+use Rattle.bit_set.specs.{Members.UpdatesRange, Sets.elements}
 use Rattle.std.proofs.Common.{true}
 use Rattle.dataflow.proofs.SettleLemmas.{all_below_in}
 use Rattle.dataflow.proofs.waiting.all_below.Goals as goal

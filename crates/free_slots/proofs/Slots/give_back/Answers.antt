@@ -1,11 +1,8 @@
 use Rattle.std.proofs.Common.{◌<◌, length, sym, ap, subst, arith}
 use Rattle.bit_set.specs.Sets.{elements}
-use Rattle.free_slots.specs.Runs.{Happens}
-use Rattle.free_slots.specs.Runs.Event.{GiveBack}
-use Rattle.free_slots.specs.Slots.{HasNoneBut, SlotTable}
+use Rattle.free_slots.specs.{Runs.Happens, Runs.Event.GiveBack, Slots.{HasNoneBut, SlotTable}}
 use Rattle.free_slots.proofs.SlotLemmas.{given_back, none_but_given, none_but_less, put_again, table_of}
-use Rattle.free_slots.proofs.Slots.give_back.Given.{Over}
-use Rattle.free_slots.proofs.Slots.give_back.Goals.{After-unwrap}
+use Rattle.free_slots.proofs.{Slots.give_back.Given.Over, Slots.give_back.Goals.After-unwrap}
 use Rattle.free_slots.proofs.Slots.give_back.Goals as goal
 
 happens : (g : Over) (c : After-unwrap g) → Happens c.args.self.now (GiveBack c.args.slot c.unwrap.result) (table_of c.insert.new.self.values)

@@ -1,5 +1,4 @@
-use Rattle.std.proofs.Common.{arith}
-use Rattle.std.proofs.lemmas.Bool.{not-true}
+use Rattle.std.proofs.{Common.arith, lemmas.Bool.not-true}
 use Rattle.bit_set.specs.Sets.{elements, has}
 use Rattle.free_slots.proofs.SlotLemmas.{lowest_run, no_run_across, no_run_past, table_of}
 use Rattle.free_slots.proofs.Slots.lowest_run.Goals as goal

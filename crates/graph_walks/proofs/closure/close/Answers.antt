@@ -1,11 +1,7 @@
-use Rattle.std.proofs.Common.{◌≡◌, ℕ, ◌<◌, ◌≤◌, [], length, get_or, ap, sym, ◌∙◌, arith}
-use Rattle.std.proofs.lemmas.Bool.{true≢false}
-use Rattle.std.proofs.lemmas.List.Elements.{All-get_or}
-use Rattle.std.proofs.lemmas.List.{length-map}
-use Rattle.bit_set.specs.Bits.{Bits}
-use Rattle.bit_set.specs.Sets.{elements}
-use Rattle.graph_walks.specs.Closed.{row}
-use Rattle.graph_walks.specs.Paths.{rows_of}
+use Rattle.std.proofs.{Common.{◌≡◌, ℕ, ◌<◌, ◌≤◌, [], length, get_or, ap, sym, ◌∙◌, arith}, lemmas.Bool.true≢false}
+use Rattle.std.proofs.{lemmas.List.length-map, lemmas.List.Elements.All-get_or}
+use Rattle.bit_set.specs.{Bits.Bits, Sets.elements}
+use Rattle.graph_walks.specs.{Closed.row, Paths.rows_of}
 use Rattle.graph_walks.proofs.CloseLemmas.{adds_all, closes_none, closes_on, is_closed, is_closure, long_on, no_row_is_full}
 use Rattle.graph_walks.proofs.CloseLemmas.{none_on_the_way, on_kept, on_the_way, on_within, passes, read_row, spacious_first}
 use Rattle.graph_walks.proofs.CloseLemmas.{spacious_on, same_capacities, without_length}

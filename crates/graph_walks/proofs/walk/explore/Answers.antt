@@ -1,10 +1,7 @@
 use Rattle.std.proofs.Common.{◌≡◌, ◌+◌, ◌-◌, ◌*◌, ◌^◌, ◌<◌, ◌++◌, ◌∷◌, [], true, length, refl, ap, sym, ◌∙◌, add-zero, arith}
 use Rattle.std.proofs.lemmas.Result.{err_from_is_err_and}
-use Rattle.bit_set.specs.Bounds.{greatest}
-use Rattle.bit_set.specs.Sets.{elements, has}
-use Rattle.graph_walks.specs.Explored.{TakesOn}
-use Rattle.graph_walks.specs.Paths.{successors}
-use Rattle.graph_walks.specs.RowLaws.{none_left}
+use Rattle.bit_set.specs.{Bounds.greatest, Sets.{elements, has}}
+use Rattle.graph_walks.specs.{Explored.TakesOn, Paths.successors, RowLaws.none_left}
 use Rattle.graph_walks.proofs.WalkLemmas.{Counts, counts_on, edge_of_node, explored, explores_first, explores_on, given_all, given_at_last, nearer_end, no_row, nothing_taken}
 use Rattle.graph_walks.proofs.walk.explore.Goals as goal
 use Rattle.graph_walks.proofs.walk.explore.Goals.{in-Some-successors+in_ok-take_on, in_default-successors}

@@ -1,9 +1,6 @@
-use Rattle.std.proofs.Common.{◌≡◌, ◌<◌, Err, true, false, eqb, ap, refl, arith}
-use Rattle.std.proofs.lemmas.Bool.{eq-eqb, or_left}
+use Rattle.std.proofs.{Common.{◌≡◌, ◌<◌, Err, true, false, eqb, ap, refl, arith}, lemmas.Bool.{eq-eqb, or_left}}
 use Rattle.std.proofs.lemmas.Result.{err_from_is_err_and}
-use Rattle.bit_set.specs.Bounds.{greatest}
-use Rattle.bit_set.specs.Sets.{elements, has}
-use Rattle.bit_set.specs.declared.faults.SetError.TheVariants.{Element}
+use Rattle.bit_set.specs.{Bounds.greatest, Sets.{elements, has}, declared.faults.SetError.TheVariants.Element}
 use Rattle.graph_walks.specs.Paths.{here}
 use Rattle.graph_walks.proofs.walk.reachable_counted.Goals as goal
 

@@ -1,8 +1,6 @@
 use Rattle.std.proofs.Common.{◌≡◌, ◌<◌, Err, true, ap, refl, sym, true≢false, ◌∙◌, arith}
 use Rattle.std.proofs.lemmas.Result.{err_from_is_err_and}
-use Rattle.bit_set.specs.Bounds.{greatest}
-use Rattle.bit_set.specs.Sets.{elements, has}
-use Rattle.bit_set.specs.declared.faults.SetError.TheVariants.{Element}
+use Rattle.bit_set.specs.{Bounds.greatest, Sets.{elements, has}, declared.faults.SetError.TheVariants.Element}
 use Rattle.graph_walks.proofs.walk.reachable_from_any_counted.Goals as goal
 
 pub returns-clause-no_element : goal.returns-clause-no_element

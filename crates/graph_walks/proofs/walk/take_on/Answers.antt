@@ -1,5 +1,4 @@
-use Rattle.std.proofs.Common.{◌≡◌, true, false, arith}
-use Rattle.std.proofs.lemmas.List.{length_push}
+use Rattle.std.proofs.{Common.{◌≡◌, true, false, arith}, lemmas.List.length_push}
 use Rattle.bit_set.specs.Sets.{elements, has, put}
 use Rattle.graph_walks.proofs.WalkLemmas.{is_absent, is_present, put_present, taken_again, taken_new}
 use Rattle.graph_walks.proofs.walk.take_on.Goals as goal

@@ -1,6 +1,5 @@
-use Rattle.std.proofs.Common.{nat_lt, rules}
+use Rattle.std.proofs.{Common.{nat_lt, rules}, lemmas.Iterator.Search.all_from_yields_List}
 use borrow.Author.Tests.{tests}
-use Rattle.std.proofs.lemmas.Iterator.Search.{all_from_yields_List}
 use Rattle.bit_set.proofs.CallerLemmas.{gives_left}
 use Rattle.uses.proofs.chains.all_below.Goals as goal
 

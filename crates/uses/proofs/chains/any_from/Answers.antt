@@ -1,6 +1,5 @@
-use Rattle.std.proofs.Common.{nat_le, rules}
+use Rattle.std.proofs.{Common.{nat_le, rules}, lemmas.Iterator.Search.any_from_yields_List}
 use borrow.Author.Tests.{tests}
-use Rattle.std.proofs.lemmas.Iterator.Search.{any_from_yields_List}
 use Rattle.bit_set.proofs.CallerLemmas.{gives_left}
 use Rattle.uses.proofs.chains.any_from.Goals as goal
 

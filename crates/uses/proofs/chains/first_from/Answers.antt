@@ -1,8 +1,6 @@
 use Rattle.std.proofs.Common.{nat_le, rules}
 use borrow.Author.Tests.{tests}
-use Rattle.bit_set.proofs.CallerLemmas.{gives_left}
-use Rattle.bit_set.proofs.SetLemmas.{IsAscending-elements}
-use Rattle.bit_set.proofs.WalkCalls.{least_from_find}
+use Rattle.bit_set.proofs.{CallerLemmas.gives_left, SetLemmas.IsAscending-elements, WalkCalls.least_from_find}
 use Rattle.uses.proofs.chains.first_from.Goals as goal
 
 pub returns : goal.returns

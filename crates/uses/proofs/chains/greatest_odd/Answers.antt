@@ -1,8 +1,6 @@
-use Rattle.std.proofs.Common.{◌%◌, ◌==◌, rules}
+use Rattle.std.proofs.{Common.{◌%◌, ◌==◌, rules}, lemmas.Iterator.Consumers.{YieldsList-at, YieldsList-from_filter}}
 use borrow.Author.Tests.{tests}
-use Rattle.std.proofs.lemmas.Iterator.Consumers.{YieldsList-at, YieldsList-from_filter}
-use Rattle.bit_set.proofs.CallerLemmas.{gives_left}
-use Rattle.bit_set.proofs.WalkCalls.{greatest_from_max}
+use Rattle.bit_set.proofs.{CallerLemmas.gives_left, WalkCalls.greatest_from_max}
 use Rattle.uses.proofs.chains.greatest_odd.Goals as goal
 
 pub returns : goal.returns

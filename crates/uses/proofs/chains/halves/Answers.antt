@@ -1,6 +1,5 @@
-use Rattle.std.proofs.Common.{◌/◌, rules}
+use Rattle.std.proofs.{Common.{◌/◌, rules}, lemmas.Iterator.{YieldsList-from_map, Consumers.YieldsList-at}}
 use borrow.Author.Tests.{tests}
-use Rattle.std.proofs.lemmas.Iterator.{YieldsList-from_map, Consumers.YieldsList-at}
 use Rattle.bit_set.proofs.CallerLemmas.{gives_left, set_of_chain}
 use Rattle.uses.proofs.chains.halves.Goals as goal
 

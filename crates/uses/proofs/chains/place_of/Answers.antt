@@ -1,6 +1,5 @@
-use Rattle.std.proofs.Common.{◌==◌, rules}
+use Rattle.std.proofs.{Common.{◌==◌, rules}, lemmas.Iterator.Search.position_from_yields_List}
 use borrow.Author.Tests.{tests}
-use Rattle.std.proofs.lemmas.Iterator.Search.{position_from_yields_List}
 use Rattle.bit_set.proofs.CallerLemmas.{gives_left}
 use Rattle.uses.proofs.chains.place_of.Goals as goal
 

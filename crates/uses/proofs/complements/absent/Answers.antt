@@ -1,6 +1,5 @@
 use Rattle.bit_set.proofs.CallerLemmas.{count_complement}
-use Rattle.std.proofs.lemmas.Bool.Decides.{nat_tests}
-use Rattle.std.proofs.Common.{arith}
+use Rattle.std.proofs.{Common.arith, lemmas.Bool.Decides.nat_tests}
 use Rattle.uses.proofs.complements.absent.Goals as goal
 
 pub returns-clause-count : goal.returns-clause-count

@@ -1,6 +1,5 @@
 use Rattle.std.proofs.Common.{◌≡◌, ℕ, ◌<◌, ◌≤◌, false, length, min, IsTrue}
-use Rattle.bit_set.specs.Members.{IsSubset}
-use Rattle.bit_set.specs.Sets.{elements, has}
+use Rattle.bit_set.specs.{Members.IsSubset, Sets.{elements, has}}
 use Rattle.uses.proofs.from_the_back.keep_least.Given as goal
 
 -- no more are gone than were to go, and what is gone is above what is in

@@ -1,5 +1,4 @@
-use Rattle.std.proofs.Common.{refl, arith}
-use Rattle.std.proofs.lemmas.Bool.Decides.{nat_tests}
+use Rattle.std.proofs.{Common.{refl, arith}, lemmas.Bool.Decides.nat_tests}
 use Rattle.uses.proofs.loops.all_below.Goals as goal
 
 pub returns-then-member-n : goal.returns-then-member-n

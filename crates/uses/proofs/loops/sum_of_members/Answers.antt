@@ -1,5 +1,4 @@
-use Rattle.std.proofs.Common.{◌∙◌, ap, sum, arith}
-use Rattle.std.proofs.lemmas.List.Sums.{sum_by-cons}
+use Rattle.std.proofs.{Common.{◌∙◌, ap, sum, arith}, lemmas.List.Sums.sum_by-cons}
 use Rattle.uses.proofs.loops.sum_of_members.Goals as goal
 
 pub loop-member-preserved : goal.loop-member-preserved

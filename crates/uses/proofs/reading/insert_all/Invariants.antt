@@ -1,6 +1,5 @@
 use Rattle.std.proofs.Common.{ℕ, ◌<◌, length, take, get_or}
-use Rattle.bit_set.specs.Sets.{elements}
-use Rattle.bit_set.specs.Members.{IsUnion}
+use Rattle.bit_set.specs.{Members.IsUnion, Sets.elements}
 use Rattle.uses.proofs.reading.insert_all.Given as goal
 
 abbrev pub invariant-loop-item : goal.invariant-loop-item

@@ -1,6 +1,5 @@
 use Rattle.std.proofs.Common.{◌-◌, ◌^◌, length}
-use Rattle.bit_set.specs.Members.{IsSubset}
-use Rattle.bit_set.specs.Sets.{elements}
+use Rattle.bit_set.specs.{Members.IsSubset, Sets.elements}
 use Rattle.uses.specs.Rows.{ReachesOnly}
 use Rattle.uses.proofs.worklists.close_by_rows.Given as goal
 

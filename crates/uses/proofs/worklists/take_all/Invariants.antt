@@ -1,5 +1,4 @@
-use Rattle.bit_set.specs.Members.{IsSubset}
-use Rattle.bit_set.specs.Sets.{elements}
+use Rattle.bit_set.specs.{Members.IsSubset, Sets.elements}
 use Rattle.uses.specs.Rows.{IsClosedBut, ReachesOnly, turns_left}
 use Rattle.uses.proofs.worklists.take_all.Given as goal
 

@@ -1,10 +1,6 @@
-use Rattle.std.proofs.Common.{IsTrue, get_or, sym, arith}
-use Rattle.std.proofs.lemmas.Bool.Decides.{nat_tests}
-use Rattle.std.proofs.lemmas.List.{get_or_read}
+use Rattle.std.proofs.{Common.{IsTrue, get_or, sym, arith}, lemmas.Bool.Decides.nat_tests, lemmas.List.get_or_read}
 use Rattle.std.proofs.lemmas.Result.{on_ok_weaker}
-use Rattle.bit_set.specs.Bits.{Bits}
-use Rattle.bit_set.specs.Members.{IsSubset, IsUnion}
-use Rattle.bit_set.specs.Sets.{elements, has}
+use Rattle.bit_set.specs.{Bits.Bits, Members.{IsSubset, IsUnion}, Sets.{elements, has}}
 use Rattle.uses.proofs.worklists.take_in_row.Goals as goal
 
 pub returns-then-contains-clause-closed : goal.returns-then-contains-clause-closed

@@ -1,7 +1,5 @@
 use Rattle.std.proofs.Common.{◌≡◌, ℕ, ◌+◌, ◌<◌, ◌≤◌, IsTrue, length, get_or, false, if◌then◌else◌}
-use Rattle.bit_set.specs.Bits.{Bits}
-use Rattle.bit_set.specs.Members.{IsSubset}
-use Rattle.bit_set.specs.Sets.{elements, has}
+use Rattle.bit_set.specs.{Bits.Bits, Members.IsSubset, Sets.{elements, has}}
 use Rattle.uses.specs.Rows.{ReachesOnly}
 use Rattle.uses.proofs.worklists.take_in_rows.Given as goal
 

@@ -1,5 +1,4 @@
-use Rattle.std.proofs.Common.{◌∙◌, ap, sym, refl, not, arith}
-use Rattle.std.proofs.lemmas.Bool.Decides.{nat_tests}
+use Rattle.std.proofs.{Common.{◌∙◌, ap, sym, refl, not, arith}, lemmas.Bool.Decides.nat_tests}
 use Rattle.uses.proofs.worklists.take_on.Goals as goal
 
 pub returns-then-is_subset-clause-set : goal.returns-then-is_subset-clause-set

@@ -1,9 +1,6 @@
-use Rattle.std.proofs.Common.{◌≡◌, ◌++◌, ◌∷◌, [], length, ap, arith}
-use Rattle.std.proofs.lemmas.List.{length-map, length_push}
-use Rattle.bit_set.specs.Bits.{Bits}
-use Rattle.bit_set.specs.Sets.{elements}
-use Rattle.automata.specs.Numbering.{IsNew, Numbers}
-use Rattle.automata.specs.Runs.{row_of_sets}
+use Rattle.std.proofs.{Common.{◌≡◌, ◌++◌, ◌∷◌, [], length, ap, arith}, lemmas.List.{length-map, length_push}}
+use Rattle.bit_set.specs.{Bits.Bits, Sets.elements}
+use Rattle.automata.specs.{Numbering.{IsNew, Numbers}, Runs.row_of_sets}
 use Rattle.automata.proofs.NumberingLemmas.{finds_on, not_found, numbers_new, pushed}
 use Rattle.automata.proofs.numbering.Numbering.add.Goals as goal
 

@@ -1,7 +1,5 @@
-use Rattle.std.proofs.Common.{◌≤◌, length, refl, sym, ap, ◌∙◌, arith}
-use Rattle.std.proofs.lemmas.List.{length-map}
-use Rattle.bit_set.specs.Bits.{Bits}
-use Rattle.bit_set.specs.Sets.{elements}
+use Rattle.std.proofs.{Common.{◌≤◌, length, refl, sym, ap, ◌∙◌, arith}, lemmas.List.length-map}
+use Rattle.bit_set.specs.{Bits.Bits, Sets.elements}
 use Rattle.automata.proofs.NumberingLemmas.{is_new, listed, numbers_found}
 use Rattle.automata.proofs.numbering.Numbering.number_of.Goals as goal
 

@@ -1,6 +1,5 @@
 use Rattle.std.proofs.Common.{◌∙◌, length, arith}
-use Rattle.bit_matrix.proofs.SeenLemmas.{IsPlace, place, seen_bit}
-use Rattle.bit_matrix.proofs.matrix.BitMatrix.contains.Goals.{After-self}
+use Rattle.bit_matrix.proofs.{SeenLemmas.{IsPlace, place, seen_bit}, matrix.BitMatrix.contains.Goals.After-self}
 use Rattle.bit_matrix.proofs.matrix.BitMatrix.contains.Goals as goal
 
 at : (g : _) (c : After-self g) → IsPlace g.B.BitBlock.width c.self.inside.stride c.args.row c.args.column (length c.self.inside.blocks.items)

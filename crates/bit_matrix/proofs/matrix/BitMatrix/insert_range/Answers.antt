@@ -6,8 +6,7 @@ use Rattle.bit_set.proofs.SetLaws.{IsAscending-put_all}
 use Rattle.bit_matrix.specs.Matrices.{row_of, with_row}
 use Rattle.bit_matrix.proofs.SeenLemmas.{IsPlace, as_long, enough, none_past, place, row_bits_fit, seen_columns, seen_matrix}
 use Rattle.bit_matrix.proofs.SpanLemmas.{becomes_spanned, filled_as_merged, filled_members, past_filled, span-none}
-use Rattle.bit_matrix.proofs.SpanLemmas.{span_table, with_row_of}
-use Rattle.bit_matrix.proofs.TableLemmas.{changes_row}
+use Rattle.bit_matrix.proofs.{SpanLemmas.{span_table, with_row_of}, TableLemmas.changes_row}
 use Rattle.bit_matrix.proofs.matrix.BitMatrix.insert_range.Goals.{After-bit_index_of-first, After-self}
 use Rattle.bit_matrix.proofs.matrix.BitMatrix.insert_range.Goals as goal
 

@@ -1,10 +1,7 @@
-use Rattle.std.proofs.Common.{◌≡◌, ◌++◌}
-use Rattle.std.proofs.lemmas.Result.{err_from_is_err_and}
-use Rattle.bit_set_commands.specs.Reading.{followed, within_range}
-use Rattle.bit_set_commands.specs.Words.{words_of}
+use Rattle.std.proofs.{Common.{◌≡◌, ◌++◌}, lemmas.Result.err_from_is_err_and}
+use Rattle.bit_set_commands.specs.{Reading.{followed, within_range}, Words.words_of}
 use Rattle.bit_set_commands.proofs.ReadingLemmas.{both, followed-word, followed-words}
-use Rattle.bit_set_commands.proofs.reading.Tuple2Operands.read.Given.{Over}
-use Rattle.bit_set_commands.proofs.reading.Tuple2Operands.read.Goals.{In-Some}
+use Rattle.bit_set_commands.proofs.{reading.Tuple2Operands.read.Given.Over, reading.Tuple2Operands.read.Goals.In-Some}
 use Rattle.bit_set_commands.proofs.reading.Tuple2Operands.read.Goals as goal
 
 pub returns-in_default : goal.returns-in_default
