@@ -1,7 +1,7 @@
 // Calls on a part of a set, on all that it lacks, and on its bytes, and sets that are made of numbers. One number leaves after
 // each turn, so that no turn can be the result of another.
 use crate::input_sets::{Input, Sum};
-use crate::turns::sum_of_turns;
+use crate::turns::{sum_of_reads, sum_of_turns};
 use bit_set::BitSet;
 
 fn sum_of_range(set: &BitSet<u64>, start: usize, end: usize) -> usize {
@@ -22,20 +22,12 @@ fn sum_of_missing(set: &BitSet<u64>, start: usize, end: usize) -> usize {
 
 pub(crate) fn walk_range(input: Input<'_>, start: usize, end: usize) -> Sum {
     let mut set = input.one()?;
-    Ok(sum_of_turns!(input.turns, |turn| {
-        let sum = sum_of_range(&set, start, end);
-        let _was = set.remove(turn);
-        sum
-    }))
+    sum_of_reads!(set, input.turns, sum_of_range(&set, start, end))
 }
 
 pub(crate) fn walk_missing(input: Input<'_>, start: usize, end: usize) -> Sum {
     let mut set = input.one()?;
-    Ok(sum_of_turns!(input.turns, |turn| {
-        let sum = sum_of_missing(&set, start, end);
-        let _was = set.remove(turn);
-        sum
-    }))
+    sum_of_reads!(set, input.turns, sum_of_missing(&set, start, end))
 }
 
 // All elements are kept but the number of the turn.

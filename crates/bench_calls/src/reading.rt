@@ -1,6 +1,6 @@
 // Sets that are read. One number leaves after each turn, so that no turn can be the result of another.
 use crate::input_sets::{Input, Sum};
-use crate::turns::sum_of_turns;
+use crate::turns::{sum_of_reads, sum_of_turns};
 use bit_set::{BitBlock, BitSet};
 use std::alloc::Global;
 
@@ -41,25 +41,14 @@ fn walk_to(set: &BitSet<u64>, n: usize) -> Option<usize> {
     walk.next()
 }
 
-// What each turn reads in a set, of which a number leaves then.
-macro_rules! reads {
-    ($set:ident, $turns:expr, $number:expr) => {
-        Ok(sum_of_turns!($turns, |turn| {
-            let number = $number;
-            let _was = $set.remove(turn);
-            number
-        }))
-    };
-}
-
 pub(crate) fn walk<B: BitBlock>(input: Input<'_>) -> Sum {
     let mut set = input.one::<B>()?;
-    reads!(set, input.turns, sum_of_set(&set))
+    sum_of_reads!(set, input.turns, sum_of_set(&set))
 }
 
 pub(crate) fn count<B: BitBlock>(input: Input<'_>) -> Sum {
     let mut set = input.one::<B>()?;
-    reads!(set, input.turns, set.count())
+    sum_of_reads!(set, input.turns, set.count())
 }
 
 // Asks a set whether it is empty that has these numbers no more.
@@ -68,17 +57,17 @@ pub(crate) fn is_empty<B: BitBlock>(input: Input<'_>) -> Sum {
     for number in input.first {
         let _was = set.remove(*number);
     }
-    reads!(set, input.turns, usize::from(set.is_empty()))
+    sum_of_reads!(set, input.turns, usize::from(set.is_empty()))
 }
 
 pub(crate) fn walk_back(input: Input<'_>) -> Sum {
     let mut set = input.one::<u64>()?;
-    reads!(set, input.turns, sum_from_the_back(&set))
+    sum_of_reads!(set, input.turns, sum_from_the_back(&set))
 }
 
 pub(crate) fn nth_by_walks(input: Input<'_>) -> Sum {
     let mut set = input.one::<u64>()?;
-    reads!(
+    sum_of_reads!(
         set,
         input.turns,
         walk_to(&set, input.first.len() / 2).unwrap_or(0)
@@ -87,7 +76,7 @@ pub(crate) fn nth_by_walks(input: Input<'_>) -> Sum {
 
 pub(crate) fn nths(input: Input<'_>) -> Sum {
     let mut set = input.one::<u64>()?;
-    reads!(
+    sum_of_reads!(
         set,
         input.turns,
         set.iter().nth(input.first.len() / 2).unwrap_or(0)

@@ -11,4 +11,16 @@ macro_rules! sum_of_turns {
     }};
 }
 
+// What each turn reads in a set, of which a number leaves then, so that no turn can be the result of another.
+macro_rules! sum_of_reads {
+    ($set:ident, $turns:expr, $number:expr) => {
+        Ok(sum_of_turns!($turns, |turn| {
+            let number = $number;
+            let _was = $set.remove(turn);
+            number
+        }))
+    };
+}
+
+pub(crate) use sum_of_reads;
 pub(crate) use sum_of_turns;

@@ -2,7 +2,7 @@
 ghost use Rattle.std.specs.Iterator.{IsFinite};
 
 use crate::input_sets::{Input, Sum};
-use crate::turns::sum_of_turns;
+use crate::turns::{sum_of_reads, sum_of_turns};
 use bit_set::bit_vec::Merge;
 use bit_set::{BitBlock, BitSet, SetError};
 use std::alloc::{AllocError, Global};
@@ -79,27 +79,16 @@ fn one_and_other<B: BitBlock>(input: Input<'_>) -> Result<TwoSets<B>, SetError> 
     Ok(TwoSets { one, other })
 }
 
-// What each turn finds in a set, of which a number leaves then, so that no turn can be the result of another.
-macro_rules! found {
-    ($one:ident, $turns:expr, $number:expr) => {
-        Ok(sum_of_turns!($turns, |turn| {
-            let number = $number;
-            let _was = $one.remove(turn);
-            number
-        }))
-    };
-}
-
 pub(crate) fn walk_merged<B: BitBlock>(merge: Merge, input: Input<'_>) -> Sum {
     let mut one = input.one::<B>()?;
     let other = input.other::<B>()?;
-    found!(one, input.turns, sum_of_merged(merge, &one, &other))
+    sum_of_reads!(one, input.turns, sum_of_merged(merge, &one, &other))
 }
 
 pub(crate) fn count_merged<B: BitBlock>(merge: Merge, input: Input<'_>) -> Sum {
     let mut one = input.one::<B>()?;
     let other = input.other::<B>()?;
-    found!(one, input.turns, count_of_merged(merge, &one, &other))
+    sum_of_reads!(one, input.turns, count_of_merged(merge, &one, &other))
 }
 
 #[inline(always)]
@@ -170,7 +159,7 @@ pub(crate) fn unite_in_place(input: Input<'_>) -> Sum {
 pub(crate) fn find_apart(input: Input<'_>) -> Sum {
     let other = input.other()?;
     let mut one = set_without(input, &other)?;
-    found!(one, input.turns, usize::from(one.is_disjoint(&other)))
+    sum_of_reads!(one, input.turns, usize::from(one.is_disjoint(&other)))
 }
 
 // The second set and the first with it, which has all of it.
@@ -178,7 +167,7 @@ pub(crate) fn find_within(input: Input<'_>) -> Sum {
     let mut one = input.other::<u32>()?;
     let mut other = input.one()?;
     other.union_with(&one)?;
-    found!(one, input.turns, usize::from(one.is_subset(&other)))
+    sum_of_reads!(one, input.turns, usize::from(one.is_subset(&other)))
 }
 
 pub(crate) fn compare<B: BitBlock>(input: Input<'_>) -> Sum {

@@ -1,5 +1,8 @@
 -- What calls write into an array of C's.
-use Rattle.std.specs.Prelude.{◌≡◌, ℕ, drop, length, List, min, take}
+use Rattle.std.specs.Prelude.{◌≡◌, ℕ, ◌+◌, ◌*◌, ◌<◌, Bool, drop, length, List, max, min, slice_index, take}
+use Rattle.bit_blocks.specs.{Bits.blocks_of, Digits.is_one, Merges.merge_of_values, declared.block.merge.Merge.Merge}
+use Rattle.bit_set.specs.Sets.{elements, has}
+use Rattle.bit_set_c.specs.Block.{width}
 
 -- A call wrote so many at the front, which are as many of n as fit, and no others.
 pub record FillsFront {X : Type 0} (written n : ℕ) (old new : List X) : Type 0 where
@@ -10,3 +13,9 @@ pub record FillsFront {X : Type 0} (written n : ℕ) (old new : List X) : Type 0
 pub record CopiesFront {X : Type 0} (written : ℕ) (items old new : List X) : Type 0 where
   pub fills : FillsFront written (length items) old new
   pub values : take written new ≡ take written items
+
+-- These are the blocks, from an index on, of what the sets of two lists of values become.
+pub record CopiesMerged (merge : Merge) (a b : List Bool) (from written : ℕ) (old new : List ℕ) : Type 0 where
+  pub fills : FillsFront written (max (length (drop from (blocks_of width a))) (length (drop from (blocks_of width b)))) old new
+  pub members : (k j : ℕ) → k < written → j < width → is_one (slice_index new k) j
+      ≡ merge_of_values merge (has (elements a) ((from + k) * width + j)) (has (elements b) ((from + k) * width + j))

@@ -34,7 +34,7 @@ pub enum Group {
 }
 
 macro_rules! return_these {
-    ($($call:expr => $wanted:expr;)+) => { $(($call == $wanted))&+ };
+    ($($call:expr => $wanted:expr;)+) => { $((($call) == $wanted))&+ };
 }
 
 // How long the set `p` of a new table is.
