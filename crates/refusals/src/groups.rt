@@ -203,6 +203,8 @@ fn is_replaced<B: BitBlock>(bits: &mut BitVec<B>) -> bool {
 fn merge_twice<B: BitBlock>(bits: &mut BitVec<B>, lent: &BitVec<B>) {
     if lent.len() <= bits.len() {
         bits.merge_blocks(lent, Merge::Symmetric, &mut Steps::new());
+    }
+    if lent.len() <= bits.len() {
         bits.merge(lent, Merge::Union);
     }
 }
