@@ -1,10 +1,9 @@
 -- A table on its way to the deterministic automaton, and what it comes to.
 use Rattle.std.proofs.Common.{◌≡◌, ℕ, ◌+◌, ◌*◌, ◌/◌, ◌%◌, ◌<◌, ◌≤◌, true, cond, inl, inr, List, [], ◌∷◌, ◌++◌}
 use Rattle.std.proofs.Common.{length, zero, suc, get_or, slice_index, refl, sym, ap, subst, ◌∙◌, ◌↔◌, arith}
-use Rattle.std.proofs.lemmas.Bool.{true≢false, cases_eq, cases_lt, eq-eqb, ne_eqb}
+use Rattle.std.{specs.Cmp.both_ways, proofs.lemmas.Bool.{true≢false, cases_eq, cases_lt, eq-eqb, ne_eqb}}
 use Rattle.std.proofs.lemmas.List.{get_or_append_left, get_or_past, get_or_push, length_push}
 use Rattle.std.proofs.lemmas.Nat.{div-add-mod', div-mul-add, mod-mul-add, mod_below, row_fits}
-use Rattle.std.specs.Cmp.{both_ways}
 use Rattle.bit_set.specs.{Members.{IsSameSet, Updates}, Sets.{IsAscending, has}}
 use Rattle.automata.specs.{Building.{Builds, IsEntry, Meets}, Numbering.{IsNew, Numbers, set_of}}
 use Rattle.automata.specs.Runs.{Accepts, Automaton, IsEnd, IsImage, IsReach, Run, onward, row_of, successors}

@@ -5,9 +5,8 @@ use Rattle.std.proofs.lemmas.List.{get_or_append_left, get_or_default, get_or_pu
 use Rattle.std.proofs.{lemmas.Map.Keys.IsDistinct-from_apart, lemmas.Map.Steps.length-le_from_distinct_below}
 use Rattle.std.specs.List.{IsDistinct, list_any}
 use Rattle.bit_set.specs.{Members.IsSameSet, Sets.has}
-use Rattle.automata.specs.{Numbering.set_of, Runs.Automaton}
+use Rattle.automata.{specs.{Numbering.set_of, Runs.Automaton}, proofs.BuildLemmas.same_reach}
 use Rattle.automata.specs.Tables.{IsSubsetTable, IsWordOver, ReachesMoreThan, Table, end_of}
-use Rattle.automata.proofs.BuildLemmas.{same_reach}
 
 below_all : (xs : List ℕ) (n : ℕ) → ((i : ℕ) → i < length xs → get_or xs i 0 < n) → (q : ℕ) → list_any (eqb q) xs ≡ true → q < n
 below_all [] n each q h = absurd (true≢false (sym h))

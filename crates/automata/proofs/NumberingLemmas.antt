@@ -1,8 +1,7 @@
 -- A set's number, by a list and a map that say the same.
 use Rattle.std.proofs.Common.{◌≡◌, ℕ, ◌<◌, true, false, cond, ◌⊎◌, inl, inr, List, [], ◌∷◌, ◌++◌, Option, Some, None, IsTrue, length, refl, sym, ap, ◌∙◌, ◌↔◌, arith}
-use Rattle.std.proofs.lemmas.Bool.{true≢false, cases_lt}
+use Rattle.std.{specs.{Ordering.is_eq, declared.cmp.Ordering.Ordering}, proofs.lemmas.Bool.{true≢false, cases_lt}}
 use Rattle.std.proofs.lemmas.List.{get_or_append_left, get_or_push, length_push, map_push}
-use Rattle.std.specs.{Ordering.is_eq, declared.cmp.Ordering.Ordering}
 use Rattle.std.specs.declared.cmp.Ordering.TheVariants.{Less, Equal, Greater}
 use Rattle.bit_set.specs.{Bits.Bits, Order.{order_of_sets, same_sets}, Sets.elements}
 use Rattle.automata.specs.{Numbering.{Finds, IsNew, Numbers, set_of}, Runs.row_of_sets}

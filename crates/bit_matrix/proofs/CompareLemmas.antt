@@ -2,8 +2,7 @@
 use Rattle.std.proofs.Common.{◌≡◌, ℕ, zero, suc, ◌+◌, ◌*◌, ◌/◌, ◌%◌, ◌^◌, ◌<◌, ◌↔◌, Bool, true, List, length, map, get_or, nat_eq, sym, ap, ap₂, ◌∙◌, subst, arith, inl, inr, mod-lt}
 use Rattle.std.proofs.lemmas.{Bool.{cases_lt}, Nat.{div-add-mod', div_below}, List.{ext_get_or, get_or_past, length-map}}
 use Rattle.std.specs.Cmp.Lexicographic.{bytes_decides, pointwise, pointwise_decides}
-use Rattle.bit_blocks.specs.Bits.{blocks_for}
-use Rattle.bit_blocks.proofs.VectorLemmas.{numbers_below}
+use Rattle.bit_blocks.{specs.Bits.blocks_for, proofs.VectorLemmas.numbers_below}
 use Rattle.bit_matrix.specs.{Compared.{key_of, same_matrices}, Matrices.{Matrix, row_of}, Tables.{IsCleanPast, IsTable, matrix_in, row_in}}
 use Rattle.bit_matrix.proofs.{MergeLemmas.blocks_stay, SeenLemmas.{enough}, TableLemmas.{get_or-rows_in}}
 

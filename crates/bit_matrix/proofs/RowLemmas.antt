@@ -3,13 +3,11 @@ use Rattle.std.proofs.Common.{◌≡◌, ℕ, zero, suc, ◌+◌, ◌-◌, ◌*�
 use Rattle.std.proofs.Common.{length, map, filter, get_or, take, drop, refl, sym, ap, ◌∙◌, arith, inl, inr, mod-lt, count_by}
 use Rattle.std.proofs.lemmas.{Bool.{cases_lt, Decides.nat_tests}, Nat.{div-add-mod', div_below}, Nat.Bits.same_from_bits_below, List.{get_or-drop, get_or-take, length-take, Sums.length-filter}}
 use Rattle.std.specs.List.{range_with_len}
-use Rattle.bit_blocks.specs.{Digits.is_one, Storage.value_at}
-use Rattle.bit_blocks.proofs.BitsLemmas.{block_past}
+use Rattle.bit_blocks.{specs.{Digits.is_one, Storage.value_at}, proofs.BitsLemmas.block_past}
 use Rattle.bit_blocks.proofs.StorageLemmas.{same_digit, value_at-index, value_at-is, value_at-past}
 use Rattle.bit_set.specs.{Ranges.span, Sets.{IsAscending, has}}
 use Rattle.bit_set.proofs.{RangeLemmas.{IsAscending-span, has-span}, SetLemmas.{AscendsFrom-filter, has-filter, same_members}}
-use Rattle.bit_matrix.specs.Tables.{IsCleanPast, bit_of, row_in}
-use Rattle.bit_matrix.proofs.TableLemmas.{has-row_in}
+use Rattle.bit_matrix.{specs.Tables.{IsCleanPast, bit_of, row_in}, proofs.TableLemmas.has-row_in}
 
 -- the maps of a slice
 pub map-slice : {X : Type 0} (f : X → ℕ) (k n : ℕ) (xs : List X) → map f (take n (drop k xs)) ≡ take n (drop k (map f xs))

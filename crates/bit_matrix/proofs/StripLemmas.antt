@@ -2,8 +2,7 @@
 use Rattle.std.proofs.Common.{◌≡◌, ℕ, ◌+◌, ◌-◌, ◌*◌, ◌/◌, ◌%◌, ◌<◌, ◌≤◌, ◌⊎◌, ◌++◌, false, List, All, length, map, get_or, subst, sym, ap, ap₂, ◌∙◌, arith, inl, inr, mod-lt}
 use Rattle.std.proofs.lemmas.{Bool.{cases_lt}, Nat.{div-add-mod', div-mul-add, div_below, mul-le, row_fits}, List.{get_or_past, length-map, Elements.{All-append, All-drop, All-take}}}
 use Rattle.std.proofs.Math.{Nat.{add-mul, mul_assoc}, Seq.{drop-append_seam, take-append_seam}}
-use Rattle.bit_blocks.specs.Digits.{is_one}
-use Rattle.bit_blocks.proofs.CompareLemmas.{digit_from_zero}
+use Rattle.bit_blocks.{specs.Digits.is_one, proofs.CompareLemmas.digit_from_zero}
 use Rattle.bit_set.specs.Sets.{has}
 use Rattle.bit_matrix.specs.{Matrices.{Matrix, has_at}, Squares.{AreRowsTransposed, IsTransposedStrip}, Tables.{IsTable, bit_of, matrix_in}}
 use Rattle.bit_matrix.proofs.{PartLemmas.{IsPut}, RowLemmas.{bit_of-digit}, SeenLemmas.{enough}, TableLemmas.{has_at-below, has_at-past, row_of-past}}

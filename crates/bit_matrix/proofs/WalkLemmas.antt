@@ -3,9 +3,8 @@ use Rattle.std.proofs.Common.{◌≡◌, ℕ, ◌+◌, ◌-◌, ◌*◌, ◌/◌
 use Rattle.std.proofs.Common.{All, length, map, get_or, drop, refl, sym, ap, ap₂, ◌∙◌, arith, mul-le-mul_right, inl, inr}
 use Rattle.std.proofs.{Common.{zero, suc, mod-lt, subst}, iter.runs.Sources.{from_front, as_is}}
 use Rattle.std.proofs.lemmas.{Bool.{cases_lt, true≢false, Decides.nat_tests}, Nat.{div-add-mod', le-div}}
-use Rattle.std.proofs.lemmas.List.{get_or-drop, length-drop, length-map, drop_all}
+use Rattle.std.{specs.Iterator.Runs.YieldsInOrder, proofs.lemmas.List.{get_or-drop, length-drop, length-map, drop_all}}
 use Rattle.std.proofs.lemmas.List.Elements.{All-drop, All-head, All-nil, All-tail}
-use Rattle.std.specs.Iterator.{Runs.YieldsInOrder}
 use Rattle.bit_blocks.specs.{Digits.is_one, Lowest.{IsCleared, IsLowest}, Storage.value_at}
 use Rattle.bit_blocks.proofs.{BitsLemmas.block_past, StorageLemmas.{value_at-index, value_at-past}}
 use Rattle.bit_set.specs.{Indexes.{digits_from, indexes, values_in}, Sets.{IsAscending, has}}

@@ -1,6 +1,5 @@
 -- What is held where there is a value.
-use Rattle.std.proofs.Common.{◌≡◌, refl}
-use Rattle.std.specs.Prelude.{Option, Some, None, IsSome}
+use Rattle.std.{specs.Prelude.{Option, Some, None, IsSome}, proofs.Common.{◌≡◌, refl}}
 use borrow.Author.Tests.{clash}
 
 abbrev pub value_of : {D : Type 0} (o : Option D) → IsSome o → D

@@ -1,8 +1,7 @@
 -- `lines_of`, a line at a time, and that it gives the lines of the input and no others.
 use Rattle.std.proofs.Common.{◌≡◌, ◌≢◌, ℕ, ◌==◌, inl, inr, false, List, [], ◌∷◌, ◌++◌, length, ap, sym, ◌∙◌, refl, ne_eqb, append_assoc, Option, None, Some, IfSome, IfNone, unwrap_or, Bor}
 use Rattle.std.proofs.{lemmas.Bool.false≢true, lemmas.Bool.Decides.eqb_tells, lemmas.List.same_from_push}
-use Rattle.std.proofs.lemmas.List.Elements.{All-nil, All-cons, All-head, All-tail}
-use Rattle.std.specs.List.{All, onto_first}
+use Rattle.std.{specs.List.{All, onto_first}, proofs.lemmas.List.Elements.{All-nil, All-cons, All-head, All-tail}}
 use Rattle.bit_set_commands.specs.{Cuts.Lacks, Lines.{lines_of, text_of_lines, EndsWithBytes, AreLines}}
 
 -- a line that a byte 10 ends

@@ -1,8 +1,7 @@
 -- The line of a command is read as that command.
 use Rattle.std.proofs.Common.{◌≡◌, ℕ, ◌+◌, ◌-◌, ◌<◌, ◌≤◌, ◌^◌, ◌==◌, not, true, ◌≢◌, List, [], ◌∷◌, ◌++◌, length, Some, Ok, map, arith, refl, ap, ◌∙◌, append-nil, nat_le, lt-ltb, le-leb}
 use Rattle.std.specs.{Char.is_ascii_digit, List.{list_all, All, flat_map}, Prelude.{codes, decimal}}
-use Rattle.std.specs.{Str.all_ascii_digits, Str.Parse.digits_value}
-use Rattle.std.proofs.lemmas.Bool.{and_parts, false≢true}
+use Rattle.std.{specs.{Str.all_ascii_digits, Str.Parse.digits_value}, proofs.lemmas.Bool.{and_parts, false≢true}}
 use Rattle.std.proofs.lemmas.Fmt.{decimal_nonempty, digits_decimal, digits_value-decimal}
 use Rattle.std.proofs.lemmas.List.Elements.{All-cons, All-head, All-nil, All-tail}
 use Rattle.std.proofs.lemmas.Str.Parse.{IsNumeralModel, numerals_by_value, tells_all_ascii_digits}

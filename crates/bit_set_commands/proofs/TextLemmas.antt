@@ -7,8 +7,7 @@ use Rattle.std.specs.declared.cmp.Ordering.TheVariants.{Less, Equal, Greater}
 use Rattle.bit_set_commands.specs.{Cuts.Lacks, declared.commands.Reply.Reply, declared.reading.BadLine.BadLine}
 use Rattle.bit_set_commands.specs.declared.commands.Reply.TheVariants.{Truth, Done, Number, Items, Order, Rest, Element, Same}
 use Rattle.bit_set_commands.specs.declared.reading.BadLine.TheVariants.{BadCommand, BadNumber}
-use Rattle.bit_set_commands.proofs.CutLemmas.{lacks_by_test}
-use Rattle.bit_set_commands.specs.Texts.{items_text, text_of, text_of_bad}
+use Rattle.bit_set_commands.{specs.Texts.{items_text, text_of, text_of_bad}, proofs.CutLemmas.lacks_by_test}
 
 -- one more item behind others
 join_by-push : (f : ℕ → List ℕ) (sep : List ℕ) (y : ℕ) (ys : List ℕ) (x : ℕ) → join_by f sep ((y ∷ ys) ++ x ∷ []) ≡ join_by f sep (y ∷ ys) ++ (sep ++ f x)

@@ -1,7 +1,6 @@
 -- The output, a line at a time.
 use Rattle.std.proofs.Common.{◌≡◌, ℕ, suc, length, List, [], ◌∷◌, ◌++◌, map, Ok, Err, refl, ap, sym, ◌∙◌, append_assoc, append-nil}
-use Rattle.std.proofs.{lemmas.List.length-map, lemmas.List.Elements.{All-cons, All-nil}}
-use Rattle.std.specs.List.{All}
+use Rattle.std.{specs.List.All, proofs.{lemmas.List.length-map, lemmas.List.Elements.{All-cons, All-nil}}}
 use Rattle.bit_set_commands.specs.{Cuts.Lacks, Lines.{text_of_lines, lines_of}, Reading.reading}
 use Rattle.bit_set_run.specs.{Output.{line_text, line_texts_from, output, sets_after, Line}, Run.{no_sets, step, Sets}}
 use Rattle.bit_set_commands.proofs.{LineLemmas.lines_of-all, TextLemmas.{text_of-lacks, text_of_bad-lacks}}

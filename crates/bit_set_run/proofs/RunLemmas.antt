@@ -1,7 +1,6 @@
 -- A run, one command on.
 use Rattle.std.proofs.Common.{◌≡◌, ℕ, ◌+◌, ◌<◌, ◌≤◌, ◌⊎◌, List, [], ◌∷◌, ◌++◌, length, get_or, take, append_assoc, refl, ap, sym, ◌∙◌}
-use Rattle.std.proofs.{Common.{Result, Ok, Err, true, false, OnOk, OnErr}, lemmas.List.take_more}
-use Rattle.std.specs.Result.{is_err}
+use Rattle.std.{specs.Result.is_err, proofs.{Common.{Result, Ok, Err, true, false, OnOk, OnErr}, lemmas.List.take_more}}
 use Rattle.std.proofs.{lemmas.Bool.true≢false, lemmas.Option.slice_get_read}
 use Rattle.bit_set_commands.specs.{declared.commands.Command.Command, declared.commands.Reply.Reply}
 use Rattle.bit_set_run.specs.Run.{Sets, step, run_of, FailsAt, StoppedAt}

@@ -1,8 +1,7 @@
 -- Reads and writes one after another, at a reader and a writer whose bytes are known.
 use Rattle.std.proofs.Common.{◌≡◌, ℕ, ◌+◌, ◌<◌, ◌≤◌, List, ◌++◌, length, take, drop, Option, sym, ap, ◌∙◌, append_assoc, arith}
-use Rattle.std.proofs.KnownBytes.{Appends-trans, Consumes-trans}
+use Rattle.std.{specs.Io.KnownBytes.{Consumes, Appends}, proofs.KnownBytes.{Appends-trans, Consumes-trans}}
 use Rattle.std.proofs.lemmas.List.{take-append-drop, length-append, length-take-le, take-append-le}
-use Rattle.std.specs.Io.KnownBytes.{Consumes, Appends}
 use Rattle.bit_set_run.specs.Streams.{limit, GaveCount, GaveSome}
 
 -- the bytes so far, and a read more

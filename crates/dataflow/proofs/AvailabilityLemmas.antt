@@ -2,8 +2,7 @@
 use Rattle.std.proofs.Common.{◌≡◌, ◌≢◌, ℕ, ◌<◌, ◌≤◌, ◌+◌, Bool, not, ◌&&◌, ◌==◌, cond, eqb, nat_le, nat_lt, suc, zero, List}
 use Rattle.std.proofs.Common.{[], ◌∷◌, length, map, get_or, inl, inr, ◌⊎◌, refl, sym, ap, ◌∙◌, ◌↔◌, true, false, arith}
 use Rattle.std.proofs.lemmas.Bool.{true≢false, true_from_ne_false, false_from_ne_true, cases_Bool, cases_eq, cases_lt, eq-eqb, eqb-true, le-leb, leb-true, lt-ltb, ltb-true, or_cases, or_left, or_right}
-use Rattle.std.proofs.lemmas.List.{get_or_past, length-map}
-use Rattle.std.specs.List.{list_any}
+use Rattle.std.{specs.List.list_any, proofs.lemmas.List.{get_or_past, length-map}}
 use Rattle.bit_set.specs.Sets.{difference, elements, has}
 use Rattle.dataflow.specs.Availability.{AreAvailable, AreComplements, IsComplement, IsAvailableByPredecessors, IsMissing}
 use Rattle.dataflow.specs.Availability.{after_kill, after_path, at_entry, computed_in, killed_in, missing_flow}

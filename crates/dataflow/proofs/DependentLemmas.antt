@@ -3,8 +3,7 @@ use Rattle.std.proofs.Common.{◌≡◌, ◌≢◌, ℕ, ◌+◌, ◌<◌, ◌�
 use Rattle.std.proofs.lemmas.Bool.{Decides.nat_tests, cases_eq, eq-eqb, eqb-true, or_cases, or_left, or_right, true≢false}
 use Rattle.std.proofs.lemmas.List.{get_or-set_other, get_or-set_same}
 use Rattle.bit_set.specs.Sets.{has}
-use Rattle.dataflow.specs.{Flow.{Flow, block_at}, Worklist.{AddsDependent, row_at}}
-use Rattle.dataflow.proofs.TakeLemmas.{in_push}
+use Rattle.dataflow.{specs.{Flow.{Flow, block_at}, Worklist.{AddsDependent, row_at}}, proofs.TakeLemmas.in_push}
 
 -- ---- a row is written
 

@@ -4,8 +4,7 @@ use Rattle.std.proofs.lemmas.Bool.{true≢false, cases_eq, eq-eqb, eqb-true, ne_
 use Rattle.std.proofs.lemmas.List.{get_or_past, length-map}
 use Rattle.bit_set.specs.{Members.{HasNone, Updates, UpdatesRange}, Sets.has}
 use Rattle.dataflow.specs.Flow.{Enters, Flow, HasAllDue, Reaches, block_at, made, onward, set_at}
-use Rattle.dataflow.specs.Worklist.{AreOnTheWay, PutsBack, TakesIn, place_of}
-use Rattle.dataflow.proofs.TakeLemmas.{in_push, same_lists}
+use Rattle.dataflow.{specs.Worklist.{AreOnTheWay, PutsBack, TakesIn, place_of}, proofs.TakeLemmas.{in_push, same_lists}}
 
 -- a block with a source is a block
 pub with_source : (blocks : List Flow) (b s : ℕ) → has (block_at blocks b).sources s ≡ true → b < length blocks

@@ -3,8 +3,7 @@ use Rattle.std.proofs.Common.{◌≡◌, ◌≢◌, ℕ, ◌+◌, ◌<◌, ◌�
 use Rattle.std.proofs.Common.{take, inl, inr, List, [], ◌∷◌, ◌++◌, length, map, get_or, refl, sym, ap, ◌∙◌, arith}
 use Rattle.std.proofs.{lemmas.Bool.{and_parts, not-false, not-true, true≢false, cases_eq, eq-eqb, eqb-true, or_cases, or_left, or_right}, Math.Bool.{or-false, or_assoc}}
 use Rattle.std.proofs.lemmas.List.{get_or_default, get_or_past, get_or-set_other, get_or-set_same, length-map, length-set, map-append, map-set, take_more}
-use Rattle.std.proofs.{Math.ListN.get_or-map, Math.Seq.take-append_seam}
-use Rattle.std.specs.Cmp.Lexicographic.{bytes_decides}
+use Rattle.std.{specs.Cmp.Lexicographic.bytes_decides, proofs.{Math.ListN.get_or-map, Math.Seq.take-append_seam}}
 use Rattle.bit_set.specs.{Bits.Bits, Members.IsUnionWithDifference, Order.same_sets, Sets.{elements, has}}
 use Rattle.dataflow.specs.{Flow.{Flow, lists_of, set_at}, Worklist.{TakesIn, Transfers}}
 

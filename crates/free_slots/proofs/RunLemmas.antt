@@ -5,8 +5,7 @@ use Rattle.std.proofs.lemmas.Bool.{Decides.nat_tests}
 use Rattle.bit_set.specs.Sets.{has, put, without}
 use Rattle.free_slots.specs.Slots.{SlotTable, IsFreeRun, IsLowestFree, all_free, is_taken, without_run}
 use Rattle.free_slots.specs.Runs.{Event, Happens, IsHeld, IsLowestUnheld, IsUnheldRun, Run, times_given, times_taken}
-use Rattle.free_slots.specs.Runs.Event.{GiveBack, Take, TakeRun}
-use Rattle.free_slots.proofs.SlotLemmas.{none_taken}
+use Rattle.free_slots.{specs.Runs.Event.{GiveBack, Take, TakeRun}, proofs.SlotLemmas.none_taken}
 
 -- 1 where it is so
 abbrev ones : Bool → ℕ

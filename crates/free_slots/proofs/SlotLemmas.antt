@@ -3,8 +3,7 @@ use Rattle.std.proofs.Common.{◌≡◌, ◌≢◌, ℕ, zero, suc, ◌+◌, ◌
 use Rattle.std.proofs.Common.{if◌then◌else◌, leb, ltb, nat_le, nat_lt, List, [], ◌∷◌, length, max, replicate, slice_get}
 use Rattle.std.proofs.Common.{Option, None, Some, MatchOption, refl, sym, ap, ◌∙◌, subst, arith}
 use Rattle.std.proofs.lemmas.Bool.{Decides.nat_tests, and_parts, and_right, eq-eqb, le-leb, leb-true, lt-ltb, ne_eqb, not-false, or_parts}
-use Rattle.std.proofs.{lemmas.List.length-replicate, lemmas.Option.slice_get_within}
-use Rattle.std.specs.List.{range_with_len}
+use Rattle.std.{specs.List.range_with_len, proofs.{lemmas.List.length-replicate, lemmas.Option.slice_get_within}}
 use Rattle.bit_set.specs.{Searches.IsFirstFrom, Choices.IsFirstOf}
 use Rattle.bit_set.specs.{Ranges.{span, those_in_range}, Sets.{AscendsFrom, IsAscending, difference, elements, elements_from, has, is_subset, put, those_from, without}}
 use Rattle.free_slots.specs.{Runs.Happens, Runs.Event.GiveBack}

@@ -1,8 +1,7 @@
 -- Proved, not believed: what a walk over a row of successors gives.
 use Rattle.std.specs.{Prelude.{◌≡◌, ℕ, List, [], ◌∷◌, length, Option, Some, None}, declared.iter.Copied.Copied}
 use Rattle.std.specs.{Iterator.YieldsFirst, Iterator.Adapters.{copied_source, copied_steps}, declared.slice.Iter.Iter}
-use Rattle.std.specs.{Option.option_copied, Slice.Iter.{iter_rest, iter_steps}}
-use Rattle.std.proofs.Common.{refl, ap, ◌∙◌}
+use Rattle.std.{specs.{Option.option_copied, Slice.Iter.{iter_rest, iter_steps}}, proofs.Common.{refl, ap, ◌∙◌}}
 use denote.Ref.{Bor}
 
 abbrev pub copied_rest : Copied (Iter ℕ) → List ℕ

@@ -1,7 +1,6 @@
 use Rattle.std.proofs.Common.{◌≡◌, ◌+◌, ◌*◌, ◌<◌, ◌∷◌, ◌++◌, [], length, take, get_or, ap, sym, ◌∙◌, arith}
 use Rattle.std.proofs.lemmas.List.{take_more}
-use Rattle.automata.specs.Tables.{next_state}
-use Rattle.automata.proofs.BuildLemmas.{end_push, over_at, over_push, place_inside}
+use Rattle.automata.{specs.Tables.next_state, proofs.BuildLemmas.{end_push, over_at, over_push, place_inside}}
 use Rattle.automata.proofs.dfa.end_of.Goals as goal
 
 pub returns-then-symbol-symbols-clause-outside : goal.returns-then-symbol-symbols-clause-outside

@@ -1,6 +1,5 @@
 use Rattle.std.proofs.Common.{◌≡◌, [], arith}
-use Rattle.automata.specs.Searching.{Spells, onward, start}
-use Rattle.automata.proofs.PairLemmas.{back_on}
+use Rattle.automata.{specs.Searching.{Spells, onward, start}, proofs.PairLemmas.back_on}
 use Rattle.automata.proofs.equivalence.word_of.Goals as goal
 
 pub loop-at-preserved : goal.loop-at-preserved

@@ -1,8 +1,7 @@
 use Rattle.std.proofs.{Common.{◌≡◌, [], sym, ap, ◌∙◌, arith}, lemmas.Bool.{eqb-true, true≢false}}
 use Rattle.std.proofs.lemmas.List.{nil_from_length}
 use Rattle.bit_set.specs.Sets.{elements}
-use Rattle.automata.specs.Runs.{Automaton, IsEnd, rows_of_sets}
-use Rattle.automata.proofs.StepLemmas.{accepted, end_none}
+use Rattle.automata.{specs.Runs.{Automaton, IsEnd, rows_of_sets}, proofs.StepLemmas.{accepted, end_none}}
 use Rattle.automata.proofs.nfa.accepts.Goals as goal
 
 pub returns-then-is_empty-clause-accepted : goal.returns-then-is_empty-clause-accepted

@@ -1,8 +1,7 @@
 use Rattle.std.proofs.Common.{◌≡◌, ◌+◌, ◌<◌, ◌∷◌, ◌++◌, [], length, take, get_or, arith}
 use Rattle.std.proofs.lemmas.List.{take_all, take_more}
 use Rattle.bit_set.specs.Sets.{elements}
-use Rattle.automata.specs.Runs.{IsEnd, IsImage, row_of, rows_of_sets}
-use Rattle.automata.proofs.StepLemmas.{end_none, end_on}
+use Rattle.automata.{specs.Runs.{IsEnd, IsImage, row_of, rows_of_sets}, proofs.StepLemmas.{end_none, end_on}}
 use Rattle.automata.proofs.nfa.follow.Goals as goal
 
 pub loop-symbol-init : goal.loop-symbol-init

@@ -1,8 +1,7 @@
 use Rattle.std.proofs.{Common.{◌≡◌, ◌<◌, [], length, map, get_or, arith, below_more}, lemmas.Grind.common_steps}
 use Rattle.bit_set.specs.Bits.{Bits}
 use Rattle.std.specs.Global.{Vec}
-use Rattle.automata.specs.Bounds.{IsRowWithin}
-use Rattle.automata.proofs.StepLemmas.{mapped}
+use Rattle.automata.{specs.Bounds.IsRowWithin, proofs.StepLemmas.mapped}
 use Rattle.automata.proofs.nfa.longest_of_rows.Goals as goal
 
 pub loop-row-preserved : goal.loop-row-preserved

@@ -1,7 +1,6 @@
 use Rattle.std.proofs.Common.{◌≡◌}
 use Rattle.bit_set.specs.Sets.{elements}
-use Rattle.automata.specs.{Bounds.IsRowWithin, Runs.row_of_sets}
-use Rattle.automata.proofs.StepLemmas.{Gathers}
+use Rattle.automata.{specs.{Bounds.IsRowWithin, Runs.row_of_sets}, proofs.StepLemmas.Gathers}
 use Rattle.automata.proofs.step.image.Given as goal
 
 abbrev pub invariant-loop-state : goal.invariant-loop-state

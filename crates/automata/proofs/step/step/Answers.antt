@@ -1,5 +1,4 @@
-use Rattle.std.proofs.{Common.{◌≡◌, ◌≤◌, [], length, map, get_or, sym}, lemmas.Bool.ltb-false}
-use Rattle.std.specs.Global.{Vec}
+use Rattle.std.{specs.Global.Vec, proofs.{Common.{◌≡◌, ◌≤◌, [], length, map, get_or, sym}, lemmas.Bool.ltb-false}}
 use Rattle.bit_set.specs.Bits.{Bits}
 use Rattle.automata.specs.{Bounds.IsRowWithin, Runs.{row_of, row_of_sets, rows_of_sets}}
 use Rattle.automata.proofs.StepLemmas.{image_past, mapped, mapped_past}

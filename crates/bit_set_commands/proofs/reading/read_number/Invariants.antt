@@ -1,5 +1,4 @@
-use Rattle.std.proofs.Common.{◌≡◌, true, take}
-use Rattle.std.specs.{Str.all_ascii_digits, Str.Parse.digits_value}
+use Rattle.std.{specs.{Str.all_ascii_digits, Str.Parse.digits_value}, proofs.Common.{◌≡◌, true, take}}
 use Rattle.bit_set_commands.specs.Reading.{fitting_number}
 use Rattle.bit_set_commands.proofs.reading.read_number.Given as goal
 

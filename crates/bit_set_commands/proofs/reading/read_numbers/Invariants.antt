@@ -1,7 +1,5 @@
-use Rattle.std.proofs.Common.{◌≡◌, ◌+◌, length}
-use Rattle.std.specs.Option.{option_map_or}
-use Rattle.bit_set_commands.specs.{Reading.{all_numbers, within_range}, Words.words_left}
-use Rattle.bit_set_commands.proofs.ReadingLemmas.{told}
+use Rattle.std.{specs.Option.option_map_or, proofs.Common.{◌≡◌, ◌+◌, length}}
+use Rattle.bit_set_commands.{specs.{Reading.{all_numbers, within_range}, Words.words_left}, proofs.ReadingLemmas.told}
 use Rattle.bit_set_commands.proofs.reading.read_numbers.Given as goal
 
 abbrev pub invariant-words : goal.invariant-words

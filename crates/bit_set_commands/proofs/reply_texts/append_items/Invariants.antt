@@ -1,5 +1,4 @@
-use Rattle.std.proofs.Common.{◌≡◌, ◌++◌, take}
-use Rattle.std.specs.{List.join_by, Prelude.{codes, decimal}}
+use Rattle.std.{specs.{List.join_by, Prelude.{codes, decimal}}, proofs.Common.{◌≡◌, ◌++◌, take}}
 use Rattle.bit_set_commands.proofs.reply_texts.append_items.Given as goal
 
 abbrev pub invariant-loop-place : goal.invariant-loop-place

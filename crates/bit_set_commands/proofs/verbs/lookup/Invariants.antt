@@ -1,5 +1,4 @@
-use Rattle.std.proofs.Common.{◌≡◌, map, length}
-use Rattle.std.specs.{Map.lookup, Str.bytes_eq}
+use Rattle.std.{specs.{Map.lookup, Str.bytes_eq}, proofs.Common.{◌≡◌, map, length}}
 use Rattle.bit_set_commands.proofs.verbs.lookup.Given as goal
 
 abbrev pub invariant-loop-table : goal.invariant-loop-table

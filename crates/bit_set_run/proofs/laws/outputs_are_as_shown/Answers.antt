@@ -1,5 +1,4 @@
-use Rattle.std.proofs.Common.{refl}
-use Rattle.std.specs.Fmt.{digits}
+use Rattle.std.{specs.Fmt.digits, proofs.Common.refl}
 use Rattle.bit_set_run.proofs.laws.outputs_are_as_shown.Goals as goal
 
 pub returns : goal.returns

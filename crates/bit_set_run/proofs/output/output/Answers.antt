@@ -1,6 +1,5 @@
 use Rattle.std.proofs.Common.{rules, arith}
-use Rattle.bit_set_run.specs.Output.{output}
-use Rattle.bit_set_run.proofs.OutputLemmas.{output-end, output-next, output-start}
+use Rattle.bit_set_run.{specs.Output.output, proofs.OutputLemmas.{output-end, output-next, output-start}}
 use Rattle.bit_set_run.proofs.output.output.Goals as goal
 
 pub loop-line-init : goal.loop-line-init

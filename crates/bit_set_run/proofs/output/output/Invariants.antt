@@ -1,7 +1,6 @@
 use Rattle.std.proofs.Common.{◌≡◌, ◌≤◌, ◌++◌, length}
 use Rattle.bit_set_commands.specs.Lines.{lines_of}
-use Rattle.bit_set_run.specs.Output.{output}
-use Rattle.bit_set_run.proofs.OutputLemmas.{output_from}
+use Rattle.bit_set_run.{specs.Output.output, proofs.OutputLemmas.output_from}
 use Rattle.bit_set_run.proofs.output.output.Given as goal
 
 abbrev pub invariant-loop-line : goal.invariant-loop-line

@@ -1,5 +1,4 @@
-use Rattle.std.proofs.Common.{◌≡◌, false, true, sym, ◌∙◌, ⊎_elim, inl, inr, vec_capacity, arith}
-use Rattle.std.specs.Result.{is_err}
+use Rattle.std.{specs.Result.is_err, proofs.Common.{◌≡◌, false, true, sym, ◌∙◌, ⊎_elim, inl, inr, vec_capacity, arith}}
 use Rattle.bit_set_run.proofs.RunLemmas.{HasRun-more, StoppedAt-here, when_no_error, when_error}
 use Rattle.bit_set_run.proofs.running.run.Goals as goal
 

@@ -1,7 +1,6 @@
 use Rattle.std.proofs.Common.{◌≡◌, ◌<◌, ◌++◌, ◌∷◌, length, drop, ◌+◌, refl, sym, ap, ◌∙◌, append-nil, []}
 use Rattle.std.proofs.iter.Yields.{Copied-Drains}
-use Rattle.bit_set.specs.{Bounds.greatest, Sets.{has, put_all}}
-use Rattle.bit_set.proofs.ValueLemmas.{has-past}
+use Rattle.bit_set.{specs.{Bounds.greatest, Sets.{has, put_all}}, proofs.ValueLemmas.has-past}
 use Rattle.bit_set_run.specs.{Elements.elements_of, Run.elements_before_greatest}
 use Rattle.bit_set_run.proofs.SteppingLemmas.{none_greatest, some_greatest, before_taken, front_before, copied_along, copied_before}
 use Rattle.bit_set_run.proofs.stepping.extend.Goals as goal

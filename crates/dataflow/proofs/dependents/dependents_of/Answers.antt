@@ -1,9 +1,8 @@
 use Rattle.std.proofs.Common.{◌≡◌, ℕ, [], ap, arith, drop, length, map, refl, sym, true≢false, ◌∙◌}
 use Rattle.std.proofs.lemmas.List.{length-map}
 use Rattle.smallvec.specs.SmallVec.{SmallVec}
-use Rattle.dataflow.specs.{Flow.{block_at}, Worklist.{rows_of}}
+use Rattle.dataflow.{specs.{Flow.{block_at}, Worklist.{rows_of}}, proofs.TakeLemmas.{mapped, written_back}}
 use Rattle.dataflow.proofs.{DependentLemmas.{more_depend, none_depend}, SettleLemmas.with_source}
-use Rattle.dataflow.proofs.TakeLemmas.{mapped, written_back}
 use Rattle.dataflow.proofs.dependents.dependents_of.Goals as goal
 
 pub loop-number-init : goal.loop-number-init

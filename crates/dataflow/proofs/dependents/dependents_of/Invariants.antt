@@ -1,6 +1,5 @@
 use Rattle.std.proofs.Common.{map}
-use Rattle.dataflow.specs.Worklist.{rows_of}
-use Rattle.dataflow.proofs.DependentLemmas.{Depends}
+use Rattle.dataflow.{specs.Worklist.rows_of, proofs.DependentLemmas.Depends}
 use Rattle.dataflow.proofs.dependents.dependents_of.Given as goal
 
 abbrev pub invariant-loop-number : goal.invariant-loop-number

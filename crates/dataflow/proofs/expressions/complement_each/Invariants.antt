@@ -1,5 +1,4 @@
-use Rattle.dataflow.specs.Flow.{lists_of}
-use Rattle.dataflow.proofs.AvailabilityLemmas.{IsComplementedBelow}
+use Rattle.dataflow.{specs.Flow.lists_of, proofs.AvailabilityLemmas.IsComplementedBelow}
 use Rattle.dataflow.proofs.expressions.complement_each.Given as goal
 
 abbrev pub invariant-loop-index : goal.invariant-loop-index

@@ -1,5 +1,4 @@
-use Rattle.std.proofs.Common.{◌≡◌, ◌==◌, ◌||◌, false, length, nat_le, rules, tests, sym, ap, ◌∙◌}
-use Rattle.std.specs.List.{list_any}
+use Rattle.std.{specs.List.list_any, proofs.Common.{◌≡◌, ◌==◌, ◌||◌, false, length, nat_le, rules, tests, sym, ap, ◌∙◌}}
 use Rattle.std.proofs.{lemmas.Iterator.YieldsList-from_slice, lemmas.Iterator.Search.any_from_yields_List}
 use Rattle.dataflow.proofs.expressions.starts_empty.Goals as goal
 

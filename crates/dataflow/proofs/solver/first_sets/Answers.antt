@@ -1,7 +1,6 @@
 use Rattle.std.proofs.{Common.{◌≡◌, ◌<◌, ap, ◌∙◌, length, map, arith, refl}, lemmas.List.take_all}
 use Rattle.bit_set.specs.{Bits.Bits, Sets.elements}
-use Rattle.dataflow.specs.Flow.{lists_of}
-use Rattle.dataflow.proofs.TakeLemmas.{few_pushed, push_mapped}
+use Rattle.dataflow.{specs.Flow.lists_of, proofs.TakeLemmas.{few_pushed, push_mapped}}
 use Rattle.dataflow.proofs.solver.first_sets.Goals as goal
 
 pub loop-block-preserved : goal.loop-block-preserved

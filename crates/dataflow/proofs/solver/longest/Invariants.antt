@@ -1,5 +1,4 @@
-use Rattle.std.proofs.Common.{◌≡◌, max, take}
-use Rattle.std.specs.List.{fold}
+use Rattle.std.{specs.List.fold, proofs.Common.{◌≡◌, max, take}}
 use Rattle.dataflow.proofs.solver.longest.Given as goal
 
 abbrev pub invariant-loop-block : goal.invariant-loop-block

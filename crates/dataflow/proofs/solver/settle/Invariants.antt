@@ -1,7 +1,6 @@
 use Rattle.std.proofs.Common.{ℕ, ◌+◌, ◌*◌, ◌^◌, ◌<◌, ◌≤◌, IsTrue, length, map}
 use Rattle.bit_set.specs.Sets.{elements, has}
-use Rattle.dataflow.specs.{Flow.lists_of, Worklist.{AreOnTheWay, place_of}}
-use Rattle.dataflow.proofs.SettleLemmas.{IsSettled, lacking}
+use Rattle.dataflow.{specs.{Flow.lists_of, Worklist.{AreOnTheWay, place_of}}, proofs.SettleLemmas.{IsSettled, lacking}}
 use Rattle.dataflow.proofs.solver.settle.Given as goal
 
 abbrev pub invariant-loop-next : goal.invariant-loop-next

@@ -1,10 +1,9 @@
 use Rattle.std.proofs.Common.{◌≡◌, ◌+◌, ◌<◌, ◌≤◌, ◌++◌, ◌∷◌, [], get_or, length, sym, take, arith}
 use Rattle.std.proofs.{lemmas.Bool.ltb-false, lemmas.List.take_more}
 use Rattle.bit_set.specs.{Members.IsUnionWithDifference, Sets.elements}
-use Rattle.dataflow.specs.Flow.{lists_of, set_at}
+use Rattle.dataflow.{specs.Flow.{lists_of, set_at}, proofs.solver.transfer.Goals.{in-Some+in_ok-grew, in_default}}
 use Rattle.dataflow.proofs.TakeLemmas.{grew_on, mapped_past, read_set, same_on, transfers_on, transfers_past}
 use Rattle.dataflow.proofs.solver.transfer.Goals as goal
-use Rattle.dataflow.proofs.solver.transfer.Goals.{in-Some+in_ok-grew, in_default}
 
 pub loop-source-preserved : goal.loop-source-preserved
 loop-source-preserved g c =

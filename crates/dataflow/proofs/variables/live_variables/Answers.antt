@@ -1,6 +1,5 @@
 use Rattle.std.proofs.lemmas.Result.{IfOk-weaker}
-use Rattle.dataflow.specs.Flow.{lists_of}
-use Rattle.dataflow.proofs.AnalysisLemmas.{are_live, each_live}
+use Rattle.dataflow.{specs.Flow.lists_of, proofs.AnalysisLemmas.{are_live, each_live}}
 use Rattle.dataflow.proofs.variables.live_variables.Goals as goal
 
 pub returns-clause-solution : goal.returns-clause-solution

@@ -1,6 +1,5 @@
 use Rattle.std.proofs.Common.{◌≡◌, ℕ, suc, ◌+◌, ◌<◌, if◌then◌else◌, Bool, true, false, List, [], length, drop, map, nat_lt, sym, ap, ◌∙◌, add-one, arith, drop-cons}
-use Rattle.std.proofs.lemmas.List.{length-map}
-use Rattle.std.specs.List.{list_any}
+use Rattle.std.{specs.List.list_any, proofs.lemmas.List.length-map}
 use Rattle.dataflow.specs.{Flow.{Flow, block_at}, Worklist.flowing_back}
 use Rattle.dataflow.proofs.{TakeLemmas.mapped, waiting.flows_back.Goals.{then-has_greater, else-has_greater}}
 use Rattle.dataflow.proofs.waiting.flows_back.Goals as goal

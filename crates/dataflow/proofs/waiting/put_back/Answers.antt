@@ -1,8 +1,7 @@
 use Rattle.std.proofs.Common.{◌≡◌, ◌+◌, ◌<◌, ◌∷◌, ◌++◌, [], true, get_or, length, take, ◌∙◌, arith}
 use Rattle.std.proofs.lemmas.List.{take_more}
 use Rattle.bit_set.specs.{Members.Updates, Sets.elements}
-use Rattle.dataflow.specs.Worklist.{place_of}
-use Rattle.dataflow.proofs.{SettleLemmas.puts_on, TakeLemmas.at_member}
+use Rattle.dataflow.{specs.Worklist.place_of, proofs.{SettleLemmas.puts_on, TakeLemmas.at_member}}
 use Rattle.dataflow.proofs.waiting.put_back.Goals as goal
 
 pub place-requires : goal.place-requires

@@ -1,6 +1,5 @@
 use Rattle.std.proofs.Common.{ℕ, ◌<◌, ◌≤◌, All, length}
-use Rattle.graph_walks.specs.{Closed.row, Paths.rows_of}
-use Rattle.graph_walks.proofs.CloseLemmas.{Closes, Spacious}
+use Rattle.graph_walks.{specs.{Closed.row, Paths.rows_of}, proofs.CloseLemmas.{Closes, Spacious}}
 use Rattle.graph_walks.proofs.closure.close.Given as goal
 
 abbrev pub invariant-loop-node : goal.invariant-loop-node

@@ -1,7 +1,6 @@
 use Rattle.std.proofs.Common.{◌≡◌, ◌<◌, length, ap, arith, below_more, ◌∙◌}
 use Rattle.bit_set.specs.Bits.{Bits}
-use Rattle.graph_walks.specs.Closed.{row}
-use Rattle.graph_walks.proofs.CloseLemmas.{read_row}
+use Rattle.graph_walks.{specs.Closed.row, proofs.CloseLemmas.read_row}
 use Rattle.graph_walks.proofs.closure.longest.Goals as goal
 
 pub loop-row-preserved : goal.loop-row-preserved

@@ -1,8 +1,6 @@
-use Rattle.std.proofs.Common.{◌≡◌, ◌+◌, ◌-◌, ◌*◌, ◌^◌, length}
-use Rattle.std.specs.List.{sum_by}
+use Rattle.std.{specs.List.sum_by, proofs.Common.{◌≡◌, ◌+◌, ◌-◌, ◌*◌, ◌^◌, length}}
 use Rattle.bit_set.specs.Sets.{elements}
-use Rattle.graph_walks.specs.Paths.{successors}
-use Rattle.graph_walks.proofs.WalkLemmas.{Explores}
+use Rattle.graph_walks.{specs.Paths.successors, proofs.WalkLemmas.Explores}
 use Rattle.graph_walks.proofs.walk.explore.Given as goal
 
 abbrev pub invariant-loop-node : goal.invariant-loop-node

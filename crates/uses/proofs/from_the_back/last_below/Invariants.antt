@@ -1,5 +1,4 @@
-use Rattle.std.proofs.Common.{◌≡◌, ℕ, ◌<◌}
-use Rattle.std.specs.Iterator.Adapters.{rev_source}
+use Rattle.std.{specs.Iterator.Adapters.rev_source, proofs.Common.{◌≡◌, ℕ, ◌<◌}}
 use Rattle.bit_set.specs.Sets.{elements, has}
 use Rattle.uses.proofs.from_the_back.last_below.Given as goal
 

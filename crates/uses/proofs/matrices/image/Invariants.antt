@@ -1,5 +1,4 @@
-use Rattle.std.proofs.Common.{◌≡◌, ℕ, ◌||◌}
-use Rattle.std.specs.List.{list_any}
+use Rattle.std.{specs.List.list_any, proofs.Common.{◌≡◌, ℕ, ◌||◌}}
 use Rattle.bit_set.specs.Sets.{elements, has}
 use Rattle.bit_matrix.specs.Matrices.{has_at}
 use Rattle.uses.proofs.matrices.image.Given as goal

@@ -1,7 +1,6 @@
 use Rattle.std.proofs.Common.{◌≡◌, ap, ◌∙◌}
 use Rattle.bit_matrix.proofs.CallerLemmas.{gives_row}
-use Rattle.bit_set.proofs.{CallerLemmas.gives_left, WalkCalls.eq_from_yields_List}
-use Rattle.bit_set.specs.Walk.{Walk}
+use Rattle.bit_set.{specs.Walk.Walk, proofs.{CallerLemmas.gives_left, WalkCalls.eq_from_yields_List}}
 use Rattle.uses.proofs.matrices.row_is.Goals as goal
 
 pub returns : goal.returns

@@ -1,5 +1,4 @@
-use Rattle.std.proofs.Common.{◌≡◌, true, take}
-use Rattle.std.specs.List.{list_all}
+use Rattle.std.{specs.List.list_all, proofs.Common.{◌≡◌, true, take}}
 use Rattle.bit_set.specs.Sets.{elements, has}
 use Rattle.uses.proofs.merging.all_have_loop.Given as goal
 

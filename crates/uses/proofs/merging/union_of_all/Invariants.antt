@@ -1,5 +1,4 @@
-use Rattle.std.proofs.Common.{◌≡◌, ℕ, take}
-use Rattle.std.specs.List.{list_any}
+use Rattle.std.{specs.List.list_any, proofs.Common.{◌≡◌, ℕ, take}}
 use Rattle.bit_set.specs.Sets.{elements, has}
 use Rattle.uses.proofs.merging.union_of_all.Given as goal
 

@@ -1,6 +1,5 @@
 use Rattle.std.proofs.{Common.{arith, sym}, lemmas.Option.slice_get_within}
-use Rattle.bit_set.specs.Sets.{elements}
-use Rattle.bit_set.proofs.SetLemmas.{IsAscending-elements}
+use Rattle.bit_set.{specs.Sets.elements, proofs.SetLemmas.IsAscending-elements}
 use Rattle.uses.proofs.selecting.place_in_queue.Goals as goal
 
 pub returns-clause-within : goal.returns-clause-within

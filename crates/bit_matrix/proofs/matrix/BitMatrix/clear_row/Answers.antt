@@ -1,9 +1,7 @@
-use Rattle.std.proofs.Common.{◌≡◌, ◌+◌, ◌*◌, refl, sym, ap, arith}
-use Rattle.std.specs.Vec.{vec_len}
+use Rattle.std.{specs.Vec.vec_len, proofs.Common.{◌≡◌, ◌+◌, ◌*◌, refl, sym, ap, arith}}
 use Rattle.bit_blocks.specs.declared.block.merge.Merge.TheVariants.{Difference}
-use Rattle.bit_matrix.specs.Matrices.{has_at}
+use Rattle.bit_matrix.{specs.Matrices.has_at, proofs.matrix.BitMatrix.clear_row.Goals.After-bits}
 use Rattle.bit_matrix.proofs.{SeenLemmas.{as_long, enough, row_bits_fit, seen_columns, seen_matrix}, SpanLemmas.{becomes_spanned, cleared_as_merged, empty_row, span_table}, TableLemmas.changes_row}
-use Rattle.bit_matrix.proofs.matrix.BitMatrix.clear_row.Goals.{After-bits}
 use Rattle.bit_matrix.proofs.matrix.BitMatrix.clear_row.Goals as goal
 
 pub returns-then-self-eq0-clause-matrix : goal.returns-then-self-eq0-clause-matrix

@@ -1,7 +1,6 @@
 use Rattle.bit_blocks.specs.declared.block.merge.Merge.TheVariants.{Difference}
 use Rattle.bit_set.proofs.AlgebraLemmas.{has-merge_of_sets}
-use Rattle.bit_matrix.specs.Matrices.{row_of}
-use Rattle.bit_matrix.proofs.TableLemmas.{changes_row}
+use Rattle.bit_matrix.{specs.Matrices.row_of, proofs.TableLemmas.changes_row}
 use Rattle.bit_matrix.proofs.matrix.BitMatrix.difference_rows.Goals as goal
 
 pub returns-clause-members : goal.returns-clause-members

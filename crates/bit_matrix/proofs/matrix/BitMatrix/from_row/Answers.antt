@@ -1,6 +1,5 @@
 use Rattle.std.proofs.{Common.{◌≡◌, ◌∙◌, [], if◌then◌else◌, nat_lt, inl, inr, length, true, sym, ap, arith}, lemmas.{Bool.{cases_lt, true≢false, Decides.{nat_tests}}}}
-use Rattle.bit_set.specs.Sets.{elements}
-use Rattle.bit_set.proofs.ValueLemmas.{has-past}
+use Rattle.bit_set.{specs.Sets.elements, proofs.ValueLemmas.has-past}
 use Rattle.bit_matrix.proofs.SetLemmas.{all_rows, row_united}
 use Rattle.bit_matrix.proofs.matrix.BitMatrix.from_row.Goals as goal
 

@@ -1,8 +1,6 @@
-use Rattle.std.proofs.Common.{◌≡◌, ◌+◌, ◌-◌, ◌*◌, ◌≤◌, ◌∙◌, length, sym, ap, arith}
-use Rattle.std.specs.Vec.{vec_len}
+use Rattle.std.{specs.Vec.vec_len, proofs.Common.{◌≡◌, ◌+◌, ◌-◌, ◌*◌, ◌≤◌, ◌∙◌, length, sym, ap, arith}}
 use Rattle.bit_blocks.specs.declared.block.merge.Merge.TheVariants.{Union}
-use Rattle.bit_set.specs.{Ranges.{span}, Sets.{union}}
-use Rattle.bit_set.proofs.SetLaws.{IsAscending-put_all}
+use Rattle.bit_set.{specs.{Ranges.{span}, Sets.{union}}, proofs.SetLaws.IsAscending-put_all}
 use Rattle.bit_matrix.specs.Matrices.{row_of, with_row}
 use Rattle.bit_matrix.proofs.SeenLemmas.{IsPlace, as_long, enough, none_past, place, row_bits_fit, seen_columns, seen_matrix}
 use Rattle.bit_matrix.proofs.SpanLemmas.{becomes_spanned, filled_as_merged, filled_members, past_filled, span-none}

@@ -1,7 +1,6 @@
 use Rattle.std.proofs.Common.{◌&&◌, nat_le, ap, sym, ◌∙◌}
 use Rattle.bit_set.proofs.SetLemmas.{AscendsFrom-filter, has-filter, same_members}
-use Rattle.bit_matrix.specs.Matrices.{row_of}
-use Rattle.bit_matrix.proofs.WalkLemmas.{runs_of_row}
+use Rattle.bit_matrix.{specs.Matrices.row_of, proofs.WalkLemmas.runs_of_row}
 use Rattle.bit_matrix.proofs.matrix.BitMatrix.iter_from.Goals as goal
 
 pub returns-clause-left : goal.returns-clause-left

@@ -1,6 +1,5 @@
 use Rattle.std.proofs.{Common.{◌≡◌, ◌+◌, ◌*◌, ◌≤◌, drop, length, map, sym, ap, ◌∙◌, arith}, lemmas.List.{take_at}}
-use Rattle.bit_matrix.specs.Squares.{AreRowsTransposed}
-use Rattle.bit_matrix.proofs.SeenLemmas.{seen_columns, seen_rows}
+use Rattle.bit_matrix.{specs.Squares.AreRowsTransposed, proofs.SeenLemmas.{seen_columns, seen_rows}}
 use Rattle.bit_matrix.proofs.{StripLemmas.{other_bits, strip_bits, strip_within, turned_table}, TableLemmas.{length-rows_in}}
 use Rattle.bit_matrix.proofs.matrix.BitMatrix.transpose_columns.Goals.{After-transpose_into}
 use Rattle.bit_matrix.proofs.matrix.BitMatrix.transpose_columns.Goals as goal

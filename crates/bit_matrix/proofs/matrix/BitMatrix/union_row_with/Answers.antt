@@ -1,7 +1,6 @@
 use Rattle.std.proofs.{Common.{◌≡◌, ◌*◌, ◌↔◌, false, drop, length, map, ap, arith}, lemmas.List.{take_at}}
 use Rattle.bit_blocks.specs.declared.block.merge.Merge.TheVariants.{Union}
-use Rattle.bit_set.specs.Sets.{elements}
-use Rattle.bit_set.proofs.AlgebraLemmas.{has-union}
+use Rattle.bit_set.{specs.Sets.elements, proofs.AlgebraLemmas.has-union}
 use Rattle.bit_matrix.specs.{Matrices.{row_of}, Merges.{IsMergedPart}, Tables.{matrix_in}}
 use Rattle.bit_matrix.proofs.{MergeLemmas.tells_change, SeenLemmas.{row_within, reported_by_blocks, with_same_row}}
 use Rattle.bit_matrix.proofs.{SetLemmas.{becomes_united, set_table, stays_at_all}, TableLemmas.{changes_row}}

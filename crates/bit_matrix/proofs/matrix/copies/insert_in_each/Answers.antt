@@ -1,8 +1,6 @@
 use Rattle.std.proofs.Common.{◌≡◌, ℕ, Bool, ap, ◌∙◌, ◌&&◌, ◌||◌, ◌==◌, nat_le, refl, sym, arith}
-use Rattle.bit_set.specs.Sets.{has}
-use Rattle.bit_set.proofs.SetLemmas.{has-filter, has-first}
-use Rattle.bit_matrix.specs.Matrices.{has_at, row_of}
-use Rattle.bit_matrix.proofs.CopyLemmas.{in_row, put_more, rest_inside}
+use Rattle.bit_set.{specs.Sets.has, proofs.SetLemmas.{has-filter, has-first}}
+use Rattle.bit_matrix.{specs.Matrices.{has_at, row_of}, proofs.CopyLemmas.{in_row, put_more, rest_inside}}
 use Rattle.bit_matrix.proofs.matrix.copies.insert_in_each.Goals as goal
 
 pub loop-column-init : goal.loop-column-init

@@ -1,5 +1,4 @@
-use Rattle.std.proofs.Common.{◌≡◌, length, min, take}
-use Rattle.std.specs.List.{sum_by}
+use Rattle.std.{specs.List.sum_by, proofs.Common.{◌≡◌, length, min, take}}
 use Rattle.bit_words.specs.Bounds.{greatest}
 use Rattle.bit_set_c.proofs.matrix.reading.count_rows.Given as goal
 
