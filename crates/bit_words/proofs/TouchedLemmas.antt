@@ -1,10 +1,8 @@
 -- Which blocks of a chunk a merge may change, by the summaries of both sides, and what the summary is then.
 use Rattle.std.proofs.Common.{◌≡◌, ◌≢◌, ℕ, zero, suc, ◌+◌, ◌-◌, ◌*◌, ◌^◌, ◌<◌, ◌≤◌, ◌==◌, Bool, true, false, not, ◌&&◌, ◌||◌, List, map, length, get_or, All, refl, sym, subst, ap, ◌∙◌, arith, ⊎_elim}
-use Rattle.std.specs.Int.{bit_at}
-use Rattle.std.proofs.lemmas.List.{get_or_past, length-map}
+use Rattle.std.{specs.Int.bit_at, proofs.lemmas.List.{get_or_past, length-map}}
 use Rattle.std.proofs.lemmas.Bool.{cases_lt, cases_eq, true≢false, Decides.nat_tests}
-use Rattle.bit_blocks.specs.{Digits.is_one, Lowest.{IsLowest, IsCleared}}
-use Rattle.bit_blocks.specs.declared.block.merge.Merge.{Merge}
+use Rattle.bit_blocks.specs.{Digits.is_one, Lowest.{IsLowest, IsCleared}, declared.block.merge.Merge.Merge}
 use Rattle.bit_blocks.specs.declared.block.merge.Merge.TheVariants.{Union, Intersection, Difference, Symmetric}
 use Rattle.bit_blocks.specs.{Merges.merge_of_values, BlockMerges.{HasMerged, Stay}, Storage.is_used}
 use Rattle.bit_blocks.proofs.{CompareLemmas.zero_from_digits, Masks.is_one-zero}
