@@ -109,7 +109,7 @@ impl<B: BitBlock> BitVec<B> {
 
     /// How many values of the merge of this list with `other` are true, where the shorter list goes on with false values.
     /// Takes no memory: the merge is not made. Of many blocks it reads the summaries, and the blocks that these say
-    /// may have true values, once each.
+    /// may have true values, once each; past the end of the shorter list nothing, if the merge keeps nothing of that.
     ///
     /// ```
     /// // Of ten values, those at 1 and 8 are true, and of 100 in `other` those at 1 and 70.
