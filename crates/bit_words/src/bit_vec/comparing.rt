@@ -78,7 +78,8 @@ impl<B: BitBlock> BitVec<B> {
     }
 
     /// Whether the same indexes are true in both lists, whichever of them is longer. Of many blocks it compares the
-    /// summaries, and then those blocks alone that are not zero. Stops at the first group of at most 32 blocks that differs.
+    /// summaries, and those blocks alone that are not zero, of parts of the lists that grow from 16 blocks of the summary on.
+    /// Stops at the first group of at most 32 blocks that differs, so that what it reads grows with the place of that.
     ///
     /// ```
     /// // Of three values that at 1 is true, and so it is of 40 in `other`.
@@ -92,8 +93,8 @@ impl<B: BitBlock> BitVec<B> {
         same_by_summaries(&self.blocks, &self.summary, &other.blocks, &other.summary)
     }
 
-    /// The first block at which the lists differ, or `None`, where blocks past the end of a list are zero. Of many blocks it
-    /// compares the summaries, and those blocks alone that are not zero, up to the chunk in which the lists differ.
+    /// The first block at which the lists differ, or `None`, where blocks past the end of a list are zero. Reads what
+    /// [`has_same_blocks`](Self::has_same_blocks) does.
     ///
     /// ```
     /// // Of 100 values, over blocks of 32 bits, that at 70 is true, and none in `other`.
