@@ -182,10 +182,13 @@ multiples m k = (refl, between_multiples m k, λ x is. ap (λ n. n % k) is ∙ a
 pub ruleset set_steps = (nat_tests, has-filter, below_none, below_all, from_none, from_all, length-filter-le, take-first, append_assoc, append-nil)
 
 -- all that callers use, for `grind`: a crate names it once, at its root
-pub ruleset calls = (set_steps, members_of_merged_sets, has-reverse, has-span, counted_in_range, spanned, at_place, has_place, in_order, IsAscending-elements, ascends_pushed, list_any-append, take_at_read, sum_by-append)
+pub ruleset calls = (set_steps, members_of_merged_sets, has-reverse, at_place, has_place, in_order, IsAscending-elements, ascends_pushed, list_any-append, take_at_read, sum_by-append)
 
 -- for a function whose clause says that a test which is no bound keeps none, or all
 pub ruleset kept_by_tests = (calls, filter_none, filter_all)
+
+-- for a function that asks of ranges by `span` and `those_in_range`
+pub ruleset ranges = (calls, has-span, counted_in_range, spanned)
 
 -- for a clause that counts what merges have
 pub ruleset counts = (calls, count_difference, count_union)
