@@ -2,7 +2,8 @@
 ghost use Rattle.std.specs.Prelude.{◌≡◌, ℕ, ◌+◌, ◌*◌, ◌<◌, drop, get_or, length, max, slice_index};
 ghost use Rattle.bit_blocks.specs.{Bits.blocks_of, Digits.is_one, Merges.merge_of_values};
 ghost use Rattle.bit_set.specs.Sets.{elements, has};
-ghost use Rattle.bit_set_c.specs.{Block.width, Copies.FillsFront, Handed.{AreAt, BothStay}};
+ghost use Rattle.c_handles.specs.{Copies.FillsFront, Handed.{AreAt, BothStay}};
+ghost use Rattle.bit_set_c.specs.Block.{width};
 
 use crate::block::Block;
 use crate::blocks::blocks_from;
