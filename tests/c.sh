@@ -146,6 +146,13 @@ try_cpp() {
             cat said
             fail 'c++ does not build the example in C++'
         fi
+        if c++ -std=c++17 "${warnings[@]}" -O2 -I"$library" -I"$here" "$here/roaring.cc" "$library/libbit_set.a" -o roaring_cc 2> said; then
+            run ./roaring_cc
+            judge 'the class of Roaring bitmaps' 0 nothing nothing
+        else
+            cat said
+            fail 'c++ does not build tests/roaring.cc'
+        fi
     fi
 }
 
@@ -273,7 +280,7 @@ try_python() {
                 cat said
                 fail 'the Python module cannot be loaded where the headers of Python 3.8 built it'
             fi
-            for file in tests faults; do
+            for file in tests roaring_tests faults; do
                 if PYTHONPATH=module python3 -B "$bindings/python/$file.py" > said 2>&1; then
                     pass
                 else

@@ -73,7 +73,7 @@ def made_in_bit_set(top):
 
 def made_in_python(top):
     texts = texts_in(top / "bindings/python/src", "*.c")
-    return {name for text in texts for name in re.findall(r"\bbit_(?:set|matrix)_\w+", text)}
+    return {name for text in texts for name in re.findall(r"\bbit_(?:set|matrix|roaring)_\w+", text)}
 
 
 # The functions of each package, by the types that they are of. One name may stand for several.
@@ -113,9 +113,11 @@ def functions_in_cpp(top):
 def functions_in_python(top):
     """The methods and attributes in the tables of the module."""
     text = (top / "bindings/python/src/module.c").read_text()
-    methods = {name: re.findall(rf"^    METHOD\({name}, (\w+)", text, re.MULTILINE) for name in ("set", "matrix")}
+    types = {"set": "BitSet", "bitmap": "RoaringBitmap", "matrix": "BitMatrix"}
+    found = {name: Counter(re.findall(rf"^    METHOD\({of}, (\w+)", text, re.MULTILINE)) for of, name in types.items()}
     attributes = re.search(r"matrix_attributes\[\] = \{(.*?)\n\};", text, re.DOTALL).group(1)
-    return {"BitSet": Counter(methods["set"]), "BitMatrix": Counter(methods["matrix"] + re.findall(r'\{"(\w+)"', attributes))}
+    found["BitMatrix"].update(re.findall(r'\{"(\w+)"', attributes))
+    return found
 
 
 def functions_in_stub(top):
@@ -200,13 +202,13 @@ def main():
     top = Path(sys.argv[1])
     listed, known = List(top / "tests/c_surface.txt"), declared(top, "bit_set.h")
     faults = [*compare_calls(top, listed), *compare_headers(top)]
-    in_rust = made_in_bit_set_sys(top)
+    in_rust, all_known = made_in_bit_set_sys(top), known | declared(top, "bit_roaring.h")
     for package, made, among in [
         ("bit-set-sys", in_rust, known),
         ("bit-set", made_in_bit_set(top), in_rust),
-        ("Python", made_in_python(top), known),
+        ("Python", made_in_python(top), all_known),
     ]:
-        faults += compare_made(package, made, listed.left_out(package, known), among)
+        faults += compare_made(package, made, listed.left_out(package, all_known), among)
     for package, functions in FUNCTIONS.items():
         faults += compare_functions(package, functions(top), listed.functions(package))
     print("\n".join(sorted(faults)), end="\n" if faults else "")
