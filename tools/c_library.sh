@@ -185,7 +185,7 @@ write_headers() {
 find_parts() {
     local name part
     parts=(./crates.txt ./CHANGELOG.md ./LICENSE-{MIT,APACHE} ./bindings/c/bit_{set,roaring}.{h,hpp}
-        ./bindings/c/example.{c,cc,out}
+        ./bindings/c/compat/roaring/roaring{,_bytes,_iterators}.h ./bindings/c/example.{c,cc,out}
         ./bindings/c/source/{Makefile,CMakeLists.txt,README.md,mem.c})
     [ ! -f "$top/HANDLES" ] || parts+=(./HANDLES)
     for name in "$top"/tests/c_*.[ch]; do
@@ -200,9 +200,10 @@ find_parts() {
 
 # Writes all of the source release into a folder but for its assembly.
 write_source() {
-    mkdir -p "$1"/{include,src,examples,tests}
+    mkdir -p "$1"/{include,src,examples,tests,compat/roaring}
     cp "$c"/source/{Makefile,CMakeLists.txt,README.md} "$top"/LICENSE-{MIT,APACHE} "$top/CHANGELOG.md" "$1"
     cp "$c/source/mem.c" "$1/src"
+    cp "$c"/compat/roaring/*.h "$1/compat/roaring"
     cp "$c"/example.{c,cc,out} "$1/examples"
     cp "$top"/tests/c_*.[ch] "$1/tests"
     write_headers "$1/include"
