@@ -50,13 +50,7 @@ pub extern "C" fn bit_set_to_roaring(alloc: Global, out: &mut OwnedBitmap, set: 
     ensures kept { set.new ≡ set.old }
 {
     match from_bit_set(alloc, set.get()) {
-        Ok(bitmap) => {
-            if out.store(alloc, bitmap) {
-                1
-            } else {
-                -1
-            }
-        }
+        Ok(bitmap) => { if out.store(alloc, bitmap) { 1 } else { -1 } }
         Err(FromBitSetError::Memory) => -1,
         Err(FromBitSetError::TooGreat) => -2,
     }
