@@ -42,7 +42,7 @@ class Random(unittest.TestCase):
 
     def test_operators(self):
         pairs = [(name, getattr(operator, name)) for name in ("or_", "and_", "sub", "xor")]
-        for _ in range(30):
+        for _ in range(8):
             a, b = drawn(self.rng), drawn(self.rng)
             ours, theirs = RoaringBitmap(a), RoaringBitmap(b)
             for name, call in pairs:
@@ -65,7 +65,7 @@ class Random(unittest.TestCase):
             self.assertEqual(ours.symmetric_difference_cardinality(theirs), len(a ^ b))
 
     def test_searches_and_ranges(self):
-        for _ in range(30):
+        for _ in range(8):
             plain = drawn(self.rng) | {7}
             bitmap, ordered = RoaringBitmap(plain), sorted(plain)
             self.assertEqual((bitmap.min(), bitmap.max(), len(bitmap)), (ordered[0], ordered[-1], len(ordered)))
