@@ -1,15 +1,8 @@
--- What C owns of a set or of a matrix, and its parts, own what a box at the same types owns.
+-- What C owns of a set or of a matrix owns what a box at the same types owns.
 use denote.Signature.{Slot, plain}
-use denote.RattleType.{RattleType}
-use Rattle.std.specs.contracts.alloc.Global as Heap
-use Rattle.std.specs.contracts.impls.GlobalAllocator.TheImpl.{ghosts}
 use Rattle.bit_set_c.specs.contracts.handed.matrices.OwnedMatrix as OwnedMatrix
 use Rattle.bit_set_c.specs.contracts.handed.sets.Owned as Owned
-use Rattle.bit_set_c.specs.contracts.parts.Parts as Parts
 pub use Rattle.bit_set_c.proofs.Sets.{matrix_box, set_box}
-
-abbrev pub FromParts : RattleType → Slot 0
-FromParts X = plain (λ _. Parts.the_row X Heap.the_row ghosts)
 
 abbrev pub FromOwned : Slot 0
 FromOwned = plain (λ _. Owned.the_row)

@@ -1,6 +1,7 @@
 -- The bound of some numbers and the next one.
 use Rattle.std.proofs.Common.{◌≡◌, ℕ, ◌+◌, ◌<◌, ◌≤◌, ◌∙◌, All, List, [], ◌∷◌, ap, arith, get_or, length, max, suc, take, zero}
-use Rattle.std.proofs.{Math.Seq.take-suc, lemmas.List.Elements.All-from_get_or}
+use Rattle.std.proofs.lemmas.List.Elements.{All-from_get_or}
+use Rattle.std.proofs.Math.Seq.{take-suc}
 use Rattle.bit_set.{proofs.ItemLemmas.bound_of-push, specs.Sets.bound_of}
 
 pub bound_of_next : (items : List ℕ) (i : ℕ) → i < length items → bound_of (take (i + 1) items) ≡ max (bound_of (take i items)) (get_or items i 0 + 1)

@@ -1,7 +1,9 @@
 -- A byte of a block: eight digits from one on, and these turned round.
 use Rattle.std.proofs.Common.{◌≡◌, ℕ, ◌+◌, ◌-◌, ◌*◌, ◌/◌, ◌%◌, ◌^◌, ◌<◌, ◌≤◌, ◌==◌, ◌∙◌, List, ap, arith, drop, sym, w8}
-use Rattle.std.{specs.Int.{bit_at, reverse_bits}, proofs.lemmas.{List.drop-drop, Nat.Bits.bit_at_cat_low}}
-use Rattle.bit_blocks.{specs.Digits.{IsShiftedRight, is_one}, proofs.ByteLemmas.is_one-turned}
+use Rattle.std.proofs.lemmas.{List.drop-drop, Nat.Bits.bit_at_cat_low}
+use Rattle.std.specs.Int.{bit_at, reverse_bits}
+use Rattle.bit_blocks.proofs.ByteLemmas.{is_one-turned}
+use Rattle.bit_blocks.specs.Digits.{IsShiftedRight, is_one}
 
 low_digit : (r j : ℕ) → j < 8 → bit_at (r % 256) j ≡ bit_at r j
 low_digit r j within =

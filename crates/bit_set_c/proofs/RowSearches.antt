@@ -3,7 +3,8 @@ use Rattle.std.proofs.Common.{◌≡◌, ℕ, ◌<◌, ◌≤◌, IfSome, IsTrue
 use Rattle.std.specs.Iterator.{YieldsFirst}
 use Rattle.bit_blocks.specs.Searches.{FindsFrom}
 use Rattle.bit_words.specs.Bounds.{greatest}
-use Rattle.bit_set.{specs.{Choices.IsFirstOf, Sets.{IsAscending, has, those_from}}, proofs.MissingLaws.next_is_least}
+use Rattle.bit_set.specs.{Choices.IsFirstOf, Sets.{IsAscending, has, those_from}}
+use Rattle.bit_set.proofs.MissingLaws.{next_is_least}
 
 first_of_walk : (left rest : List ℕ) (r : Option ℕ) → YieldsFirst (λ (walk : List ℕ). walk) left r rest → IsFirstOf left r
 first_of_walk left rest None gives = gives.0

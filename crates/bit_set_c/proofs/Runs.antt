@@ -1,6 +1,7 @@
 -- The first run of the members from a number on.
-use Rattle.std.proofs.{Common.{◌≡◌, ℕ, ◌&&◌, ◌∷◌, Bool, not, arith, nat_le, List, refl}, lemmas.Bool.Decides.nat_tests}
+use Rattle.std.proofs.Common.{◌≡◌, ℕ, ◌&&◌, ◌∷◌, Bool, not, arith, nat_le, List, refl}
 use Rattle.std.specs.declared.ops.Range.{Range}
+use Rattle.std.proofs.lemmas.Bool.Decides.{nat_tests}
 use Rattle.bit_blocks.specs.Searches.{IsFirstFrom}
 use Rattle.bit_set.specs.{Runs.{IsFirstRun, runs_of}, Sets.{elements, has, those_from}}
 use Rattle.bit_set.proofs.{RunLemmas.runs_from_first, SetLemmas.{AscendsFrom-filter, IsAscending-elements, has-filter}}

@@ -1,7 +1,9 @@
 // The blocks of a merge of two sets, copied out. Both may be the same set.
-ghost use Rattle.std.specs.Prelude.{◌≡◌, ℕ, ◌<◌, get_or, length, max};
-ghost use Rattle.bit_blocks.specs.{Digits.is_one, Merges.merge_of_values};
-ghost use Rattle.bit_set_c.specs.{Block.width, Copies.{CopiesMerged, FillsFront}, Handed.{AreAt, BothStay}};
+ghost use Rattle.std.specs.Prelude.{◌≡◌, ℕ, ◌+◌, ◌*◌, ◌<◌, drop, get_or, length, max, slice_index};
+ghost use Rattle.bit_blocks.specs.{Bits.blocks_of, Digits.is_one, Merges.merge_of_values};
+ghost use Rattle.bit_set.specs.Sets.{elements, has};
+ghost use Rattle.c_handles.specs.{Copies.FillsFront, Handed.{AreAt, BothStay}};
+ghost use Rattle.bit_set_c.specs.Block.{width};
 
 use crate::block::Block;
 use crate::blocks::blocks_from;
@@ -28,7 +30,11 @@ fn copy_merged(
     from: usize,
     blocks: &mut [Block],
 ) -> usize
-    ensures { CopiesMerged merge set.now.values other.now.values from result blocks.old blocks.new }
+    ensures fills { FillsFront result (max (length (drop from (blocks_of width set.now.values)))
+        (length (drop from (blocks_of width other.now.values)))) blocks.old blocks.new }
+    ensures members { (k j : ℕ) → k < result → j < width → is_one (slice_index blocks.new k) j
+        ≡ merge_of_values merge (has (elements set.now.values) ((from + k) * width + j))
+        (has (elements other.now.values) ((from + k) * width + j)) }
 {
     merge_front(
         blocks_from(set, from),
@@ -47,8 +53,11 @@ pub extern "C" fn bit_set_copy_union(
     blocks: &mut [Block],
 ) -> usize
     requires here { AreAt set.ref_ptr set.old.at other.ref_ptr other.old.at }
-    ensures copied { CopiesMerged Merge.Union set.old.bits.values other.old.bits.values from result
-        blocks.old blocks.new }
+    ensures fills { FillsFront result (max (length (drop from (blocks_of width set.old.bits.values)))
+        (length (drop from (blocks_of width other.old.bits.values)))) blocks.old blocks.new }
+    ensures members { (k j : ℕ) → k < result → j < width → is_one (slice_index blocks.new k) j
+        ≡ merge_of_values Merge.Union (has (elements set.old.bits.values) ((from + k) * width + j))
+        (has (elements other.old.bits.values) ((from + k) * width + j)) }
     ensures kept { BothStay set.old set.new other.old other.new }
 {
     copy_merged(set.get(), other.get(), Merge::Union, from, blocks)
@@ -63,8 +72,11 @@ pub extern "C" fn bit_set_copy_intersection(
     blocks: &mut [Block],
 ) -> usize
     requires here { AreAt set.ref_ptr set.old.at other.ref_ptr other.old.at }
-    ensures copied { CopiesMerged Merge.Intersection set.old.bits.values other.old.bits.values from result
-        blocks.old blocks.new }
+    ensures fills { FillsFront result (max (length (drop from (blocks_of width set.old.bits.values)))
+        (length (drop from (blocks_of width other.old.bits.values)))) blocks.old blocks.new }
+    ensures members { (k j : ℕ) → k < result → j < width → is_one (slice_index blocks.new k) j
+        ≡ merge_of_values Merge.Intersection (has (elements set.old.bits.values) ((from + k) * width + j))
+        (has (elements other.old.bits.values) ((from + k) * width + j)) }
     ensures kept { BothStay set.old set.new other.old other.new }
 {
     copy_merged(set.get(), other.get(), Merge::Intersection, from, blocks)
@@ -79,8 +91,11 @@ pub extern "C" fn bit_set_copy_difference(
     blocks: &mut [Block],
 ) -> usize
     requires here { AreAt set.ref_ptr set.old.at other.ref_ptr other.old.at }
-    ensures copied { CopiesMerged Merge.Difference set.old.bits.values other.old.bits.values from result
-        blocks.old blocks.new }
+    ensures fills { FillsFront result (max (length (drop from (blocks_of width set.old.bits.values)))
+        (length (drop from (blocks_of width other.old.bits.values)))) blocks.old blocks.new }
+    ensures members { (k j : ℕ) → k < result → j < width → is_one (slice_index blocks.new k) j
+        ≡ merge_of_values Merge.Difference (has (elements set.old.bits.values) ((from + k) * width + j))
+        (has (elements other.old.bits.values) ((from + k) * width + j)) }
     ensures kept { BothStay set.old set.new other.old other.new }
 {
     copy_merged(set.get(), other.get(), Merge::Difference, from, blocks)
@@ -96,8 +111,11 @@ pub extern "C" fn bit_set_copy_symmetric_difference(
     blocks: &mut [Block],
 ) -> usize
     requires here { AreAt set.ref_ptr set.old.at other.ref_ptr other.old.at }
-    ensures copied { CopiesMerged Merge.Symmetric set.old.bits.values other.old.bits.values from result
-        blocks.old blocks.new }
+    ensures fills { FillsFront result (max (length (drop from (blocks_of width set.old.bits.values)))
+        (length (drop from (blocks_of width other.old.bits.values)))) blocks.old blocks.new }
+    ensures members { (k j : ℕ) → k < result → j < width → is_one (slice_index blocks.new k) j
+        ≡ merge_of_values Merge.Symmetric (has (elements set.old.bits.values) ((from + k) * width + j))
+        (has (elements other.old.bits.values) ((from + k) * width + j)) }
     ensures kept { BothStay set.old set.new other.old other.new }
 {
     copy_merged(set.get(), other.get(), Merge::Symmetric, from, blocks)

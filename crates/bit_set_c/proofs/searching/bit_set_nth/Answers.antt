@@ -1,4 +1,6 @@
-use Rattle.std.{specs.Prelude.unwrap_or, proofs.{Common.{◌∙◌, ap, slice_get}, lemmas.Option.unwrap_or-slice_get}}
+use Rattle.std.proofs.Common.{◌∙◌, ap, slice_get}
+use Rattle.std.proofs.lemmas.Option.{unwrap_or-slice_get}
+use Rattle.std.specs.Prelude.{unwrap_or}
 use Rattle.bit_words.specs.Bounds.{greatest}
 use Rattle.bit_set.specs.Sets.{elements, those_from}
 use Rattle.bit_set_c.proofs.searching.bit_set_nth.Goals as goal

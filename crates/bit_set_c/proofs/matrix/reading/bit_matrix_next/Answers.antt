@@ -1,4 +1,5 @@
-use Rattle.std.{specs.Prelude.{IfSome, ◌<◌}, proofs.Common.{sym, subst}}
+use Rattle.std.proofs.Common.{sym, subst}
+use Rattle.std.specs.Prelude.{IfSome, ◌<◌}
 use Rattle.bit_matrix.specs.Matrices.{has_at, row_of}
 use Rattle.bit_blocks.specs.Searches.{FindsFrom}
 use Rattle.bit_set_c.proofs.RowSearches.{below_greatest, finds_column, found_below}

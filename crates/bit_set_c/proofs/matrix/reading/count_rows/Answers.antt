@@ -1,5 +1,7 @@
-use Rattle.std.proofs.{Common.{◌≡◌, ◌+◌, ◌∙◌, ◌∷◌, [], ap, arith, get_or, length, min, suc, take}, Math.Seq.take-suc}
-use Rattle.std.{specs.List.sum_by, proofs.lemmas.List.{Sums.sum_by-append, Sums.sum_by-cons, take_all}}
+use Rattle.std.proofs.Common.{◌≡◌, ◌+◌, ◌∙◌, ◌∷◌, [], ap, arith, get_or, length, min, suc, take}
+use Rattle.std.proofs.Math.Seq.{take-suc}
+use Rattle.std.proofs.lemmas.List.{Sums.sum_by-append, Sums.sum_by-cons, take_all}
+use Rattle.std.specs.List.{sum_by}
 use Rattle.bit_words.specs.Bounds.{greatest}
 use Rattle.bit_set_c.proofs.matrix.reading.count_rows.Goals as goal
 

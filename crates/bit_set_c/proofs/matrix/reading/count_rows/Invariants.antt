@@ -1,4 +1,5 @@
-use Rattle.std.{specs.List.sum_by, proofs.Common.{◌≡◌, length, min, take}}
+use Rattle.std.proofs.Common.{◌≡◌, length, min, take}
+use Rattle.std.specs.List.{sum_by}
 use Rattle.bit_words.specs.Bounds.{greatest}
 use Rattle.bit_set_c.proofs.matrix.reading.count_rows.Given as goal
 
