@@ -84,7 +84,7 @@ class CallersVerdicts(unittest.TestCase):
         return callers.verdict_of(said, "keep")[0]
 
     def test_of_a_closure(self):
-        closure, function = "fn uses::keep::keep::retain: proved where its callers give what it asks", "fn uses::keep::keep: "
+        closure, function = "fn uses::keep::fn::keep::retain: proved where its callers give what it asks", "fn uses::keep::keep: "
         self.assertEqual(self.verdict(closure, function + "proved"), callers.PROVED)
         self.assertEqual(self.verdict(closure, function + "not proved"), "NOT PROVED")
         self.assertEqual(self.verdict(closure), callers.NO_VERDICT)
