@@ -8,4 +8,5 @@ pub mod Runs
 pub mod Moved
 pub mod Gaps
 pub mod Mismatches
+pub mod Parts
 pub use Rattle.bit_blocks.specs.Bounds
