@@ -9,4 +9,5 @@ pub mod Moved
 pub mod Gaps
 pub mod Measures
 pub mod Mismatches
+pub mod Parts
 pub use Rattle.bit_blocks.specs.Bounds
