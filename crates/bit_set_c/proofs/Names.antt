@@ -9,10 +9,13 @@ pub use base.Fraction.{full_share}
 pub use base.Logic.{emp, ent, fst∗, guard, guard_i, id⊢, never, never_e, sep, snd∗, SProp, via}
 pub use contract.BorrowLft.{meet_⊑_left, ◌⊑◌}
 pub use contract.Monad.{fact, fact_i, fact_mono, fact_use, Fun}
-pub use contract.Running.{tables, tables_of}
+pub use contract.Running.{tables}
+unfoldable pub use contract.Running.{tables_of}
 pub use denote.Exit.{no, yes}
-pub use denote.Follow.{follows, follows_by, lends_Part, Part, such_by}
-pub use denote.Memory.{cell_at, hidden_shr, lone, mem, part_at, part_of}
+pub use denote.Follow.{follows, lends_Part, Part}
+unfoldable pub use denote.Follow.{follows_by, such_by}
+pub use denote.Memory.{cell_at, hidden_shr, lone, mem, part_at}
+unfoldable pub use denote.Memory.{part_of}
 pub use denote.RattleType.{Denots, RattleType}
 pub use denote.RawPtr.{block_ptr, in_a_block, lies_at, null_ptr, Ptr, ptr_val, RawPtr, rawptr_Lawful, Testable, tests_null}
 pub use denote.Ref.{mut_Tells, mut_vals, MutBor, MutRef}
