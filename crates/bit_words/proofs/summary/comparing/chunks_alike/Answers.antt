@@ -39,10 +39,10 @@ returns-clause-alike g c = λ q reached below.
     let few = within g (goal.at.returns-clause-alike g c).After-unwrap_or in
     let inside : at < c.unwrap_or.result = omega (arith, reached, below) in
     let place : first + at ≡ q = omega (arith, reached) in
-    let read = λ xs. part_read number g.B.BitBlock.is_block first count at xs (omega (arith, inside, few)) in
+    let near : at < count = omega (arith, inside, few) in
     rw place at (
-    sym (ap (λ ys. get_or (map number ys) at 0) c.part_of-own.ensures ∙ read c.args.summary.now)
+    sym (ap (λ ys. get_or (map number ys) at 0) c.part_of-own.ensures ∙ part_read number g.B.BitBlock.is_block first count at c.args.summary.now near)
     ∙ same_below c.first_mismatching_block.result count c.unwrap_or.result _ _ c.unwrap_or.ensures c.first_mismatching_block.ensures at inside
     ∙ ap (λ ys. get_or (map number ys) at 0) c.part_of-other.ensures
-    ∙ read c.args.other_summary.now
+    ∙ part_read number g.B.BitBlock.is_block first count at c.args.other_summary.now near
     )

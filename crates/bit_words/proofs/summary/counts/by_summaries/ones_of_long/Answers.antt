@@ -2,7 +2,7 @@ use Rattle.std.proofs.Common.{◌≡◌, ◌+◌, ◌*◌, ◌<◌, ◌≤◌, �
 use Rattle.std.proofs.lemmas.{Bool.cases_lt, List.length-map}
 use Rattle.bit_blocks.{specs.Bits.blocks_for, proofs.BitsLemmas.{blocks_for-enough, blocks_for-le}}
 use Rattle.bit_words.{specs.MergedOnes.merged_ones, proofs.{MergedOnesLemmas.{merged_all, merged_empty, merged_more}, SummaryLemmas.stored_few}}
-use Rattle.bit_words.proofs.summary.counts.by_summaries.ones_of_long.Goals.{After-block_count-end, After-min-count, After-ones_of_chunks-shared, After-ones_of_group-ones, After-ones_past}
+use Rattle.bit_words.proofs.summary.counts.by_summaries.ones_of_long.Goals.{After-block_count-end, After-min-count, After-ones_of_chunks, After-ones_of_group-ones, After-ones_past}
 use Rattle.bit_words.proofs.summary.counts.by_summaries.ones_of_long.Goals as goal
 
 -- a group has some chunks
@@ -89,36 +89,36 @@ ones_past-requires-clause-ended g c =
     omega (arith, blocks_for-enough w c.min-least.result g.met.B.BitBlock.width_law.positive, mul-le-mul_right w whole, c.min-least.ensures)
 
 -- with those of the chunks that both lists have
-shared : (g : _) (c : After-ones_of_chunks-shared g) → c.loop-first.first ≤ c.block_count-end.result
-    → c.loop-first.ones + c.ones_of_chunks-shared.result ≡ merged_ones g.O.Operation.merge g.B.BitBlock.width
+shared : (g : _) (c : After-ones_of_chunks g) → c.loop-first.first ≤ c.block_count-end.result
+    → c.loop-first.ones + c.ones_of_chunks.result ≡ merged_ones g.O.Operation.merge g.B.BitBlock.width
     (map g.B.BitBlock.number c.args.blocks.now) (map g.B.BitBlock.number c.args.others.now) 0
     (c.block_count-end.result * g.B.BitBlock.width)
 shared g c le =
     let w = g.B.BitBlock.width in
     merged_more g.O.Operation.merge w _ _ 0 (c.loop-first.first * w) (c.block_count-end.result * w) _ _ (omega arith) (mul-le-mul_right w le) c.loop-first.invariant.counted
-    c.ones_of_chunks-shared.ensures
+    c.ones_of_chunks.ensures
 
 pub overflow_add-shared : goal.overflow_add-shared
 overflow_add-shared g c =
     let at = goal.at.overflow_add-shared g c in
-    let sum = shared g at.After-ones_of_chunks-shared (forward g at.After-block_count-end) in
+    let sum = shared g at.After-ones_of_chunks (forward g at.After-block_count-end) in
     omega (arith, sum, c.requires.fits (c.block_count-end.result * g.B.BitBlock.width))
 
 -- and those past them
 all : (g : _) (c : After-ones_past g) → c.loop-first.first ≤ c.block_count-end.result →
     let end = c.block_count-end.result * g.B.BitBlock.width in
     let ones = merged_ones g.O.Operation.merge g.B.BitBlock.width (map g.B.BitBlock.number c.args.blocks.now) (map g.B.BitBlock.number c.args.others.now) in
-    c.loop-first.ones + c.ones_of_chunks-shared.result ≡ ones 0 end →
-    c.loop-first.ones + c.ones_of_chunks-shared.result + c.ones_past.result ≡ ones 0 (end + max (length c.args.blocks.now) (length c.args.others.now))
-all g c le counted =
+    c.loop-first.ones + c.ones_of_chunks.result ≡ ones 0 end →
+    c.loop-first.ones + c.ones_of_chunks.result + c.ones_past.result ≡ ones 0 (end + max (length c.args.blocks.now) (length c.args.others.now))
+all g c le so_far =
     let end = c.block_count-end.result * g.B.BitBlock.width in
-    merged_more g.O.Operation.merge g.B.BitBlock.width _ _ 0 end (end + max (length c.args.blocks.now) (length c.args.others.now)) _ _ (omega arith) (omega arith) counted c.ones_past.ensures
+    merged_more g.O.Operation.merge g.B.BitBlock.width _ _ 0 end (end + max (length c.args.blocks.now) (length c.args.others.now)) _ _ (omega arith) (omega arith) so_far c.ones_past.ensures
 
 pub overflow_add-result : goal.overflow_add-result
 overflow_add-result g c =
     let at = goal.at.overflow_add-result g c in
     let le = forward g at.After-block_count-end in
-    let sum = all g at.After-ones_past le (shared g at.After-ones_of_chunks-shared le) in
+    let sum = all g at.After-ones_past le (shared g at.After-ones_of_chunks le) in
     omega (arith, sum, c.requires.fits (c.block_count-end.result * g.B.BitBlock.width + max (length c.args.blocks.now) (length c.args.others.now)))
 
 pub returns : goal.returns
@@ -127,6 +127,6 @@ returns g c = λ n long also.
     let w = g.B.BitBlock.width in
     let le = forward g at.After-block_count-end in
     let end = c.block_count-end.result * w + max (length c.args.blocks.now) (length c.args.others.now) in
-    all g at.After-ones_past le (shared g at.After-ones_of_chunks-shared le)
+    all g at.After-ones_past le (shared g at.After-ones_of_chunks le)
     ∙ merged_all g.O.Operation.merge w (map g.B.BitBlock.number c.args.blocks.now) (map g.B.BitBlock.number c.args.others.now) end n g.met.B.BitBlock.width_law.positive
     (rw length-map (omega arith)) (rw length-map (omega arith)) (rw length-map long) (rw length-map also)
