@@ -38,7 +38,7 @@ start() {
 # The repository that is copied from, with a file in the place of what is proved: that is a gigabyte.
 from="$room/from"
 mkdir "$from"
-libraries=(bit_blocks set_algebra bit_words bit_set bit_matrix graph_walks dataflow automata free_slots roaring roaring_bit_sets)
+libraries=(bit_blocks set_algebra bit_words bit_set bit_matrix graph_walks dataflow automata free_slots roaring roaring_treemap roaring_bit_sets)
 (cd "$top" && tar cf - --exclude=out add tools crates.txt LICENSE-* crates/evens "${libraries[@]/#/crates/}") | tar xf - -C "$from"
 for library in "${libraries[@]}"; do
     mkdir -p "$from/crates/$library/out/rlib"
@@ -136,7 +136,7 @@ try_walks() {
 
 try_everything() {
     start all
-    expect 'add fails with all libraries' add dataflow automata free_slots graph_walks roaring_bit_sets
+    expect 'add fails with all libraries' add dataflow automata free_slots graph_walks roaring_treemap roaring_bit_sets
     expect 'add does not copy all' copied "${libraries[@]}"
     for library in "${libraries[@]}"; do
         expect "the copy of $library beside all is not the library" is_copy "$library"

@@ -126,10 +126,12 @@ watch_example() {
 }
 
 try_cpp() {
-    printf '#define BIT_SET_CHECKED\n#define BIT_SET32_CHECKED\n#include "bit_set.h"\n#include "bit_set32.h"\n' > both.cc
+    for name in bit_set bit_set32 bit_roaring; do
+        printf '#define %s_CHECKED\n#include "%s.h"\n' "${name^^}" "$name"
+    done > all.cc
     for compiler in c++ clang++; do
         command -v "$compiler" > /dev/null || continue
-        if "$compiler" -std=c++17 -fsyntax-only "${warnings[@]}" -I"$library" both.cc 2> said; then
+        if "$compiler" -std=c++17 -fsyntax-only "${warnings[@]}" -I"$library" all.cc 2> said; then
             pass
         else
             cat said
@@ -143,6 +145,13 @@ try_cpp() {
         else
             cat said
             fail 'c++ does not build the example in C++'
+        fi
+        if c++ -std=c++17 "${warnings[@]}" -O2 -I"$library" -I"$here" "$here/roaring.cc" "$library/libbit_set.a" -o roaring_cc 2> said; then
+            run ./roaring_cc
+            judge 'the class of Roaring bitmaps' 0 nothing nothing
+        else
+            cat said
+            fail 'c++ does not build tests/roaring.cc'
         fi
     fi
 }
@@ -217,7 +226,7 @@ try_requests() {
 try_calls() {
     local by calls wrapped='-Wl,--wrap=malloc,--wrap=realloc,--wrap=free'
     for by in bit_set bit_set32; do
-        for calls in calls matrix; do
+        for calls in calls matrix roaring; do
             over_blocks "${by#bit_set}" "$here/c_$calls.c" > "c_$calls.c"
             if cc -std=c99 "${warnings[@]}" -O2 -I"$library" -I"$here" "c_$calls.c" "$library/libbit_set.a" -o calls 2> said; then
                 run ./calls
@@ -240,8 +249,8 @@ try_calls() {
 
 # The names that are declared are those that are exported.
 compare_names() {
-    LC_ALL=C sed -n '/^static/d; s/^[a-z].*\(bit_\(set\|matrix\)\(32\)\?_[a-z_]*\)(.*/\1/p' \
-        "$library/bit_set.h" "$library/bit_set32.h" | sort > declared
+    LC_ALL=C sed -n '/^static/d; s/^[a-z].*\(bit_\(set\|matrix\|roaring\)\(32\)\?_[a-z_]*\)(.*/\1/p' \
+        "$library"/bit_{set,set32,roaring}.h | sort > declared
     nm -D --defined-only "$library/libbit_set.so" | sed -n 's/.* T //p' | sort > exported
     if [ -s declared ] && cmp declared exported; then
         pass
@@ -271,7 +280,7 @@ try_python() {
                 cat said
                 fail 'the Python module cannot be loaded where the headers of Python 3.8 built it'
             fi
-            for file in tests faults; do
+            for file in tests roaring_tests faults; do
                 if PYTHONPATH=module python3 -B "$bindings/python/$file.py" > said 2>&1; then
                     pass
                 else

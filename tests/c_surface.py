@@ -1,5 +1,6 @@
-"""Compares the public calls of BitSet and BitMatrix with tests/c_surface.txt, the calls of the library for C with its header,
-and the packages for Rust, C++ and Python with both: which calls for C each makes, and which functions it has itself.
+"""Compares the public calls of BitSet, BitMatrix and RoaringBitmap with tests/c_surface.txt, the calls of the libraries for C
+with their headers, and the packages for Rust, C++ and Python with both: which calls for C each makes, and which functions it
+has itself.
 
 python3 c_surface.py TOP       writes a line for each difference, and ends with status 1 where there is one
 """
@@ -11,9 +12,16 @@ from collections import Counter
 from pathlib import Path
 
 
-# A type, the crate that it is in, and what the names of its calls for C begin with. The list has the calls of the first by
-# their names alone, and those of the other behind its own.
-TYPES = [("BitSet", "bit_set", ""), ("BitMatrix", "bit_matrix", "BitMatrix::")]
+# A type, the crate that it is in, the header with its calls for C, and what the names of these begin with. The list has the
+# calls of the first by their names alone, and those of the others behind their own.
+TYPES = [
+    ("BitSet", "bit_set", "bit_set.h", "bit_set_", ""),
+    ("BitMatrix", "bit_matrix", "bit_set.h", "bit_matrix_", "BitMatrix::"),
+    ("RoaringBitmap", "roaring", "bit_roaring.h", "bit_roaring_", "RoaringBitmap::"),
+]
+
+# Each header, and the crate that exports its calls.
+HEADERS = {"bit_set.h": "bit_set_c", "bit_roaring.h": "bit_roaring_c"}
 
 
 def texts_in(folder, pattern):
@@ -22,27 +30,28 @@ def texts_in(folder, pattern):
 
 
 def rattle_calls(sources, name):
-    """The names of the functions that the blocks `impl .. NAME<..>` of the sources have, without those of a trait."""
+    """The names of the functions that the blocks `impl .. NAME` of the sources have, without those of a trait."""
     calls = set()
     for text in texts_in(sources, "*.rt"):
         inside = False
         for line in text.splitlines():
             if line.startswith("impl"):
-                inside = bool(re.match(rf"impl(<[^>]*>)? {name}<", line))
+                inside = bool(re.match(rf"impl(<[^>]*>)? {name}[< ]", line))
             elif inside and (found := re.match(r"    pub fn (\w+)", line)):
                 calls.add(found.group(1))
     return calls
 
 
 # The calls for C: those that are exported, those that the header declares, and those that each package makes.
-def exported(top):
-    texts = texts_in(top / "crates/bit_set_c/src", "*.rt")
+def exported(top, crate):
+    texts = texts_in(top / "crates" / crate / "src", "*.rt")
     return {name for text in texts for name in re.findall(r'^pub extern "C" fn (\w+)', text, re.MULTILINE)}
 
 
-def declared(top):
-    lines = (top / "bindings/c/bit_set.h").read_text().splitlines()
-    found = [re.match(r"[a-z].*\b(bit_(?:set|matrix)_[a-z_]+)\(", line) for line in lines if not line.startswith("static")]
+def declared(top, header):
+    lines = (top / "bindings/c" / header).read_text().splitlines()
+    names = r"[a-z].*\b(bit_(?:set|matrix|roaring)_[a-z_]+)\("
+    found = [re.match(names, line) for line in lines if not line.startswith("static")]
     return {it.group(1) for it in found if it}
 
 
@@ -50,7 +59,9 @@ def made_in_bit_set_sys(top):
     text = (top / "bindings/rust/bit-set-sys/src/lib.rs").read_text()
     parts = zip(re.split(r"^calls! \{", text, flags=re.MULTILINE)[1:], ["bit_set_", "bit_matrix_"])
     lines = [(prefix, line) for part, prefix in parts for line in part.splitlines()]
-    return {prefix + name for prefix, line in lines for name in re.findall(r"^        \[?(\w+)(?:\(| of)", line)}
+    found = {prefix + name for prefix, line in lines for name in re.findall(r"^        \[?(\w+)(?:\(| of)", line)}
+    roaring = (top / "bindings/rust/bit-set-sys/src/roaring.rs").read_text()
+    return found | set(re.findall(r"^    pub fn (bit_roaring_\w+)", roaring, re.MULTILINE))
 
 
 def made_in_bit_set(top):
@@ -62,9 +73,14 @@ def made_in_bit_set(top):
     return found & made_in_bit_set_sys(top)
 
 
+def made_in_roaring(top):
+    texts = texts_in(top / "bindings/rust/roaring/src", "*.rs")
+    return {name for text in texts for name in re.findall(r"\bbit_roaring_\w+", text)}
+
+
 def made_in_python(top):
     texts = texts_in(top / "bindings/python/src", "*.c")
-    return {name for text in texts for name in re.findall(r"\bbit_(?:set|matrix)_\w+", text)}
+    return {name for text in texts for name in re.findall(r"\bbit_(?:set|matrix|roaring)_\w+", text)}
 
 
 # The functions of each package, by the types that they are of. One name may stand for several.
@@ -74,11 +90,11 @@ def functions_in_rust(folder, own):
     for text in texts_in(folder / "src", "*.rs"):
         name = trait = None
         for line in text.splitlines():
-            if head := re.match(r"(?:unsafe )?impl(?:<[^>]*>)? (?:([\w:]+)(?:<&?\w+>)? for )?&?(?:'\w+ )?(\w+)", line):
+            if head := re.match(r"(?:unsafe )?impl(?:<[^>]*>)? (?:([\w:]+)(?:<&?(?:'\w+ )?\w+>)? for )?&?(?:'\w+ )?(\w+)", line):
                 trait, name = head.groups()
             elif made := re.match(r"    [A-Z]\w+(?: over .*)?, (\w+)(?: of other)?[:;]", line):
                 found.setdefault(own, Counter())[made.group(1)] += 1
-            elif made := re.match(r"    [A-Z]\w+ (\w+), [A-Z]\w+ (\w+): ", line):
+            elif made := re.match(r"    [A-Z]\w+ (\w+), [A-Z]\w+ (\w+):(?: |$)", line):
                 found.setdefault(own, Counter()).update(made.groups())
             elif (it := re.match(r"    (pub )?(?:const |unsafe )*fn (\w+)", line)) and name and (it.group(1) or trait):
                 found.setdefault(name, Counter())[it.group(2)] += 1
@@ -90,7 +106,9 @@ def functions_in_rust(folder, own):
 def functions_in_cpp(top):
     """The public ones of each class, with its operators."""
     found, name, is_public = {}, None, False
-    for line in (top / "bindings/c/bit_set.hpp").read_text().splitlines():
+    # Not those that bindings/c/build copied into bindings/c/out.
+    texts = [path.read_text() for path in sorted((top / "bindings/c").glob("*.hpp"))]
+    for line in [line for text in texts for line in text.splitlines()]:
         if head := re.match(r"class (\w+) \{", line):
             name, is_public = head.group(1), False
         elif line == "public:":
@@ -103,9 +121,11 @@ def functions_in_cpp(top):
 def functions_in_python(top):
     """The methods and attributes in the tables of the module."""
     text = (top / "bindings/python/src/module.c").read_text()
-    methods = {name: re.findall(rf"^    METHOD\({name}, (\w+)", text, re.MULTILINE) for name in ("set", "matrix")}
+    types = {"set": "BitSet", "bitmap": "RoaringBitmap", "matrix": "BitMatrix"}
+    found = {name: Counter(re.findall(rf"^    METHOD\({of}, (\w+)", text, re.MULTILINE)) for of, name in types.items()}
     attributes = re.search(r"matrix_attributes\[\] = \{(.*?)\n\};", text, re.DOTALL).group(1)
-    return {"BitSet": Counter(methods["set"]), "BitMatrix": Counter(methods["matrix"] + re.findall(r'\{"(\w+)"', attributes))}
+    found["BitMatrix"].update(re.findall(r'\{"(\w+)"', attributes))
+    return found
 
 
 def functions_in_stub(top):
@@ -122,6 +142,7 @@ def functions_in_stub(top):
 FUNCTIONS = {
     "bit-set": lambda top: functions_in_rust(top / "bindings/rust/bit-set", "BitSet"),
     "fixedbitset": lambda top: functions_in_rust(top / "bindings/rust/fixedbitset", "FixedBitSet"),
+    "roaring": lambda top: functions_in_rust(top / "bindings/rust/roaring", "RoaringBitmap"),
     "C++": functions_in_cpp,
     "Python": functions_in_python,
     "Python's types": functions_in_stub,
@@ -155,16 +176,22 @@ class List:
         return found
 
 
-def compare_calls(top, listed, known):
-    for name, crate, before in TYPES:
+def compare_calls(top, listed):
+    for name, crate, header, prefix, before in TYPES:
         calls = {before + call for call in rattle_calls(top / "crates" / crate / "src", name)}
-        own = {it: names for it, names in listed.calls.items() if it.startswith("BitMatrix::") == bool(before)}
+        own = {it: names for it, names in listed.calls.items() if it.rpartition("::")[0] == before.removesuffix("::")}
         yield from (f"{call} has no line in tests/c_surface.txt" for call in calls - set(own))
         yield from (f"{crate} has no {call}, which tests/c_surface.txt lists" for call in set(own) - calls)
-        exports = [(call, f"{crate}_{each}") for call, names in own.items() for each in names]
-        yield from (f"{call}: bit_set.h has no {export}" for call, export in exports if export not in known)
-    yield from (f"bit_set.h has no {name}, which bit_set_c exports" for name in exported(top) - known)
-    yield from (f"bit_set.h has {name}, which bit_set_c does not export" for name in known - exported(top))
+        exports = [(call, prefix + each) for call, names in own.items() for each in names]
+        known = declared(top, header)
+        yield from (f"{call}: {header} has no {export}" for call, export in exports if export not in known)
+
+
+def compare_headers(top):
+    for header, crate in HEADERS.items():
+        known, made = declared(top, header), exported(top, crate)
+        yield from (f"{header} has no {name}, which {crate} exports" for name in made - known)
+        yield from (f"{header} has {name}, which {crate} does not export" for name in known - made)
 
 
 def compare_made(package, made, without, known):
@@ -182,15 +209,16 @@ def compare_functions(package, found, wanted):
 
 def main():
     top = Path(sys.argv[1])
-    listed, known = List(top / "tests/c_surface.txt"), declared(top)
-    faults = [*compare_calls(top, listed, known)]
-    in_rust = made_in_bit_set_sys(top)
+    listed, known = List(top / "tests/c_surface.txt"), declared(top, "bit_set.h")
+    faults = [*compare_calls(top, listed), *compare_headers(top)]
+    in_rust, all_known = made_in_bit_set_sys(top), known | declared(top, "bit_roaring.h")
     for package, made, among in [
-        ("bit-set-sys", in_rust, known),
-        ("bit-set", made_in_bit_set(top), in_rust),
-        ("Python", made_in_python(top), known),
+        ("bit-set-sys", in_rust, all_known),
+        ("bit-set", made_in_bit_set(top), in_rust & known),
+        ("roaring", made_in_roaring(top), in_rust - known),
+        ("Python", made_in_python(top), all_known),
     ]:
-        faults += compare_made(package, made, listed.left_out(package, known), among)
+        faults += compare_made(package, made, listed.left_out(package, all_known), among)
     for package, functions in FUNCTIONS.items():
         faults += compare_functions(package, functions(top), listed.functions(package))
     print("\n".join(sorted(faults)), end="\n" if faults else "")

@@ -25,6 +25,9 @@ PROVED, NO_VERDICT = "proved", "NO VERDICT"
 # The crate that they stand in for.
 CRATE = "uses"
 
+# What the prover says of a closure by itself. The line of the function that hands it on says whether it gives what that asks.
+OF_CLOSURE = "proved where its callers give what it asks"
+
 
 def name_of(caller):
     """A caller as words and rows name it."""
@@ -98,9 +101,10 @@ def verdict_of(said, name):
     """What the prover says of the functions of a module, and the line that shows it."""
     lines = [line for line in said if line.startswith(f"fn {CRATE}::{name}::")]
     faults = [line for line in said if re.match(rf"(\./)?(src|proofs)/{name}[./]", line) and "error" in line]
-    others = faults + [line for line in lines if not line.endswith(": proved")]
+    proved = [line for line in lines if line.endswith(": proved")]
+    others = faults + [line for line in lines if line not in proved and not line.endswith(OF_CLOSURE)]
     if not others:
-        return (PROVED, lines[0]) if lines else (NO_VERDICT, " ".join(said)[-300:])
+        return (PROVED, proved[0]) if proved else (NO_VERDICT, " ".join(said)[-300:])
     return "NOT PROVED", others[0]
 
 

@@ -17,6 +17,7 @@ import unittest.mock
 from pathlib import Path
 
 import all_edits
+import callers
 from copies import crates_of, edits_of, folders_of_edits, texts_of
 from edits import REFUSED, verdict_of
 
@@ -76,6 +77,17 @@ class Verdicts(unittest.TestCase):
 
     def test_of_an_end_before_the_function(self):
         self.assertEqual(self.verdict(WRONG), "NO VERDICT")
+
+
+class CallersVerdicts(unittest.TestCase):
+    def verdict(self, *said):
+        return callers.verdict_of(said, "keep")[0]
+
+    def test_of_a_closure(self):
+        closure, function = "fn uses::keep::fn::keep::retain: proved where its callers give what it asks", "fn uses::keep::keep: "
+        self.assertEqual(self.verdict(closure, function + "proved"), callers.PROVED)
+        self.assertEqual(self.verdict(closure, function + "not proved"), "NOT PROVED")
+        self.assertEqual(self.verdict(closure), callers.NO_VERDICT)
 
 
 class Records(unittest.TestCase):

@@ -41,6 +41,7 @@ make_room || exit 1
 # - `many` is one in 16 numbers, scattered, and `full` is all below n. What takes constant time for each number or block
 #   takes 16 times as many. An operation in place that passes over all blocks may take 4 instructions for each, or 8 where it
 #   makes the summary too, so that it reads and writes each of them once.
+# - One `of_short` is beside {0, 40,000}, whose summary has 10 blocks, and one `of_others` beside a set that lacks 3.
 # - A call on a range takes 1,000 numbers in the middle, the same at each n; one named `_of_all` takes all from 2 to n.
 # - A graph is a chain of n nodes, whose closure merges about n² / 2 rows; of `solve` each of n blocks is visited twice.
 rows="$(
@@ -77,6 +78,7 @@ toggle_range                  two    65536  1.2       360
 contains_all_in_range         full   65536  1.2       180
 contains_any_in_range         two    65536  1.2       180
 count_in_range                two    65536  1.2       210
+copy_range                    full   65536   17    190000
 insert_range_of_all           two    65536   17    190000
 remove_range_of_all           two    65536  4.2      1600
 toggle_range_of_all           two    65536   17    180000
@@ -110,6 +112,15 @@ intersection_of               many   65536   17   1070000
 eq                            two    65536    4      2000
 eq                            many   65536   17     49000
 intersection_count            two    65536  2.7      1900
+intersection_count_of_short   full   65536  1.2      9000
+difference_count_of_short     full   65536  1.2      9000
+union_count_of_short          two    65536  1.4      9600
+union_count_of_short          full   65536    7     86000
+is_subset_of_short            full   65536  1.2      9000
+is_disjoint_of_short          two    65536  1.2      9000
+eq_of_others                  two    65536  1.2      9000
+eq_of_others                  many   65536  1.2      9000
+less_of_others                two    65536   10    115000
 close                         two       32  260  15000000
 transitive_closure            two       32  340  12000000
 reflexive_transitive_closure  two       32  330  12000000

@@ -1,5 +1,5 @@
-# What bindings/c/build and release share: the crate bit_set_c, proved and compiled to assembly, and the source release
-# that is made of it. To be sourced after tools/ending.sh and tools/copy.sh.
+# What bindings/c/build and release share: the crates of exports, proved and compiled to assembly, and the source release
+# that is made of them. To be sourced after tools/ending.sh and tools/copy.sh.
 # shellcheck shell=bash disable=SC2034,SC2154
 
 # A program would take what is closed here for the first file that it opens, as bash does for the script.
@@ -19,11 +19,21 @@ use_sources() {
 use_sources "$(dirname "$(dirname "$(readlink -f "${BASH_SOURCE[0]}")")")"
 kit="$(dirname "$(rt doc | head -n 1)")"
 
-# The libraries that the crate stands on, the highest first.
+# The crates of exports, and the files of assembly that are made of them.
+exporting=(bit_set_c bit_roaring_c)
+assemblies=(bit_set bit_set32 bit_roaring)
+
+# The crate of exports that a file of assembly is made of.
+crate_of() {
+    echo "${1%32}_c"
+}
+
+# The libraries that a crate of exports stands on, or all of these.
+#   libraries_below [CRATE]
 libraries_below() {
     local name
     # shellcheck disable=SC2013  # each word is a name
-    for name in $(sed -n 's/^bit_set_c staticlib: *//p' "$top/crates.txt"); do
+    for name in $(sed -n "s/^${1:-[a-z_]*} staticlib: *//p" "$top/crates.txt" | tr ' ' '\n' | awk '!seen[$0]++'); do
         [ ! -d "$crates/$name" ] || echo "$name"
     done
 }
@@ -35,13 +45,13 @@ prove_below() {
     done
 }
 
-# Copies the crate over blocks of 64 bits or of 32: three files say which blocks there are.
-#   copy_crate BITS FOLDER
+# Copies the crate for a file of assembly. Over blocks of 32 bits three files say so.
+#   copy_crate ASSEMBLY FOLDER
 copy_crate() {
     mkdir -p "$2/out"
-    (cd "$crates/bit_set_c" && cp -r src specs proofs "$2")
-    if [ "$1" != 64 ]; then
-        (cd "$2" && sed -i "s/u64/u$1/g; s/U64/U$1/g; s/64/$1/g" src/block.rt specs/Block.antt proofs/Sets.antt)
+    (cd "$crates/$(crate_of "$1")" && cp -r src specs proofs "$2")
+    if [ "$1" = bit_set32 ]; then
+        (cd "$2" && sed -i 's/u64/u32/g; s/U64/U32/g; s/64/32/g' src/block.rt specs/Block.antt proofs/Sets.antt)
     fi
 }
 
@@ -80,30 +90,30 @@ END
 
 # Proves the crate in a folder for a processor, over the libraries as they are proved, and writes its assembly. What is
 # said goes to FILE.said, with the verdict as the last line.
-#   assemble CRATE PROCESSOR FILE [KEPT]      KEPT is a folder that keeps what is proved for the next processor or run
+#   assemble CRATE FOLDER PROCESSOR FILE [KEPT]    KEPT is a folder that keeps what is proved for the next processor or run
 assemble() {
-    local crate="$1" processor="$2" file="$3" name made words
+    local crate="$1" folder="$2" processor="$3" file="$4" name made words
     local target=x86_64-unknown-linux-gnu cpu="$processor"
     if [ "$processor" = aarch64 ]; then
         target=aarch64-unknown-linux-gnu
         cpu=generic
     fi
-    words=(--crate-name bit_set_c --crate-type staticlib --links bit_set_c= --target "$target" --cpu "$cpu")
-    if [ $# -ge 4 ]; then
-        mkdir -p "$4"
-        words+=(--incremental "$4")
+    words=(--crate-name "$crate" --crate-type staticlib --links "$crate=" --target "$target" --cpu "$cpu")
+    if [ $# -ge 5 ]; then
+        mkdir -p "$5"
+        words+=(--incremental "$5")
     fi
-    for name in $(libraries_below); do
+    for name in $(libraries_below "$crate"); do
         words+=(--extern "$name=$crates/$name/out/rlib/$name.rlib" -L "dependency=$crates/$name/out/rlib")
     done
     words+=(--extern "std=$kit/rlibs/std.rlib" -L "dependency=$kit/rlibs")
     words+=(--antt-project "$kit/rattle/logic/antt-project.json" --logic-built "$kit/logic_built")
-    made="$crate/out/$processor"
+    made="$folder/out/$processor"
     make_toolchain "$made" "$target"
-    words+=(--toolchain "$made" -o "$made/libbit_set_c.a" src/lib.rt)
-    if ! (cd "$crate" && "$kit/bin/rattle" build "${words[@]}") > "$file.said" 2>&1; then
+    words+=(--toolchain "$made" -o "$made/lib$crate.a" src/lib.rt)
+    if ! (cd "$folder" && "$kit/bin/rattle" build "${words[@]}") > "$file.said" 2>&1; then
         cat "$file.said" >&2
-        echo "${0##*/}: the library is not proved or not built for $processor" >&2
+        echo "${0##*/}: $crate is not proved or not built for $processor" >&2
         return 1
     fi
     tail -n 1 "$file.said" >&2
@@ -112,18 +122,18 @@ assemble() {
 
 # Writes assembly for the source release: the calls that take memory under the names that mem.c has for them, what
 # describes frames where a program finds it as it runs, inner names of letters that older assemblers take too, and over
-# blocks of other bits than 64 each exported name with these in it.
-#   name_calls BITS < ASSEMBLY
+# blocks of 32 bits each exported name with 32 in it.
+#   name_calls ASSEMBLY < FILE
 name_calls() {
     # In Turkish, i is none of a-z.
     local -x LC_ALL=C
     local text memory='s/\brattle_\(alloc\|realloc\|dealloc\)\b/bit_set_c_\1/g'
     text="$(sed "$memory; /^\t\.cfi_sections \.debug_frame\$/d" | plain_names)"
-    if [ "$1" = 64 ]; then
+    if [ "$1" != bit_set32 ]; then
         echo "$text"
         return
     fi
-    local exported='s/^\t\.globl\t\(bit_[a-z]*\)\(_[a-z0-9_]*\)\b.*/s,\\b\1\2\\b,\1'"$1"'\2,g/p'
+    local exported='s/^\t\.globl\t\(bit_[a-z]*\)\(_[a-z0-9_]*\)\b.*/s,\\b\1\2\\b,\132\2,g/p'
     sed -f <(sed -n "$exported" <<< "$text") <<< "$text"
 }
 
@@ -142,27 +152,29 @@ plain_names() {
     }'
 }
 
-# Proves the crate over blocks of 64 bits and of 32 at once, each by one process, and writes their assembly into the
-# folder of the processor that the source release has in SOURCE. The copies of the crate stay in CRATES.
-#   assemble_both PROCESSOR CRATES SOURCE [KEPT]
-assemble_both() {
-    local processor="$1" copies="$2" source="$3" bits beside=() keeping
+# Proves all crates of exports at once, that of sets over blocks of 64 bits and of 32, each by one process, and writes their
+# assembly into the folder of the processor that the source release has in SOURCE. The copies of the crates stay in COPIES.
+#   assemble_all PROCESSOR COPIES SOURCE [KEPT]
+assemble_all() {
+    local processor="$1" copies="$2" source="$3" name process beside=()
     mkdir -p "$source/src/$processor"
-    for bits in 32 64; do
-        [ -d "$copies/$bits" ] || copy_crate "$bits" "$copies/$bits"
-        keeping=(${4:+"$4/$bits"})
-        start_group assemble "$copies/$bits" "$processor" "$copies/$bits/$processor.s" "${keeping[@]}" < /dev/null
+    for name in "${assemblies[@]}"; do
+        [ -d "$copies/$name" ] || copy_crate "$name" "$copies/$name"
+        start_group assemble "$(crate_of "$name")" "$copies/$name" "$processor" "$copies/$name/$processor.s" \
+            ${4:+"$4/$name"} < /dev/null
         beside+=("$!")
     done
-    wait_group "${beside[0]}"
-    wait_group "${beside[1]}"
-    name_calls 64 < "$copies/64/$processor.s" > "$source/src/$processor/bit_set.s"
-    name_calls 32 < "$copies/32/$processor.s" > "$source/src/$processor/bit_set32.s"
+    for process in "${beside[@]}"; do
+        wait_group "$process"
+    done
+    for name in "${assemblies[@]}"; do
+        name_calls "$name" < "$copies/$name/$processor.s" > "$source/src/$processor/$name.s"
+    done
 }
 
 # The headers, of which that over blocks of 32 bits is made of the other.
 write_headers() {
-    cp "$c"/bit_set.{h,hpp} "$1"
+    cp "$c"/bit_{set,roaring}.{h,hpp} "$1"
     sed 's/bit_\(set\|matrix\)/bit_\132/g; s/bit_set32_c\b/bit_set_c/; s/BIT_\(SET\|MATRIX\)/BIT_\132/g
         s/uint64_t bit_set32_block/uint32_t bit_set32_block/
         s/blocks have 64 bits/blocks have 32 bits/; s,n % 64,n % 32,; s,n / 64,n / 32,' "$c/bit_set.h" > "$1/bit_set32.h"
@@ -172,13 +184,14 @@ write_headers() {
 # what an editor or a compiler left beside them, of which git may be told to say nothing, is no part of it.
 find_parts() {
     local name part
-    parts=(./crates.txt ./CHANGELOG.md ./LICENSE-{MIT,APACHE} ./bindings/c/bit_set.{h,hpp} ./bindings/c/example.{c,cc,out}
+    parts=(./crates.txt ./CHANGELOG.md ./LICENSE-{MIT,APACHE} ./bindings/c/bit_{set,roaring}.{h,hpp}
+        ./bindings/c/compat/roaring/roaring{,_bytes,_iterators}.h ./bindings/c/example.{c,cc,out}
         ./bindings/c/source/{Makefile,CMakeLists.txt,README.md,mem.c})
     [ ! -f "$top/HANDLES" ] || parts+=(./HANDLES)
     for name in "$top"/tests/c_*.[ch]; do
         parts+=("./tests/${name##*/}")
     done
-    for name in bit_set_c $(libraries_below); do
+    for name in "${exporting[@]}" $(libraries_below); do
         for part in src specs proofs; do
             [ ! -d "$crates/$name/$part" ] || parts+=("crates/$name/$part")
         done
@@ -187,9 +200,10 @@ find_parts() {
 
 # Writes all of the source release into a folder but for its assembly.
 write_source() {
-    mkdir -p "$1"/{include,src,examples,tests}
+    mkdir -p "$1"/{include,src,examples,tests,compat/roaring}
     cp "$c"/source/{Makefile,CMakeLists.txt,README.md} "$top"/LICENSE-{MIT,APACHE} "$top/CHANGELOG.md" "$1"
     cp "$c/source/mem.c" "$1/src"
+    cp "$c"/compat/roaring/*.h "$1/compat/roaring"
     cp "$c"/example.{c,cc,out} "$1/examples"
     cp "$top"/tests/c_*.[ch] "$1/tests"
     write_headers "$1/include"

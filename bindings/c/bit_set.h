@@ -20,6 +20,7 @@
  *                           union_with_difference, union_with_intersection, become_difference, append, copy
  *   A whole set             truncate, make_empty, reset, shift_up, shift_down
  *   Capacity                reserve, reserve_exact, shrink_to_fit
+ *   Roaring bitmaps         from_roaring, to_roaring; bit_roaring.h has all others
  *
  * and those on matrices, whose names begin with bit_matrix_:
  *
@@ -90,7 +91,7 @@ typedef uint64_t bit_set_block;
 
 /* The results of calls that return an `int32_t`: a number below 0 if they failed, and then nothing changed. */
 enum bit_set_answer {
-    BIT_SET_NO_ELEMENT = -2, /* SIZE_MAX is in no set */
+    BIT_SET_NO_ELEMENT = -2, /* SIZE_MAX is in no set, and no number above UINT32_MAX in a Roaring bitmap */
     BIT_SET_NO_MEMORY = -1,
     BIT_SET_NO = 0,
     BIT_SET_YES = 1
@@ -372,6 +373,18 @@ bool bit_set_reserve_exact(bit_set *set, size_t length) BIT_SET_MAY_FAIL;
 /* Sets the length to the end of the last nonempty block, and gives back the capacity past it. False if some of it stayed
  * because memory ran out; the length has changed then too. */
 bool bit_set_shrink_to_fit(bit_set *set) BIT_SET_CALL;
+
+/* ---- Roaring bitmaps, of bit_roaring.h. Both go through the ranges of 65,536 numbers that have members: up to 4,096 of
+ * them one by one, and more as blocks. */
+
+struct bit_roaring;
+
+/* The set of the members of a Roaring bitmap. Its length is one more than the greatest, or 0. */
+bool bit_set_from_roaring(bit_set **out, const struct bit_roaring *bitmap) BIT_SET_MAY_FAIL;
+
+/* The Roaring bitmap of the members, which must be freed by `bit_roaring_free`. BIT_SET_YES, BIT_SET_NO_MEMORY, or
+ * BIT_SET_NO_ELEMENT if a member is above UINT32_MAX. No container is stored as runs. */
+int32_t bit_set_to_roaring(struct bit_roaring **out, const bit_set *set) BIT_SET_MAY_FAIL;
 
 /* ---- Matrices: rows of columns, each row a set, all in one piece of memory. The numbers of rows and columns are
  * fixed. The caller must keep each row and column that a call is given below them. If BIT_SET_CHECKED is defined before

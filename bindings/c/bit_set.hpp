@@ -23,11 +23,13 @@
 #endif
 
 class BitMatrix;
+class BitRoaring;
 
 class BitSet {
     bit_set *set_ = nullptr;
 
     friend BitMatrix;
+    friend BitRoaring;
 
     explicit BitSet(bit_set *set) : set_(set) {}
 

@@ -1,6 +1,8 @@
-/* The primes below 100 by the sieve of Eratosthenes, and how many are not of the form 4n + 1; and the nodes that a node of
- * a graph reaches. */
+/* The primes below 100 by the sieve of Eratosthenes, how many are not of the form 4n + 1, and all of them as bytes that
+ * other systems read; and the nodes that a node of a graph reaches. */
+#include "bit_roaring.h"
 #include "bit_set.h"
+#include <inttypes.h>
 #include <stdio.h>
 
 #define LIMIT 100
@@ -26,6 +28,17 @@ static bool close_edges(bit_matrix **graph) {
     return true;
 }
 
+/* Writes the set as bytes, and makes another of them. */
+static bool read_again(bit_roaring **again, size_t *used, const bit_set *set) {
+    bit_roaring *bitmap = NULL;
+    uint8_t bytes[128];
+    bool done = bit_set_to_roaring(&bitmap, set) == BIT_SET_YES
+                && bit_roaring_serialize(bitmap, bytes, sizeof bytes) == BIT_ROARING_YES
+                && bit_roaring_deserialize(again, bytes, sizeof bytes, used) == BIT_ROARING_YES;
+    bit_roaring_free(bitmap);
+    return done;
+}
+
 static void print(const bit_set *set) {
     size_t members[8], from = 0, count;
     while ((count = bit_set_copy_members(set, from, members, 8)) > 0) {
@@ -38,8 +51,11 @@ static void print(const bit_set *set) {
 
 int main(void) {
     bit_set *primes = NULL, *others = NULL;
+    bit_roaring *again = NULL;
+    size_t used = 0;
     bit_matrix *graph = NULL;
-    bool done = bit_set_new(&primes) && sieve(primes) && bit_set_clone(&others, primes) && close_edges(&graph);
+    bool done = bit_set_new(&primes) && sieve(primes) && bit_set_clone(&others, primes) && read_again(&again, &used, primes)
+                && close_edges(&graph);
     if (done) {
         for (size_t number = 1; number < LIMIT; number += 4)
             bit_set_remove(others, number);
@@ -47,12 +63,14 @@ int main(void) {
         print(primes);
         printf("%zu of them are not 4n + 1: subset %d, disjoint %d, compare %d\n", bit_set_count(others),
                bit_set_is_subset(others, primes), bit_set_is_disjoint(others, primes), bit_set_compare(others, primes));
+        printf("%zu bytes say that the greatest is %" PRIu64 "\n", used, bit_roaring_max(again));
         printf("0 reaches");
         BIT_MATRIX_FOR_EACH(node, graph, 0)
             printf(" %zu", node);
         printf("\n");
     }
     bit_matrix_free(graph);
+    bit_roaring_free(again);
     bit_set_free(others);
     bit_set_free(primes);
     if (!done)

@@ -33,10 +33,10 @@ sums() {
     (cd "$release" && sha256sum -c SHA256SUMS && [ "$(cut -d ' ' -f 3 SHA256SUMS)" = "$(LC_ALL=C ls -I SHA256SUMS)" ])
 }
 
-# Eight, of which each says that all is proved.
+# One for each of three files of four processors, of which each says that all is proved.
 verdicts() {
     grep -q '^Commit: *[0-9a-f]\{40\}$' "$release/PROOF.txt" \
-        && [ "$(grep -c ' bits  logic=proved ' "$release/PROOF.txt")" -eq 8 ]
+        && [ "$(grep -c '^[a-z0-9-]*  *bit_[a-z0-9]*  *logic=proved ' "$release/PROOF.txt")" -eq 12 ]
 }
 
 tells() {

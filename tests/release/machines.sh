@@ -29,12 +29,14 @@ try_here() {
     cp -r "$source" "$room/packages"
     try 'the packages for Python and Rust from the source release' bare sh -ec "
         cd '$room/packages' && make -s && bindings/python/build include MODULE build/x86-64/libbit_set.a
-        PYTHONPATH=\$PWD/MODULE python3 bindings/python/tests.py
+        export PYTHONPATH=\$PWD/MODULE
+        python3 bindings/python/tests.py && python3 bindings/python/roaring_tests.py
         cd bindings/rust && BIT_SET_LIBRARY_DIR=\$PWD/../../build/x86-64 cargo test --offline"
     for flags in '' -Ctarget-cpu=x86-64-v3; do
         try "the tests of Cargo's packages, with RUSTFLAGS=$flags" bare sh -ec "
             export RUSTFLAGS='$flags'
-            cd '$at'/bit-set-[0-9]* && cargo test --offline && cd ../fixedbitset-* && cargo test --offline"
+            cd '$at'/bit-set-[0-9]* && cargo test --offline && cd ../fixedbitset-* && cargo test --offline
+            cd ../roaring-* && cargo test --offline"
     done
 }
 
@@ -158,11 +160,16 @@ try_arm_module() {
     fi
     mkdir -p "$room/arm-wheel"
     python3 -m zipfile -e "$release/bit_set-$version"-cp38-abi3-*_aarch64.whl "$room/arm-wheel"
-    try 'aarch64: the tests of Python over the wheel' on_arm -E PYTHONHOME="$sysroot/usr" -E PYTHONPATH="$room/arm-wheel" \
-        "$sysroot/usr/bin/python3" "$source/bindings/python/tests.py"
+    local tests
+    for tests in tests roaring_tests; do
+        try "aarch64: Python's $tests over the wheel" on_arm -E PYTHONHOME="$sysroot/usr" -E PYTHONPATH="$room/arm-wheel" \
+            "$sysroot/usr/bin/python3" "$source/bindings/python/$tests.py"
+    done
     dpkg-deb -x "$release/python3-bit-set_$version-1_arm64.deb" "$room/arm-packages"
-    try 'aarch64: the tests of Python over the packages' on_arm -E PYTHONHOME="$sysroot/usr" \
-        -E PYTHONPATH="$room/arm-packages/usr/lib/python3/dist-packages" \
-        -E LD_LIBRARY_PATH="$room/arm-packages/usr/lib/aarch64-linux-gnu" \
-        "$sysroot/usr/bin/python3" "$source/bindings/python/tests.py"
+    for tests in tests roaring_tests; do
+        try "aarch64: Python's $tests over the packages" on_arm -E PYTHONHOME="$sysroot/usr" \
+            -E PYTHONPATH="$room/arm-packages/usr/lib/python3/dist-packages" \
+            -E LD_LIBRARY_PATH="$room/arm-packages/usr/lib/aarch64-linux-gnu" \
+            "$sysroot/usr/bin/python3" "$source/bindings/python/$tests.py"
+    done
 }

@@ -62,12 +62,13 @@ try_packages() {
         try "$on: the loader takes the object for v3" inside 'ldd ./shared | grep -F x86-64-v3/libbit_set.so'
     fi
     local calls
-    for calls in c_calls c_matrix; do
+    for calls in c_calls c_matrix c_roaring; do
         try "$on: random calls of $calls over the shared object" inside "
             gcc -O2 bit_set-\$VERSION/tests/$calls.c \$(pkg-config --cflags --libs bit_set) -o $calls
             ./$calls \$ROUNDS"
     done
     try "$on: the tests of Python over the package" inside 'python3 bit_set-$VERSION/bindings/python/tests.py
+        python3 bit_set-$VERSION/bindings/python/roaring_tests.py
         [ "$(python3 -c "from importlib import metadata; print(metadata.version(\"bit-set\"))")" = "$VERSION" ]
         python3 -m pip list | grep "^bit[-_]set "'
     try "$on: the packages are removed" inside '
@@ -97,7 +98,9 @@ try_module() {
     try "$on: pip installs the wheel" inside '
         python3 -m venv "/en v" && "/en v/bin/python" -m pip install --no-index bit_set-$VERSION-cp38-abi3-*_x86_64.whl
         "/en v/bin/python" -m pip check'
-    try "$on: the tests of Python over the wheel" inside '"/en v/bin/python" bit_set-$VERSION/bindings/python/tests.py'
+    try "$on: the tests of Python over the wheel" inside '
+        "/en v/bin/python" bit_set-$VERSION/bindings/python/tests.py
+        "/en v/bin/python" bit_set-$VERSION/bindings/python/roaring_tests.py'
     try "$on: pip removes it" inside '
         "/en v/bin/python" -m pip uninstall -y bit_set && ! find "/en v" -iname "*bit_set*" | grep .'
 }
@@ -144,12 +147,15 @@ try_readme() {
     try "$on: README for C" inside "
         cd /readme && sh -eu c.sh
         cc example.c -lbit_set -o example
-        [ \"\$(./example | tr '\n' ' ')\" = '10 11 12 13 14 15 16 17 18 19 400 ' ]"
+        [ \"\$(./example | tr '\n' ' ')\" = '10 11 12 13 14 15 16 17 18 19 400 ' ]
+        cc roaring.c -lbit_set -o roaring
+        [ \"\$(./roaring | tr '\n' ' ')\" = '70000 70001 70002 4000000000 ' ]"
     try "$on: README for Python" inside "
         cd /readme && python3 -m venv in
         export PATH=/readme/in/bin:\$PATH PIP_NO_INDEX=1
         sh -eu python.sh
-        [ \"\$(python example.py)\" = '41 0 20' ]"
+        [ \"\$(python example.py)\" = '41 0 20' ]
+        [ \"\$(python roaring.py)\" = 'True 3 4000000000' ]"
 }
 
 # Debian 13 is the first with a Cargo that takes the packages.
@@ -161,10 +167,12 @@ try_cargo() {
     try "$on: README for Rust" inside "
         export CARGO_NET_OFFLINE=true
         cd /readme && sh -eu rust.sh
-        cd PROGRAM && [ \"\$(cargo run -q)\" = '{10, 12, 14, 16, 18, 400}, 6 members' ]"
+        cd PROGRAM && [ \"\$(cargo run -q)\" = '{10, 12, 14, 16, 18, 400}, 6 members' ]
+        [ \"\$(cargo run -q --example roaring)\" = 'RoaringBitmap<[3, 70000, 70001, 70002, 4000000000]>' ]"
     try "$on: the tests of Cargo's packages" inside '
         mkdir -p crates && for crate in *.crate; do tar xzf "$crate" -C crates; done
-        cd crates/bit-set-[0-9]* && cargo test --offline && cd ../fixedbitset-* && cargo test --offline'
+        cd crates/bit-set-[0-9]* && cargo test --offline && cd ../fixedbitset-* && cargo test --offline
+        cd ../roaring-* && cargo test --offline'
     if ! [ -x "$root/usr/bin/aarch64-linux-gnu-gcc" ] || ! has qemu-aarch64-static || ! add_arm_rust "$roots/$1"; then
         left_out "$on: Cargo's packages for aarch64"
         return
@@ -175,5 +183,6 @@ try_cargo() {
         export CARGO_TARGET_AARCH64_UNKNOWN_LINUX_GNU_LINKER=aarch64-linux-gnu-gcc
         export CARGO_TARGET_AARCH64_UNKNOWN_LINUX_GNU_RUNNER="qemu-aarch64-static -L /usr/aarch64-linux-gnu"
         cd crates/bit-set-[0-9]* && cargo test --offline --target aarch64-unknown-linux-gnu --tests
-        cd ../fixedbitset-* && cargo test --offline --target aarch64-unknown-linux-gnu --tests'
+        cd ../fixedbitset-* && cargo test --offline --target aarch64-unknown-linux-gnu --tests
+        cd ../roaring-* && cargo test --offline --target aarch64-unknown-linux-gnu --tests --release'
 }

@@ -2,7 +2,7 @@
 # shellcheck shell=bash disable=SC2154
 set_up_library
 expect 'bindings/c/build fails' "$c/build" "$room/built"
-for file in libbit_set.a libbit_set.so bit_set.h bit_set32.h bit_set.pc; do
+for file in libbit_set.a libbit_set.so bit_set.h bit_set32.h bit_roaring.h bit_set.pc; do
     expect "bindings/c/build makes no $file" [ -s "$room/built/$file" ]
 done
 expect 'bindings/c/build --proved fails' "$c/build" "$room/built" --proved

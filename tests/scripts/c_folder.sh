@@ -37,7 +37,7 @@ expect_no_edit "$c/build" "$c/build" "$room/built" --proved
 # An edit meanwhile: header and library are of the texts that it began with. rt looks for each crate that is named.
 for name in $(sed -n 's/^\([a-z_0-9]*\)[ :].*/\1/p' "$library/crates.txt"); do
     mkdir -p "$library/crates/$name/src"
-    [ "$name" = bit_set_c ] || echo '// a source' > "$library/crates/$name/src/lib.rt"
+    [[ "$name" = bit_*_c ]] || echo '// a source' > "$library/crates/$name/src/lib.rt"
 done
 echo '// mark: 1' | tee "$library/crates/bit_blocks/src/lib.rt" > "$library/crates/bit_set_c/src/marks.rt"
 echo 1 > "$STAND_INS/seconds.bit_blocks"
@@ -54,5 +54,5 @@ for text in 'bit_blocks: 1' 'bit_set_c: 1'; do
     expect "bindings/c/build takes sources of a later text than $text" grep -qx "$text" "$STAND_INS/marks.bit_set_c"
 done
 rm -r "$library/crates/bit_set_c/src/marks.rt" "$STAND_INS/seconds.bit_blocks"
-find "$library/crates" -mindepth 1 -maxdepth 1 ! -name bit_set_c -exec rm -r {} +
+find "$library/crates" -mindepth 1 -maxdepth 1 ! -name 'bit_*_c' -exec rm -r {} +
 cp "$top/bindings/c/bit_set.h" "$c"

@@ -18,7 +18,7 @@ ended=0
 "$library/tests/cost.sh" bit_set_c > "$room/wrote" 2> "$room/said" < /dev/null || ended=$?
 expect "tests/cost.sh of what is not proved ends with $ended: $(cat "$room/said")" ends_with 1
 expect 'tests/cost.sh does not say what is not proved' grep -q '^bit_set_c .* NOT PROVED$' "$room/wrote"
-find "$library/crates" -mindepth 1 -maxdepth 1 ! -name bit_set_c -exec rm -r {} +
+find "$library/crates" -mindepth 1 -maxdepth 1 ! -name 'bit_*_c' -exec rm -r {} +
 
 # Tests that take long, over what only begins: the library for C, an edit that is compiled, the program's sources, and a
 # program that stands for those that are tried, and for what tries them.

@@ -11,7 +11,7 @@ for package in bit-set fancy-regex fixedbitset lalrpop petgraph proptest; do
     mkdir -p "$registry/$package-1.0"/{src,tests/common}
     touch "$registry/$package-1.0"/{Cargo.toml,src/lib.rs,tests/{captures,finding,matching,replace}.rs}
 done
-mkdir "$room/runs"
+mkdir "$room/runs" "$clients/croaring"
 for command in apt-get dpkg-deb python3; do
     ln -s "$(type -P true)" "$room/runs/$command"
 done

@@ -4,9 +4,8 @@
 packed="$room/packed_source"
 (. "$top/tools/c_library.sh" && write_source "$packed") > "$room/said" 2>&1
 mkdir "$packed/src/none"
-for bits in '' 32; do
-    printf '%s\n' ".globl bit_set${bits}_mark" "bit_set${bits}_mark: ret" '.section .note.GNU-stack,"",@progbits' \
-        > "$packed/src/none/bit_set$bits.s"
+for name in bit_set bit_set32 bit_roaring; do
+    printf '%s\n' ".globl ${name}_mark" "${name}_mark: ret" '.section .note.GNU-stack,"",@progbits' > "$packed/src/none/$name.s"
 done
 
 # CMake and make tell pkg-config the same, also of a path that is named only as the library is installed.

@@ -25,7 +25,7 @@ done
 mkdir -p "$library/crates/bit_blocks/src"
 echo '// mark: committed' | tee "$library/crates/bit_blocks/src/lib.rt" > "$library/crates/bit_set_c/src/marks.rt"
 # rt looks for each crate that is named there.
-sed -i '/^\(bit_blocks\|bit_set_c\)[ :]/!d' "$library/crates.txt"
+sed -i '/^\(bit_blocks\|bit_set_c\|bit_roaring_c\)[ :]/!d' "$library/crates.txt"
 in_library add . && in_library commit -qm marks
 echo 1 > "$STAND_INS/seconds.bit_blocks"
 forget_calls
@@ -93,7 +93,8 @@ left=("$c"/{example.o,other.h} "$library/LICENSE-MIT.orig")
 touch "${left[@]}"
 (. "$library/tools/c_library.sh" && write_source "$room/written") > "$room/wrote" 2> "$room/said" < /dev/null
 expect "a release takes what a compiler left: $(cd "$room/written" && find . -type f | tr '\n' ' ')" \
-    [ "$(cd "$room/written" && printf '%s ' L* e*/* i*/*)" = 'LICENSE-APACHE LICENSE-MIT examples/example.c examples/example.cc examples/example.out include/bit_set.h include/bit_set.hpp include/bit_set32.h ' ]
+    [ "$(cd "$room/written" && echo L* co*/*/* e*/* i*/*)" = "LICENSE-APACHE LICENSE-MIT $(echo \
+        compat/roaring/roaring{,_bytes,_iterators}.h examples/example.{c,cc,out} include/bit_{roaring,set}.{h,hpp} include/bit_set32.h)" ]
 rm "${left[@]}"
 
 # What git cannot read may have changed. Another user's checkout is not read at all.

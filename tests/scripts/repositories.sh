@@ -60,7 +60,7 @@ set_up_library() {
     cp -r "$top/bindings/c" "$library/bindings"
     rm -rf "$c/out"
     cp "$top"/tests/c_*.[ch] "$library/tests"
-    (cd "$top/crates" && tar cf - --exclude=out bit_set_c) | tar xf - -C "$library/crates"
+    (cd "$top/crates" && tar cf - --exclude=out bit_set_c bit_roaring_c) | tar xf - -C "$library/crates"
 }
 
 # Runs git there. Who runs this may have it sign each commit, or run hooks.

@@ -307,8 +307,8 @@ for name in prefix= libdir= includedir=; do
 done
 
 # And it may have quotes, as a home of somebody's has. What is installed is built already here.
-mkdir -p "$room/source/include" "$room/source/build/none"
-touch "$room/source/include"/a.{h,hpp} "$room/source/build/none"/libbit_set.{a,so.} "$room/source/build/none"/{bit_set,bit_set32,mem}.o
+mkdir -p "$room/source"/{include,build/none,compat/roaring}
+touch "$room/source/include"/a.{h,hpp} "$room/source/compat/roaring/a.h" "$room/source/build/none"/libbit_set.{a,so.} "$room/source/build/none"/{bit_set,bit_set32,bit_roaring,mem}.o
 quoted="$room/o'neil \"q\""
 for words in install uninstall; do
     ended=0
@@ -316,7 +316,7 @@ for words in install uninstall; do
         PROCESSOR=none "$words" > "$room/wrote" 2>&1 < /dev/null || ended=$?
     expect "make $words with quotes in a path ends with $ended: $(cat "$room/wrote")" ends_with 0
     [ "$words" = uninstall ] || expect 'make install leaves a file out where a path has quotes' \
-        [ -f "$quoted/it's/lib/libbit_set.a" -a -f "$quoted/it's/include/a.h" ]
+        [ -f "$quoted/it's/lib/libbit_set.a" -a -f "$quoted/it's/include/a.h" -a -f "$quoted/it's/include/bit_set/roaring/a.h" ]
 done
 expect 'make uninstall leaves something where a path has quotes' [ -z "$(find "$quoted" ! -type d)" ]
 

@@ -18,6 +18,7 @@ make_crates() {
     done
     crate bit-set "$(version_of bit-set)+$version"
     crate fixedbitset "$(version_of fixedbitset)+$version"
+    crate roaring "$(version_of roaring)+$version"
     for tree in "$trees"/*; do
         pack "$tree" "$folder/${tree##*/}.crate"
     done

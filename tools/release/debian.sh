@@ -29,10 +29,12 @@ processor, where glibc is 2.33 or later.'
     echo 'activate-noawait ldconfig' > "$runtime/DEBIAN/triggers"
     describe "$development" libdevel same "$library (= $version-1)" \
         'sets of whole numbers as bits, every call proved (headers)' \
-        'The headers for C and C++, the static library, and what pkg-config reads.'
+        'The headers for C and C++, the static library, and what pkg-config reads.
+With -I/usr/include/bit_set, programs over CRoaring find its calls.'
     describe "$module" python no "$library (>= $version), libc6 (>= $newest), python3 (>= 3.8)" \
         'sets of whole numbers as bits, every call proved (Python 3)' \
-        'The Python module bit_set, whose BitSet is a MutableSet of whole numbers.'
+        'The Python module bit_set, whose BitSet and RoaringBitmap are MutableSets of
+whole numbers.'
     local script
     for script in postinst:py3compile prerm:py3clean; do
         printf '%s\n' '#!/bin/sh' 'set -e' "! command -v ${script#*:} > /dev/null || ${script#*:} -p python3-bit-set" \

@@ -9,7 +9,7 @@ make_source() {
     write_source "$made"
     for machine in x86_64 aarch64; do
         for processor in $(processors_of "$machine"); do
-            assemble_both "$processor" "$room/crates" "$made" "$room/kept"
+            assemble_all "$processor" "$room/crates" "$made" "$room/kept"
         done
     done
     write_proof "$room/crates" "$made/PROOF.txt"

@@ -55,7 +55,7 @@ bool put_attributes(PyObject *made, PyObject *state)
 /* Sets the state of a copy, as the module copy does. */
 static bool put_state(PyObject *made, PyObject *state)
 {
-    PyObject *call = is_bit_set(made) ? PyObject_GetAttrString(made, "__setstate__") : NULL;
+    PyObject *call = is_bit_set(made) || is_bitmap(made) ? PyObject_GetAttrString(made, "__setstate__") : NULL;
     if (!call) {
         PyErr_Clear();
         return put_attributes(made, state);
@@ -80,7 +80,8 @@ static PyObject *deep_state(PyObject *self, PyObject *made, PyObject *state, PyO
 /* Takes over `made`, a copy of the members, and sets its state to a copy of this object's: a deep one if there is a memo. */
 static PyObject *with_state(PyObject *self, PyObject *made, PyObject *memo)
 {
-    if (!made || Py_TYPE(self) == bit_set_type || Py_TYPE(self) == matrix_type)
+    PyTypeObject *type = Py_TYPE(self);
+    if (!made || type == bit_set_type || type == matrix_type || type == bitmap_type)
         return made;
     PyObject *state = state_of(self);
     if (state && state != Py_None && memo) {
@@ -113,4 +114,14 @@ PyObject *matrix_shallow_copy(PyObject *self, PyObject *Py_UNUSED(none))
 PyObject *matrix_deep_copy(PyObject *self, PyObject *memo)
 {
     return with_state(self, matrix_copy(self, NULL), memo);
+}
+
+PyObject *bitmap_shallow_copy(PyObject *self, PyObject *Py_UNUSED(none))
+{
+    return with_state(self, bitmap_copy(self, NULL), NULL);
+}
+
+PyObject *bitmap_deep_copy(PyObject *self, PyObject *memo)
+{
+    return with_state(self, bitmap_copy(self, NULL), memo);
 }

@@ -68,6 +68,8 @@ bool put(PyObject *self, PyObject *member)
  * so that the set grows once. If that fails, it inserts those before the first for which memory runs out. */
 static size_t insert_group(PyObject *self, const size_t *group, size_t count)
 {
+    if (is_bitmap(self))
+        return put_in_bitmap(self, group, count);
     /* One more than the greatest; 0 for NO_MEMBER. */
     size_t bound = 0;
     for (size_t at = 0; at < count; at++)
@@ -77,11 +79,18 @@ static size_t insert_group(PyObject *self, const size_t *group, size_t count)
     return bit_set_insert_members(set_of(self), group, count);
 }
 
-static bool put_group(PyObject *self, const size_t *group, size_t count)
+/* Inserts numbers, with an exception for the first that cannot be inserted. */
+bool put_group(PyObject *self, const size_t *group, size_t count)
 {
-    if (insert_group(self, group, count) == count)
+    size_t done = insert_group(self, group, count);
+    if (done == count)
         return true;
-    PyErr_NoMemory();
+    if (group[done] == NO_MEMBER)
+        PyErr_SetString(PyExc_ValueError, "a number of the buffer is no member of a bit set");
+    else if (is_bitmap(self) && group[done] > UINT32_MAX)
+        PyErr_SetString(PyExc_ValueError, "a number is no member of a Roaring bitmap");
+    else
+        PyErr_NoMemory();
     return false;
 }
 
@@ -147,7 +156,8 @@ static bool put_set(PyObject *self, PyObject *items)
 
 static int put_item(void *self, PyObject *item)
 {
-    return put(self, item) ? 1 : -1;
+    size_t number;
+    return read_member(item, &number) && put_group(self, &number, 1) ? 1 : -1;
 }
 
 /* Whether a format is of integers as this machine stores them, and whether they are signed. */
@@ -199,14 +209,8 @@ static bool put_numbers(PyObject *self, const char *bytes, size_t size, size_t w
         size_t count = size - start < GROUP ? size - start : GROUP;
         for (size_t at = 0; at < count; at++)
             group[at] = number_at(bytes, width, is_signed, start + at);
-        size_t done = insert_group(self, group, count);
-        if (done == count)
-            continue;
-        if (group[done] != NO_MEMBER)
-            PyErr_NoMemory();
-        else
-            PyErr_SetString(PyExc_ValueError, "a number of the buffer is no member of a bit set");
-        return false;
+        if (!put_group(self, group, count))
+            return false;
     }
     return true;
 }
@@ -251,15 +255,33 @@ static enum reading put_buffer(PyObject *self, PyObject *object)
     return done;
 }
 
-/* Inserts the items of an iterable. Those before one that cannot be inserted are inserted. */
+/* Inserts the members of a Roaring bitmap into a set. */
+static bool put_bitmap(PyObject *self, PyObject *bitmap)
+{
+    bit_set *made = NULL;
+    bool found = bit_set_from_roaring(&made, bitmap_of(bitmap)) && bit_set_union_with(set_of(self), made);
+    bit_set_free(made);
+    if (!found)
+        PyErr_NoMemory();
+    return found;
+}
+
+/* Inserts the items of an iterable into a set. Those before one that cannot be inserted are inserted. */
 bool put_all(PyObject *self, PyObject *members)
 {
-    if (is_bit_set(members)) {
-        bool found = members == self || bit_set_union_with(set_of(self), set_of(members));
-        if (!found)
-            PyErr_NoMemory();
-        return found;
-    }
+    if (is_bitmap(members))
+        return put_bitmap(self, members);
+    if (!is_bit_set(members))
+        return put_each(self, members);
+    bool found = members == self || bit_set_union_with(set_of(self), set_of(members));
+    if (!found)
+        PyErr_NoMemory();
+    return found;
+}
+
+/* Inserts the items of an iterable that is no set of this module. */
+bool put_each(PyObject *self, PyObject *members)
+{
     if (PyList_CheckExact(members) || PyTuple_CheckExact(members))
         return put_items(self, members);
     if (PyAnySet_CheckExact(members))
@@ -329,13 +351,18 @@ PyObject *set_discard(PyObject *self, PyObject *member)
     return reference_to(Py_None);
 }
 
-PyObject *set_remove(PyObject *self, PyObject *member)
+/* None if the member was removed, and else NULL with a KeyError. */
+PyObject *removed(enum reading done, PyObject *member)
 {
-    enum reading done = take_out(self, member);
     /* A bare tuple would be taken for all arguments of the exception. */
     PyObject *arguments = done == NO_NUMBER ? PyTuple_Pack(1, member) : NULL;
     if (arguments)
         PyErr_SetObject(PyExc_KeyError, arguments);
     Py_XDECREF(arguments);
     return done == NUMBER ? none_if(true) : NULL;
+}
+
+PyObject *set_remove(PyObject *self, PyObject *member)
+{
+    return removed(take_out(self, member), member);
 }

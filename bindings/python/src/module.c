@@ -2,10 +2,10 @@
 #include "set.h"
 #include <structmember.h>
 
-PyTypeObject *bit_set_type, *matrix_type, *walk_type;
+PyTypeObject *bit_set_type, *bitmap_type, *matrix_type, *walk_type;
 PyObject *abstract_set, *array_type;
 
-/* A method of a set or a matrix. */
+/* A method of a set, a bitmap or a matrix. */
 #define METHOD(of, name, how, text) {#name, (PyCFunction)of##_##name, how, text}
 
 static PyMethodDef methods[] = {
@@ -69,7 +69,7 @@ static PyMethodDef methods[] = {
         {"__weaklistoffset__", T_PYSSIZET, offsetof(type, weak_references), READONLY, NULL}, {NULL, 0, 0, 0, NULL},    \
     }
 
-static PyMemberDef members[] = MEMBERS(BitSet), matrix_members[] = MEMBERS(BitMatrix);
+static PyMemberDef members[] = MEMBERS(BitSet), bitmap_members[] = MEMBERS(Bitmap), matrix_members[] = MEMBERS(BitMatrix);
 
 /* Python 3.8 and 3.9 cache look-ups in a type only if it has this flag, which later headers no longer put into the
  * default. Without it they free a method of `type` too often as classes with another metaclass are derived from one. */
@@ -107,6 +107,86 @@ static PyType_Slot set_slots[] = {
 
 static PyType_Spec set_spec = {
     "bit_set.BitSet", sizeof(BitSet), 0, FLAGS | Py_TPFLAGS_BASETYPE, set_slots,
+};
+
+static PyMethodDef bitmap_methods[] = {
+    METHOD(bitmap, add, METH_O, "add($self, number, /)\n--\n\nAdd a number."),
+    METHOD(bitmap, discard, METH_O, "discard($self, number, /)\n--\n\nRemove a number if it is a member."),
+    METHOD(bitmap, remove, METH_O, "remove($self, number, /)\n--\n\nRemove a member. KeyError if the number is not a member."),
+    METHOD(bitmap, pop, METH_NOARGS, "pop($self, /)\n--\n\nRemove the least member and return it. KeyError if there is none."),
+    METHOD(bitmap, clear, METH_NOARGS, "clear($self, /)\n--\n\nRemove every member."),
+    METHOD(bitmap, min, METH_NOARGS, "min($self, /)\n--\n\nReturn the least member. ValueError if there is none."),
+    METHOD(bitmap, max, METH_NOARGS, "max($self, /)\n--\n\nReturn the greatest member. ValueError if there is none."),
+    METHOD(bitmap, next, METH_O, "next($self, start, /)\n--\n\nReturn the least member at or above start, or None."),
+    METHOD(bitmap, previous, METH_O, "previous($self, stop, /)\n--\n\nReturn the greatest member below stop, or None."),
+    METHOD(bitmap, rank, METH_O, "rank($self, value, /)\n--\n\nReturn how many members are at most the value."),
+    METHOD(bitmap, add_range, METH_VARARGS, "add_range($self, start, stop, /)\n--\n\nAdd each number of range(start, stop)."),
+    METHOD(bitmap, remove_range, METH_VARARGS, "remove_range($self, start, stop, /)\n--\n\nRemove each number of range(start, stop)."),
+    METHOD(bitmap, contains_range, METH_VARARGS, "contains_range($self, start, stop, /)\n--\n\nReturn whether every number of range(start, stop) is a member."),
+    METHOD(bitmap, range_cardinality, METH_VARARGS, "range_cardinality($self, start, stop, /)\n--\n\nReturn how many members are in range(start, stop)."),
+    METHOD(bitmap, clamp, METH_VARARGS, "clamp($self, start, stop, /)\n--\n\nReturn the bitmap of the members in range(start, stop)."),
+    METHOD(bitmap, flip, METH_VARARGS, "flip($self, start, stop, /)\n--\n\nReturn a copy with the numbers of range(start, stop) removed if they are members, and else added."),
+    METHOD(bitmap, flip_inplace, METH_VARARGS, "flip_inplace($self, start, stop, /)\n--\n\nRemove the numbers of range(start, stop) that are members, and add the others."),
+    METHOD(bitmap, to_array, METH_NOARGS, "to_array($self, /)\n--\n\nReturn the members in ascending order as an array.array, which NumPy reads without a copy."),
+    METHOD(bitmap, copy, METH_NOARGS, "copy($self, /)\n--\n\nReturn a bitmap of the same members."),
+    METHOD(bitmap, update, METH_VARARGS, "update($self, *others)\n--\n\nAdd the items of the others."),
+    METHOD(bitmap, union, METH_VARARGS, "union($self, *others)\n--\n\nReturn the union of this bitmap and the others."),
+    METHOD(bitmap, intersection_update, METH_VARARGS, "intersection_update($self, *others)\n--\n\nKeep only members that are in each of the others."),
+    METHOD(bitmap, intersection, METH_VARARGS, "intersection($self, *others)\n--\n\nReturn the intersection of this bitmap and the others."),
+    METHOD(bitmap, difference_update, METH_VARARGS, "difference_update($self, *others)\n--\n\nRemove the items of the others."),
+    METHOD(bitmap, difference, METH_VARARGS, "difference($self, *others)\n--\n\nReturn the bitmap of the members that are in none of the others."),
+    METHOD(bitmap, symmetric_difference_update, METH_VARARGS, "symmetric_difference_update($self, *others)\n--\n\nMerge each of the others: keep what is in exactly one of the two."),
+    METHOD(bitmap, symmetric_difference, METH_VARARGS, "symmetric_difference($self, *others)\n--\n\nReturn what symmetric_difference_update leaves in a copy."),
+    METHOD(bitmap, issubset, METH_O, "issubset($self, other, /)\n--\n\nReturn whether each member is in the other."),
+    METHOD(bitmap, issuperset, METH_O, "issuperset($self, other, /)\n--\n\nReturn whether each item of the other is a member."),
+    METHOD(bitmap, isdisjoint, METH_O, "isdisjoint($self, other, /)\n--\n\nReturn whether no item of the other is a member."),
+    METHOD(bitmap, intersect, METH_O, "intersect($self, other, /)\n--\n\nReturn whether an item of the other is a member."),
+    METHOD(bitmap, union_cardinality, METH_O, "union_cardinality($self, other, /)\n--\n\nReturn how many numbers are in this bitmap or in the other."),
+    METHOD(bitmap, intersection_cardinality, METH_O, "intersection_cardinality($self, other, /)\n--\n\nReturn how many numbers are in both."),
+    METHOD(bitmap, difference_cardinality, METH_O, "difference_cardinality($self, other, /)\n--\n\nReturn how many members are not in the other."),
+    METHOD(bitmap, symmetric_difference_cardinality, METH_O, "symmetric_difference_cardinality($self, other, /)\n--\n\nReturn how many numbers are in exactly one of the two."),
+    METHOD(bitmap, jaccard_index, METH_O, "jaccard_index($self, other, /)\n--\n\nReturn the share of what is in either that is in both; not a number if both are empty."),
+    METHOD(bitmap, run_optimize, METH_NOARGS, "run_optimize($self, /)\n--\n\nConvert each container to the form with the fewest bytes. Return whether one changed."),
+    METHOD(bitmap, remove_runs, METH_NOARGS, "remove_runs($self, /)\n--\n\nConvert each container of runs to a list or blocks. Return whether one changed."),
+    METHOD(bitmap, get_statistics, METH_NOARGS, "get_statistics($self, /)\n--\n\nReturn how many containers of each kind there are, and their members and bytes."),
+    METHOD(bitmap, serialize, METH_NOARGS, "serialize($self, /)\n--\n\nReturn the bytes of the portable form of Roaring bitmaps."),
+    METHOD(bitmap, deserialize, METH_O | METH_CLASS, "deserialize($type, bytes, /)\n--\n\nMake the bitmap that a front of the bytes represents in the portable form. ValueError names the first fault."),
+    {"__copy__", bitmap_shallow_copy, METH_NOARGS, NULL},
+    {"__deepcopy__", bitmap_deep_copy, METH_O, NULL},
+    {"__reversed__", set_reversed, METH_NOARGS, "Return an iterator over the members in descending order."},
+    {"__reduce__", bitmap_reduce, METH_NOARGS, NULL},
+    {NULL, NULL, 0, NULL},
+};
+
+static PyType_Slot bitmap_slots[] = {
+    {Py_tp_doc, "RoaringBitmap(values=())\n--\n\nA set of numbers from 0 to 4294967295, as a MutableSet, that stays small if its members are few and far apart.\n\n"
+        "Its methods are those of pyroaring's BitMap where that has the call. bitmap[n] is the member with n others below it."},
+    {Py_tp_new, bitmap_new},
+    {Py_tp_init, bitmap_init},
+    {Py_tp_dealloc, bitmap_dealloc},
+    {Py_tp_repr, bitmap_repr},
+    {Py_tp_hash, PyObject_HashNotImplemented},
+    {Py_tp_richcompare, bitmap_compare},
+    {Py_tp_iter, set_iter},
+    {Py_tp_methods, bitmap_methods},
+    {Py_tp_members, bitmap_members},
+    {Py_sq_contains, bitmap_contains},
+    {Py_mp_length, bitmap_length},
+    {Py_mp_subscript, bitmap_subscript},
+    {Py_nb_bool, bitmap_bool},
+    {Py_nb_or, bitmap_or},
+    {Py_nb_and, bitmap_and},
+    {Py_nb_subtract, bitmap_subtract},
+    {Py_nb_xor, bitmap_xor},
+    {Py_nb_inplace_or, bitmap_in_place_or},
+    {Py_nb_inplace_and, bitmap_in_place_and},
+    {Py_nb_inplace_subtract, bitmap_in_place_subtract},
+    {Py_nb_inplace_xor, bitmap_in_place_xor},
+    {0, NULL},
+};
+
+static PyType_Spec bitmap_spec = {
+    "bit_set.RoaringBitmap", sizeof(Bitmap), 0, FLAGS | Py_TPFLAGS_BASETYPE, bitmap_slots,
 };
 
 static PyMethodDef matrix_methods[] = {
@@ -203,12 +283,14 @@ __attribute__((visibility("default"))) PyMODINIT_FUNC PyInit__bit_set(void)
     PyObject *module = PyModule_Create(&module_definition);
     PyObject *greatest = PyLong_FromSize_t(NO_MEMBER - 1);
     bit_set_type = (PyTypeObject *)PyType_FromSpec(&set_spec);
+    bitmap_type = (PyTypeObject *)PyType_FromSpec(&bitmap_spec);
     matrix_type = (PyTypeObject *)PyType_FromSpec(&matrix_spec);
     walk_type = (PyTypeObject *)PyType_FromSpec(&walk_spec);
     abstract_set = attribute_of("collections.abc", "Set");
     array_type = attribute_of("array", "array");
     bool is_made = module && walk_type && abstract_set && array_type
         && add_object(module, "BitSet", (PyObject *)bit_set_type)
+        && add_object(module, "RoaringBitmap", (PyObject *)bitmap_type)
         && add_object(module, "BitMatrix", (PyObject *)matrix_type) && add_object(module, "MAX_ELEMENT", greatest);
     Py_XDECREF(greatest);
     if (!is_made)

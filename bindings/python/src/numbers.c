@@ -17,6 +17,14 @@ enum reading read_number(PyObject *object, size_t *number)
     return reading;
 }
 
+/* Whether a number is a member of a set of either kind. */
+bool has_number(PyObject *self, size_t number)
+{
+    if (is_bitmap(self))
+        return number <= UINT32_MAX && bit_roaring_contains(bitmap_of(self), (uint32_t)number);
+    return bit_set_contains(set_of(self), number);
+}
+
 /* Reads the number that an object equals, as a look-up in one of Python's own sets does: 4.0 is 4. An object that is no
  * index must be hashable, and is compared only with the member that its hash names. */
 enum reading read_equal_of_any(PyObject *self, PyObject *object, size_t *number)
@@ -28,7 +36,7 @@ enum reading read_equal_of_any(PyObject *self, PyObject *object, size_t *number)
     *number = (size_t)hash;
     if (hash < 0)
         return hash == -1 ? FAILED : NO_NUMBER;
-    if (!bit_set_contains(set_of(self), *number))
+    if (!has_number(self, *number))
         return NO_NUMBER;
     PyObject *member = int_of(*number);
     int is_equal = member ? PyObject_RichCompareBool(object, member, Py_EQ) : -1;

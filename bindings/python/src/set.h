@@ -1,4 +1,4 @@
-/* Sets of whole numbers as bits, over the proved library for C. The module is built for the stable ABI of Python 3.8,
+/* Sets of whole numbers as bits, and Roaring bitmaps, over the proved library for C. The module is built for the stable ABI of Python 3.8,
  * so one build serves every later version. Each call holds the interpreter's lock, so threads may share a set. */
 #ifndef BIT_SET_MODULE_H
 #define BIT_SET_MODULE_H
@@ -6,6 +6,7 @@
 #define PY_SSIZE_T_CLEAN
 #include <Python.h>
 
+#include "bit_roaring.h"
 #include "bit_set.h"
 
 /* How many numbers pass between Python and the library at a time, and how many an iterator fetches at once. */
@@ -25,6 +26,12 @@ typedef struct {
     PyObject *weak_references;
 } BitMatrix;
 
+typedef struct {
+    PyObject_HEAD
+    bit_roaring *bitmap;
+    PyObject *weak_references;
+} Bitmap;
+
 /* An iterator that fetches the members in groups. The set may be changed during the iteration. */
 typedef struct {
     PyObject_HEAD
@@ -42,10 +49,12 @@ typedef struct {
 enum reading { FAILED = -1, NO_NUMBER = 0, NUMBER = 1 };
 
 typedef bool merge(bit_set *, const bit_set *);
+typedef bool make(bit_roaring **, const bit_roaring *, const bit_roaring *);
+typedef int32_t change(bit_roaring *, const bit_roaring *);
 typedef int look(void *, PyObject *);
 
 /* The types, `Set` of collections.abc, and the type of arrays. */
-extern PyTypeObject *bit_set_type, *matrix_type, *walk_type;
+extern PyTypeObject *bit_set_type, *bitmap_type, *matrix_type, *walk_type;
 extern PyObject *abstract_set, *array_type;
 
 /* Later headers of the stable ABI no longer declare these, though each version has them. */
@@ -60,6 +69,16 @@ static inline bool is_bit_set(PyObject *object)
 static inline bit_set *set_of(PyObject *object)
 {
     return ((BitSet *)object)->set;
+}
+
+static inline bool is_bitmap(PyObject *object)
+{
+    return PyObject_TypeCheck(object, bitmap_type);
+}
+
+static inline bit_roaring *bitmap_of(PyObject *object)
+{
+    return ((Bitmap *)object)->bitmap;
 }
 
 /* A new reference. The headers of Python 3.12 and later may count none when they return None or NotImplemented, which a
@@ -84,6 +103,7 @@ static inline PyObject *int_of(size_t number)
 
 /* numbers.c */
 PyObject *member_or_none(size_t member);
+bool has_number(PyObject *self, size_t number);
 bool read_bound(PyObject *object, size_t *bound, int *outside);
 int read_bounds(PyObject *first, PyObject *last, size_t *start, size_t *stop, bool *is_within);
 bool read_member_of_any(PyObject *object, size_t *number);
@@ -112,6 +132,8 @@ static inline enum reading read_equal(PyObject *self, PyObject *object, size_t *
 }
 
 /* copying.c */
+PyObject *bitmap_deep_copy(PyObject *self, PyObject *memo);
+PyObject *bitmap_shallow_copy(PyObject *self, PyObject *Py_UNUSED(none));
 PyObject *matrix_deep_copy(PyObject *self, PyObject *memo);
 PyObject *matrix_shallow_copy(PyObject *self, PyObject *Py_UNUSED(none));
 PyObject *set_deep_copy(PyObject *self, PyObject *memo);
@@ -124,6 +146,7 @@ PyObject *as_bit_set(PyObject *members);
 PyObject *blank(PyTypeObject *type);
 PyObject *copy_as(PyTypeObject *type, PyObject *self);
 PyObject *made_if(bool found_memory, PyObject *made);
+PyObject *removed(enum reading done, PyObject *member);
 PyObject *set_add(PyObject *self, PyObject *member);
 PyObject *set_copy(PyObject *self, PyObject *Py_UNUSED(none));
 PyObject *set_copy_range(PyObject *self, PyObject *arguments);
@@ -132,6 +155,8 @@ PyObject *set_new(PyTypeObject *type, PyObject *Py_UNUSED(positional), PyObject 
 PyObject *set_remove(PyObject *self, PyObject *member);
 bool put(PyObject *self, PyObject *member);
 bool put_all(PyObject *self, PyObject *members);
+bool put_each(PyObject *self, PyObject *members);
+bool put_group(PyObject *self, const size_t *group, size_t count);
 enum reading take_out(PyObject *self, PyObject *member);
 int set_contains(PyObject *self, PyObject *member);
 int set_init(PyObject *self, PyObject *arguments, PyObject *named);
@@ -181,6 +206,7 @@ PyObject *set_to_array(PyObject *self, PyObject *Py_UNUSED(none));
 PyObject *set_to_bytes(PyObject *self, PyObject *Py_UNUSED(none));
 PyObject *set_to_bytes_lsb(PyObject *self, PyObject *Py_UNUSED(none));
 PyObject *type_name(PyObject *self);
+PyObject *zeros(const char *kind, Py_ssize_t count);
 PyObject *walk_new(PyTypeObject *type, PyObject *Py_UNUSED(positional), PyObject *Py_UNUSED(named));
 PyObject *walk_next(PyObject *object);
 Py_ssize_t set_length(PyObject *self);
@@ -246,5 +272,73 @@ PyObject *matrix_union_row_with(PyObject *self, PyObject *arguments);
 PyObject *matrix_union_rows(PyObject *self, PyObject *arguments);
 int matrix_contains(PyObject *self, PyObject *pair);
 void matrix_dealloc(PyObject *self);
+
+/* roaring.c */
+PyObject *as_bitmap(PyObject *members);
+PyObject *bitmap_add(PyObject *self, PyObject *member);
+PyObject *bitmap_add_range(PyObject *self, PyObject *arguments);
+PyObject *bitmap_clamp(PyObject *self, PyObject *arguments);
+PyObject *bitmap_clear(PyObject *self, PyObject *Py_UNUSED(none));
+PyObject *bitmap_contains_range(PyObject *self, PyObject *arguments);
+PyObject *bitmap_copy(PyObject *self, PyObject *Py_UNUSED(none));
+PyObject *bitmap_deserialize(PyObject *type, PyObject *bytes);
+PyObject *bitmap_discard(PyObject *self, PyObject *member);
+PyObject *bitmap_flip(PyObject *self, PyObject *arguments);
+PyObject *bitmap_flip_inplace(PyObject *self, PyObject *arguments);
+PyObject *bitmap_get_statistics(PyObject *self, PyObject *Py_UNUSED(none));
+PyObject *bitmap_max(PyObject *self, PyObject *Py_UNUSED(none));
+PyObject *bitmap_min(PyObject *self, PyObject *Py_UNUSED(none));
+PyObject *bitmap_new(PyTypeObject *type, PyObject *Py_UNUSED(positional), PyObject *Py_UNUSED(named));
+PyObject *bitmap_next(PyObject *self, PyObject *from);
+PyObject *bitmap_pop(PyObject *self, PyObject *Py_UNUSED(none));
+PyObject *bitmap_previous(PyObject *self, PyObject *end);
+PyObject *bitmap_range_cardinality(PyObject *self, PyObject *arguments);
+PyObject *bitmap_rank(PyObject *self, PyObject *value);
+PyObject *bitmap_reduce(PyObject *self, PyObject *Py_UNUSED(none));
+PyObject *bitmap_remove(PyObject *self, PyObject *member);
+PyObject *bitmap_remove_range(PyObject *self, PyObject *arguments);
+PyObject *bitmap_remove_runs(PyObject *self, PyObject *Py_UNUSED(none));
+PyObject *bitmap_repr(PyObject *self);
+PyObject *bitmap_run_optimize(PyObject *self, PyObject *Py_UNUSED(none));
+PyObject *bitmap_serialize(PyObject *self, PyObject *Py_UNUSED(none));
+PyObject *bitmap_subscript(PyObject *self, PyObject *index);
+PyObject *bitmap_to_array(PyObject *self, PyObject *Py_UNUSED(none));
+Py_ssize_t bitmap_length(PyObject *self);
+bool merge_bitmaps(PyObject *self, PyObject *other, change *call);
+bool put_all_in_bitmap(PyObject *self, PyObject *members);
+enum reading take_out_of_bitmap(PyObject *self, PyObject *member);
+int bitmap_bool(PyObject *self);
+int bitmap_contains(PyObject *self, PyObject *member);
+int bitmap_init(PyObject *self, PyObject *arguments, PyObject *named);
+size_t put_in_bitmap(PyObject *self, const size_t *group, size_t count);
+void bitmap_dealloc(PyObject *self);
+
+/* roaring_merging.c */
+PyObject *bitmap_and(PyObject *left, PyObject *right);
+PyObject *bitmap_compare(PyObject *self, PyObject *other, int operation);
+PyObject *bitmap_difference(PyObject *self, PyObject *others);
+PyObject *bitmap_difference_cardinality(PyObject *self, PyObject *items);
+PyObject *bitmap_difference_update(PyObject *self, PyObject *others);
+PyObject *bitmap_in_place_and(PyObject *self, PyObject *other);
+PyObject *bitmap_in_place_or(PyObject *self, PyObject *other);
+PyObject *bitmap_in_place_subtract(PyObject *self, PyObject *other);
+PyObject *bitmap_in_place_xor(PyObject *self, PyObject *other);
+PyObject *bitmap_intersect(PyObject *self, PyObject *items);
+PyObject *bitmap_intersection(PyObject *self, PyObject *others);
+PyObject *bitmap_intersection_cardinality(PyObject *self, PyObject *items);
+PyObject *bitmap_intersection_update(PyObject *self, PyObject *others);
+PyObject *bitmap_isdisjoint(PyObject *self, PyObject *items);
+PyObject *bitmap_issubset(PyObject *self, PyObject *items);
+PyObject *bitmap_issuperset(PyObject *self, PyObject *items);
+PyObject *bitmap_jaccard_index(PyObject *self, PyObject *items);
+PyObject *bitmap_or(PyObject *left, PyObject *right);
+PyObject *bitmap_subtract(PyObject *left, PyObject *right);
+PyObject *bitmap_symmetric_difference(PyObject *self, PyObject *others);
+PyObject *bitmap_symmetric_difference_cardinality(PyObject *self, PyObject *items);
+PyObject *bitmap_symmetric_difference_update(PyObject *self, PyObject *others);
+PyObject *bitmap_union(PyObject *self, PyObject *others);
+PyObject *bitmap_union_cardinality(PyObject *self, PyObject *items);
+PyObject *bitmap_update(PyObject *self, PyObject *others);
+PyObject *bitmap_xor(PyObject *left, PyObject *right);
 
 #endif

@@ -44,10 +44,10 @@ PyObject *set_repr(PyObject *self)
     return text;
 }
 
-/* This many zeros as an array of the machine's words. */
-static PyObject *zeros(Py_ssize_t count)
+/* This many zeros as an array of numbers of a kind. */
+PyObject *zeros(const char *kind, Py_ssize_t count)
 {
-    PyObject *zero = PyObject_CallFunction(array_type, "s(i)", sizeof(size_t) == 8 ? "Q" : "I", 0);
+    PyObject *zero = PyObject_CallFunction(array_type, "s(i)", kind, 0);
     PyObject *array = zero ? PySequence_Repeat(zero, count) : NULL;
     Py_XDECREF(zero);
     return array;
@@ -63,7 +63,7 @@ PyObject *set_to_array(PyObject *self, PyObject *Py_UNUSED(none))
     do {
         Py_XDECREF(array);
         count = set_length(self);
-        array = zeros(count);
+        array = zeros(sizeof(size_t) == 8 ? "Q" : "I", count);
     } while (array && set_length(self) != count);
     if (array && PyObject_AsWriteBuffer(array, &place, &length))
         Py_CLEAR(array);
@@ -136,15 +136,28 @@ int each_item(PyObject *walk, look *look_at, void *with)
     return PyErr_Occurred() ? -1 : found;
 }
 
+/* Copies a group of a bitmap, whose numbers have 32 bits, and returns how many. */
+static size_t fill_from_bitmap(Walk *walk)
+{
+    uint32_t members[WALK_GROUP];
+    const bit_roaring *bitmap = bitmap_of(walk->of);
+    size_t count = walk->is_backward ? bit_roaring_copy_members_back(bitmap, walk->bound, members, WALK_GROUP)
+                                     : bit_roaring_copy_members(bitmap, walk->bound, members, WALK_GROUP);
+    for (size_t at = 0; at < count; at++)
+        walk->group[at] = members[at];
+    return count;
+}
+
 /* Fetches the next group. */
 static void fill(Walk *walk)
 {
-    bit_set *set = set_of(walk->of);
     walk->place = 0;
-    if (walk->is_backward)
-        walk->count = bit_set_copy_members_back(set, walk->bound, walk->group, WALK_GROUP);
+    if (is_bitmap(walk->of))
+        walk->count = fill_from_bitmap(walk);
+    else if (walk->is_backward)
+        walk->count = bit_set_copy_members_back(set_of(walk->of), walk->bound, walk->group, WALK_GROUP);
     else
-        walk->count = bit_set_copy_members(set, walk->bound, walk->group, WALK_GROUP);
+        walk->count = bit_set_copy_members(set_of(walk->of), walk->bound, walk->group, WALK_GROUP);
     walk->has_ended = walk->count < WALK_GROUP;
     if (!walk->has_ended)
         walk->bound = walk->group[WALK_GROUP - 1] + !walk->is_backward;

@@ -2,10 +2,9 @@
 use Rattle.std.proofs.Common.{⊎_elim, ◌≡◌, ℕ, zero, suc, ◌+◌, ◌-◌, ◌*◌, ◌/◌, ◌^◌, ◌<◌, ◌≤◌, ◌==◌, Bool, true, false, List}
 use Rattle.std.proofs.Common.{[], ◌∷◌, length, get_or, take, drop, refl, sym, ap, ◌∙◌, arith, div-add-mod', pow_pos}
 use Rattle.std.proofs.Common.{length-take, get_or-take, get_or-drop, pow-suc, div-lt_iff_lt-mul, lt_of_mul-lt-mul_right}
-use Rattle.std.proofs.Common.{lt_of_lt_of_le, mul-le-mul_right, slice_get, Some}
+use Rattle.std.proofs.{Common.{lt_of_lt_of_le, mul-le-mul_right, slice_get, Some}, lemmas.Option.get_or_from_slice_get}
 use Rattle.std.proofs.lemmas.Nat.{Bits.{bit_at-suc, bit_at-zero, bit_at_lowest}, le-div}
 use Rattle.std.proofs.lemmas.List.{FromFn.{length-map-range_with_len, get_or-map-range_with_len}, get_or_past, drop_all}
-use Rattle.std.proofs.lemmas.Option.{get_or_from_slice_get}
 use Rattle.std.{proofs.lemmas.{Option.slice_get-get_or, Bool.cases_lt, Grind.div_ceil_times}, specs.Int.bit_at}
 use Rattle.bit_blocks.specs.Bits.{blocks_for, digit_of, number_of, blocks_of}
 

@@ -2,18 +2,18 @@
 -- list.
 use Rattle.std.proofs.Math.Bool.{or-false}
 use Rattle.std.proofs.Common.{◌≡◌, ℕ, ◌+◌, ◌*◌, ◌/◌, ◌%◌, ◌^◌, ◌<◌, ◌≤◌, ◌↔◌, Bool, false, true, not, ◌==◌, ◌&&◌, ◌||◌, List}
-use Rattle.std.proofs.Common.{map, length, get_or, set, take, All, refl, sym, ap, ◌∙◌, arith, ⊎_elim, mod-lt, length-take}
-use Rattle.std.proofs.Common.{get_or-take, get_or-set_same, get_or-set_other}
+use Rattle.std.proofs.Common.{map, length, get_or, set, All, refl, sym, ap, ◌∙◌, arith, ⊎_elim, mod-lt}
+use Rattle.std.proofs.Common.{get_or-set_same, get_or-set_other}
 use Rattle.std.proofs.lemmas.{Bool.{cases_eq, cases_lt, false≢true, Decides.nat_tests}, List.{get_or_past, length-map}}
 use Rattle.std.proofs.lemmas.Nat.Bits.{same_from_bits_below}
 use Rattle.std.specs.{Prelude.{MatchOption, Option, None, Some, is_some}, Option.unwrap_or}
-use Rattle.bit_blocks.specs.declared.block.merge.Merge.{Merge, TheVariants.{Difference, Union}}
-use Rattle.bit_blocks.specs.{Merges.{merge_of_values, merge_of}, Digits.is_one}
+use Rattle.bit_blocks.specs.declared.block.merge.Merge.{Merge, TheVariants.Union}
+use Rattle.bit_blocks.specs.{Merges.merge_of_values, Digits.is_one}
 use Rattle.bit_blocks.specs.BlockMerges.{apart_at, except_at, merge_at, other_at, AreKept, AreOthers, FindsDifference}
 use Rattle.bit_blocks.specs.BlockMerges.{HasMerged, Stay}
-use Rattle.bit_blocks.specs.Storage.{value_at, values_of, IsPacked, IsZeroFrom, is_used}
+use Rattle.bit_blocks.specs.Storage.{value_at, values_of, IsZeroFrom, is_used}
 use Rattle.bit_blocks.proofs.{CompareLemmas.zero_from_digits, Masks.is_one-zero}
-use Rattle.bit_blocks.proofs.MergeLemmas.{get_or-merged, length-merged, merge_of_values-none}
+use Rattle.bit_blocks.proofs.MergeLemmas.{merge_of_values-none}
 use Rattle.bit_blocks.proofs.StorageLemmas.{get_or-values_of, get_or-values_of_zero_tail, same_digit, length-values_of}
 use Rattle.bit_blocks.proofs.StorageLemmas.{value_at-is, value_at-past, values_of-same}
 use Rattle.bit_blocks.proofs.{UseLemmas.same_block, VectorLemmas.numbers_below}
@@ -126,25 +126,6 @@ module _ {X : Type 0} (m : Merge) (w : ℕ) (f : X → ℕ) (P : X → Type 0) w
       → value_at w (map f ys) i ≡ merge_of_values m (value_at w (map f xs) i) (value_at w (map f os) i)
   merges_of_values xs os ys pos short is i =
       grind (arith, value_at-is, value_at-past, is.digit (i / w) (i % w), mod-lt i pos, length-map, is.len, merge_of_values-none)
-
-  pub values_merged_except : (xs os ys : List X) (es : List ℕ) → 0 < w → length os ≤ length xs
-      → HasMerged m w f P 0 (length xs) (except_at (map f os) es) xs ys → (i : ℕ)
-      → value_at w (map f ys) i ≡ merge_of_values m (value_at w (map f xs) i) (value_at w (map f os) i && not (value_at w es i))
-  values_merged_except xs os ys es pos short is i =
-      grind (arith, value_at-is, value_at-past, is.digit (i / w) (i % w), mod-lt i pos, length-map, is.len, merge_of_values-none)
-
-  -- the blocks hold a list of the same length
-  pub packed_merged : (xs os ys : List X) (es : List ℕ) (len short : ℕ) → 0 < w → length os ≤ length xs → short ≤ len
-      → IsPacked w f P xs len → IsZeroFrom w (map f os) short
-      → HasMerged m w f P 0 (length xs) (except_at (map f os) es) xs ys → IsPacked w f P ys len
-  packed_merged xs os ys es len short pos fewer shorter packed also is = record {
-    each = is.each;
-    count = is.len ∙ packed.count;
-    tail = record {
-      zero_tail = λ i past. grind (arith, values_merged_except xs os ys es pos fewer is i, packed.tail.zero_tail i past, also.zero_tail i (omega arith), merge_of_values-none);
-    };
-    fits = packed.fits;
-  }
 
 -- past the end of the others a union changes nothing
 pub merged_rest : {X : Type 0} (w : ℕ) (f : X → ℕ) (P : X → Type 0) (a b c : ℕ) (os es : List ℕ) (xs ys : List X) → b ≤ c
@@ -353,29 +334,6 @@ stay_past_others w f b c os es xs past = record {
 }
 
 -- ---- lists
-
--- the list that the blocks hold then
-pub lists_merged_except : (m : Merge) (w : ℕ) (ms os es ns : List ℕ) (len short third : ℕ) → short ≤ len
-    → IsZeroFrom w ms len → IsZeroFrom w os short → IsZeroFrom w es third
-    → ((i : ℕ) → value_at w ns i ≡ merge_of_values m (value_at w ms i) (value_at w os i && not (value_at w es i)))
-    → values_of w ns len ≡ merge_of m (values_of w ms len)
-    (merge_of Difference (values_of w os short) (take (length (values_of w os short)) (values_of w es third)))
-lists_merged_except m w ms os es ns len short third shorter zero_tail also more each =
-    let xs = values_of w ms len in
-    let ys = values_of w os short in
-    let zs = take short (values_of w es third) in
-    let long : length (merge_of Difference ys zs) ≡ short = omega (arith, length-merged Difference ys zs, length-values_of w os short, length-take short (values_of w es third)) in
-    values_of-same w ns len _ (omega (arith, length-merged m xs (merge_of Difference ys zs), length-values_of w ms len, long)) (λ i below.
-    let cut : (value_at w os i && not (value_at w es i)) ≡ merge_of_values Difference (get_or ys i false) (get_or zs i false) =
-    ⊎_elim
-    (λ early. grind (arith, get_or-values_of_zero_tail w os short i also, get_or-values_of_zero_tail w es third i more, get_or-take short (values_of w es third) i false early))
-    (λ late. grind (arith, get_or-values_of_zero_tail w os short i also, also.zero_tail i late))
-    (cases_lt i short) in
-    each i
-    ∙ ap (λ b. merge_of_values m b (value_at w os i && not (value_at w es i))) (sym (get_or-values_of_zero_tail w ms len i zero_tail))
-    ∙ ap (merge_of_values m (get_or xs i false)) (cut ∙ sym (get_or-merged Difference ys zs i))
-    ∙ sym (get_or-merged m xs (merge_of Difference ys zs) i))
-    ∙ ap (λ n. merge_of m xs (merge_of Difference ys (take n (values_of w es third)))) (sym (length-values_of w os short))
 
 -- it stays just where the blocks do
 pub kept_lists : (w : ℕ) (ms ns : List ℕ) (len : ℕ) → ((k : ℕ) → get_or ms k 0 < 2 ^ w) → ((k : ℕ) → get_or ns k 0 < 2 ^ w)

@@ -2,12 +2,10 @@
 use Rattle.std.proofs.Common.{Bool, ◌≡◌, ℕ, zero, suc, ◌+◌, ◌-◌, ◌*◌, ◌/◌, ◌%◌, ◌^◌, ◌<◌, ◌≤◌, false, ◌&&◌, ◌||◌, ◌==◌}
 use Rattle.std.proofs.Common.{nat_lt, List, [], ◌∷◌, ◌++◌, length, get_or, refl, sym, ap, ap₂, ◌∙◌, arith, mod-lt}
 use Rattle.std.proofs.Common.{div-add-mod', div-mul-le_self, mul-le-mul_right, w8, min, slice_range, get_or-take}
-use Rattle.std.proofs.Common.{get_or-drop, length-take, length-append, replicate, ⊎_elim}
-use Rattle.std.proofs.lemmas.Nat.Bits.{bit_at-suc, bit_at_lowest, bit_at_above}
+use Rattle.std.{proofs.Common.{get_or-drop, length-take, length-append, replicate, ⊎_elim}, specs.Int.bit_at}
+use Rattle.std.proofs.lemmas.{Nat.Bits.{bit_at-suc, bit_at_lowest, bit_at_above}, Bool.{cases_lt, Decides.nat_tests}}
 use Rattle.std.proofs.lemmas.List.{ext_get_or, get_or_past, get_or_append_left, get_or-append_right, get_or-replicate}
 use Rattle.std.proofs.lemmas.List.{length-replicate, FromFn.get_or-map-range_with_len}
-use Rattle.std.proofs.lemmas.Bool.{cases_lt, Decides.nat_tests}
-use Rattle.std.specs.Int.{bit_at}
 use Rattle.std.specs.{Int.{reverse_bits, reverse_bits_onto}, Prelude.{IfOk, Result, Ok, Err}}
 use Rattle.bit_blocks.specs.Bits.{Bits, blocks_for, values_of_byte, values_of_bytes}
 use Rattle.bit_blocks.specs.Digits.{IsWidth, IsEither, IsShiftedLeft, IsShiftedRight, is_one}

@@ -6,7 +6,6 @@ use Rattle.std.proofs.lemmas.{Bool.Decides.nat_tests, Nat.{Bits.same_from_bits_b
 use mathlib.Core.Bool.{beq}
 use Rattle.bit_blocks.specs.{Bits.blocks_for, Digits.is_one, Lowest.{IsCleared, IsLowest}, Storage.{value_at, WritesValue}}
 use Rattle.bit_blocks.proofs.StorageLemmas.{same_digit, value_at-is, value_at-past, value_at-set_same, value_at-set_other}
-use Rattle.bit_blocks.proofs.TestLemmas.{above_and}
 use Rattle.bit_blocks.proofs.BitsLemmas.{index_below}
 
 -- ---- within one block, places follow indexes
@@ -47,9 +46,6 @@ put_bit w ms ns i k p m n b pos ke pe h read e digit digits = record {
   same = grind (arith, written_same w ms ns k n i e h, digit);
   others = λ j ne. grind (arith, written_same w ms ns k n j e h, digits (j % w), mod-lt j pos, same_index w j i, read_at w ms k m j read, written_other w ms ns k n j e);
 }
-
-past_blocks : (w : ℕ) (ms : List ℕ) (len i : ℕ) → len ≤ i → length ms ≤ i / w → value_at w ms i ≡ (nat_lt i len && value_at w ms i)
-past_blocks w ms len i h p = value_at-past w ms i p ∙ sym (above_and len i (value_at w ms i) h)
 
 pub div_lt : (w i j : ℕ) → 0 < w → i / w < j / w → i < j
 div_lt w i j pos h = let a = (div-lt_iff_lt-mul pos).0 h in omega (arith, div-mul-le_self j w)

@@ -1,7 +1,6 @@
 -- The lowest 1 of a number.
 use Rattle.std.proofs.Common.{⊎_elim, ◌≡◌, ◌≢◌, ℕ, zero, suc, ◌+◌, ◌-◌, ◌*◌, ◌/◌, ◌%◌, ◌^◌, ◌<◌, min, count_ones, ap, ◌∙◌}
-use Rattle.std.proofs.Common.{arith}
-use Rattle.std.proofs.{Math.Nat.pow-suc, lemmas.{Bool.cases_lt, Nat.{pow_pos, pow_below, ones_cat}}}
+use Rattle.std.proofs.{Common.arith, Math.Nat.pow-suc, lemmas.{Bool.cases_lt, Nat.{pow_pos, pow_below, ones_cat}}}
 use Rattle.std.{proofs.lemmas.Nat.{ones_le_self, zero_from_ones, Bits.{bit_at_lowest, bit_at-suc, bit_at-pow_same, bit_at-pow_other, bit_at-lt, same_from_bits_below}}, specs.Int.bit_at}
 use Rattle.bit_blocks.{specs.{DigitLaws.bit_at-complement, Lowest.LowestIsFound}, proofs.Words.complement-number}
 

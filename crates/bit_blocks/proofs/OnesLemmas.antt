@@ -1,11 +1,9 @@
 -- The ones of the blocks of a list are its true values.
 use Rattle.std.proofs.Common.{◌≡◌, ℕ, zero, suc, ◌+◌, ◌*◌, ◌/◌, ◌%◌, ◌^◌, ◌<◌, Bool, cond, List, [], ◌∷◌, ◌++◌, map, length}
-use Rattle.std.proofs.Common.{take, drop, count_ones, refl, sym, ap, ◌∙◌, arith, take_all}
-use Rattle.std.proofs.Math.Nat.{pow-suc}
+use Rattle.std.proofs.{Common.{take, drop, count_ones, refl, sym, ap, ◌∙◌, arith, take_all}, Math.Nat.pow-suc}
 use Rattle.std.proofs.lemmas.List.{take-append-drop, drop-take, take-take, Sums.{sum_by-append, sum_by-cons}}
-use Rattle.std.proofs.lemmas.List.FromFn.{sum_by-map-range_with_len_more}
+use Rattle.std.{proofs.lemmas.List.FromFn.sum_by-map-range_with_len_more, specs.Int.bit_at}
 use Rattle.std.proofs.lemmas.Nat.{ones_cat, Bits.{bit_at_lowest, bit_at-suc}}
-use Rattle.std.specs.Int.{bit_at}
 use Rattle.std.specs.List.{sum_by, count_by, range_with_len}
 use Rattle.bit_blocks.{specs.Bits.{digit_of, number_of, blocks_of, blocks_for}, proofs.{BitsLemmas.blocks_for-enough, LowestLemmas.{ones_zero, ones_one}}}
 

@@ -1,17 +1,13 @@
 -- What appending, keeping and filling whole blocks does to the value at every index.
 use Rattle.std.proofs.Common.{◌≡◌, ℕ, ◌+◌, ◌-◌, ◌/◌, ◌%◌, ◌^◌, ◌<◌, ◌≤◌, Bool, false, ◌&&◌, ◌||◌, nat_lt, nat_le, List, []}
 use Rattle.std.proofs.Common.{◌∷◌, ◌++◌, map, length, get_or, take, replicate, refl, ap, ◌∙◌, arith, append_assoc, mod-lt}
-use Rattle.std.proofs.Common.{get_or-take, set, ◌≢◌, get_or-set_same, get_or-set_other, ⊎_elim}
-use Rattle.std.proofs.lemmas.Bool.{cases_lt, Decides.nat_tests}
+use Rattle.std.{proofs.Common.{get_or-take, set, ◌≢◌, get_or-set_same, get_or-set_other, ⊎_elim}, specs.Global.Vec}
+use Rattle.std.proofs.lemmas.{Bool.{cases_lt, Decides.nat_tests}, List.{length-append, map-append, take_more}}
 use Rattle.std.proofs.lemmas.List.{get_or_append_left, get_or-append_right, get_or_past, get_or-replicate, length-replicate}
-use Rattle.std.proofs.lemmas.List.{length-append, map-append, take_more}
 use Rattle.std.proofs.lemmas.Grind.{replicate_next}
-use Rattle.std.specs.Global.{Vec}
-use Rattle.bit_blocks.specs.Bits.{blocks_for}
+use Rattle.bit_blocks.{specs.Bits.blocks_for, proofs.{Masks.{is_one-ones, is_one-zero}, BitsLemmas.blocks_for-above}}
 use Rattle.bit_blocks.specs.Storage.{value_at, FillsFirst, IsPacked, IsZeroFrom, WritesInPlace, WritesValue}
-use Rattle.bit_blocks.proofs.{Masks.{is_one-ones, is_one-zero}, BitsLemmas.blocks_for-above}
-use Rattle.bit_blocks.proofs.StorageLemmas.{value_at-is, value_at-past}
-use Rattle.bit_blocks.proofs.ChangeLemmas.{div_lt, nat_lt-indexes}
+use Rattle.bit_blocks.proofs.{StorageLemmas.{value_at-is, value_at-past}, ChangeLemmas.{div_lt, nat_lt-indexes}}
 
 -- ---- whole blocks
 

@@ -1,8 +1,7 @@
 -- How the blocks of a bit vector hold its list, by index.
 use Rattle.std.proofs.Common.{◌≡◌, ◌≢◌, ℕ, zero, suc, ◌+◌, ◌-◌, ◌*◌, ◌/◌, ◌%◌, ◌^◌, ◌<◌, ◌≤◌, Bool, false, ◌==◌, List, ◌++◌}
 use Rattle.std.proofs.Common.{length, get_or, take, set, replicate, refl, sym, ap, ◌∙◌, arith, length-take, length-append}
-use Rattle.std.proofs.Common.{length-set, get_or-take, get_or-set_same, get_or-set_other}
-use Rattle.std.proofs.lemmas.Grind.{common_steps}
+use Rattle.std.proofs.{Common.{length-set, get_or-take, get_or-set_same, get_or-set_other}, lemmas.Grind.common_steps}
 use Rattle.std.proofs.lemmas.Nat.{Bits.{bit_at-zero, same_from_bits_below, bit_at-lt}, div-mul-add, mod-mul-add}
 use Rattle.std.proofs.lemmas.List.{FromFn.{length-map-range_with_len, get_or-map-range_with_len}, get_or_past}
 use Rattle.std.{proofs.lemmas.List.{ext_get_or, get_or-replicate, length-replicate}, specs.Int.bit_at}

@@ -1,8 +1,7 @@
 -- What a copy of the tail of a list holds, by index, and what its summary says.
 use Rattle.std.proofs.Common.{◌≡◌, ◌≢◌, ℕ, ◌+◌, ◌-◌, ◌/◌, ◌%◌, ◌^◌, ◌<◌, ◌≤◌, false, ◌&&◌, nat_le, List, [], ◌++◌, map}
 use Rattle.std.proofs.Common.{length, get_or, set, take, drop, replicate, All, sym, ap, ap₂, ◌∙◌, arith, mod-lt}
-use Rattle.std.proofs.Common.{length-append, take_all, div-lt_iff_lt-mul, ◌*◌}
-use Rattle.std.proofs.lemmas.Bool.Decides.{nat_tests}
+use Rattle.std.proofs.{Common.{length-append, take_all, div-lt_iff_lt-mul, ◌*◌}, lemmas.Bool.Decides.nat_tests}
 use Rattle.std.proofs.lemmas.List.{Elements.{All-same, All-append, All-drop}, drop-map, map-append, get_or-drop}
 use Rattle.std.proofs.lemmas.List.{get_or-replicate, get_or_append_left, get_or-append_right, length-replicate}
 use Rattle.std.proofs.lemmas.List.{length-drop}

@@ -1,14 +1,14 @@
 -- What the calls of a bit vector cite: its length, its capacity and its list.
 use Rattle.std.proofs.Common.{◌≡◌, ℕ, ◌+◌, ◌-◌, ◌*◌, ◌/◌, ◌^◌, ◌<◌, ◌≤◌, max, Bool, false, zero, suc, List, [], ◌∷◌, map}
 use Rattle.std.proofs.Common.{length, get_or, refl, sym, ap, ◌∙◌, arith, Some, None, slice_get, All, mul-le-mul_right}
-use Rattle.std.proofs.Common.{pow_pos, inl, inr, div-lt_iff_lt-mul}
-use Rattle.std.proofs.lemmas.{Bool.{cases_lt, Decides.nat_tests}, List.{get_or-map, length-map, Elements.All-tail}}
+use Rattle.std.proofs.Common.{pow_pos}
+use Rattle.std.proofs.lemmas.{Bool.Decides.nat_tests, List.{get_or-map, length-map, Elements.All-tail}}
 use Rattle.std.proofs.lemmas.Nat.Bits.{bit_at-lt, bit_at-zero, same_from_bits_below}
 use Rattle.std.proofs.lemmas.Option.{slice_get-get_or, slice_get_past}
 use Rattle.std.specs.Int.{bit_at}
 use Rattle.bit_blocks.specs.{Bits.{Bits, IsWithinCapacity, IsCapacityOfBlocks, blocks_for, capacity_of}, Digits.is_one}
 use Rattle.bit_blocks.specs.Storage.{value_at, values_of, IsPacked}
-use Rattle.bit_blocks.proofs.BitsLemmas.{blocks_for-enough, blocks_for-least, blocks_for-past}
+use Rattle.bit_blocks.proofs.BitsLemmas.{blocks_for-enough, blocks_for-least}
 use Rattle.bit_blocks.proofs.{StorageLemmas.{length-values_of, value_at-past, get_or-values_of, value_at-is, value_at-index}, Masks.is_one-zero}
 
 -- ---- the length and the capacity
@@ -103,21 +103,6 @@ blocks_for-none w pos = omega (arith, blocks_for-least w 0 0 pos (omega arith))
 
 pub packed_nil : {X : Type 0} (w : ℕ) (f : X → ℕ) (P : X → Type 0) (xs : List X) → 0 < w → xs ≡ [] → IsPacked w f P xs 0
 packed_nil w f P xs pos e = grind (arith, blocks_for-none w pos, value_at-past, length-map)
-
-pub packed_whole : {X : Type 0} (w n : ℕ) (f : X → ℕ) (P : X → Type 0) (xs : List X) → 0 < w → n ≡ length xs * w → n < 2 ^ 64 → All P xs → IsPacked w f P xs n
-packed_whole w n f P xs pos is fits each = record {
-  each = each;
-  count =
-      let none : n - length xs * w ≡ 0 = omega (arith, is) in
-      omega (arith, blocks_for-past w (length xs) n pos (omega (arith, is, pos)), ap (blocks_for w) none, blocks_for-none w pos);
-  tail = record {
-    zero_tail = λ i past. value_at-past w (map f xs) i (rw length-map (elim (cases_lt (i / w) (length xs)) [
-      | inl lt ↦ (let below = (div-lt_iff_lt-mul pos).0 lt in absurd (omega (arith, below, is, past)))
-      | inr le ↦ le
-    ]));
-  };
-  fits = fits;
-}
 
 pub values_of-none : (w : ℕ) (ms : List ℕ) → values_of w ms 0 ≡ []
 unfolding values_of

@@ -1,8 +1,7 @@
 -- A list of truth values, and the blocks that store it.
 use Rattle.std.specs.Prelude.{◌≡◌, ◌≢◌, ℕ, ◌||◌, nat_lt, nat_le, if◌then◌else◌, ◌<◌, ◌≤◌, ◌^◌, ◌+◌, ◌-◌, ◌*◌, ◌/◌, ◌%◌, min}
 use Rattle.std.specs.Prelude.{Bool, true, false, List, [], ◌∷◌, map, length, take, drop, ◌==◌, Some, slice_get}
-use Rattle.std.specs.Int.{bit_at}
-use Rattle.std.specs.List.{range_with_len, flat_map}
+use Rattle.std.specs.{Int.bit_at, List.{range_with_len, flat_map}}
 
 -- What contracts see of a bit vector: its truth values, and for how many it has capacity.
 pub record Bits : Type 0 where

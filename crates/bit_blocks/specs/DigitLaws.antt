@@ -1,11 +1,9 @@
 -- The operators on numbers of w digits do to the digits what `Digits` says, at any width.
 use Rattle.std.specs.Prelude.{◌≡◌, ℕ, ◌+◌, ◌-◌, ◌*◌, ◌/◌, ◌%◌, ◌^◌, ◌<◌, ◌≤◌, ◌==◌, ◌↔◌, true, bit_and, bit_or, bit_xor}
-use Rattle.std.specs.Int.{bit_at}
-use Rattle.std.proofs.{Common.{sym, ◌∙◌, ap, arith}, lemmas.Bool.{eqb-true, eq-eqb}}
+use Rattle.std.{specs.Int.bit_at, proofs.{Common.{sym, ◌∙◌, ap, arith}, lemmas.Bool.{eqb-true, eq-eqb}}}
 use Rattle.std.proofs.lemmas.Nat.{and_le_l, or_lt, xor_lt, and-not, pow_below, pow_pos, shr_split, shr_le, shr-shr}
-use Rattle.std.proofs.lemmas.Nat.{mod_below}
+use Rattle.std.proofs.lemmas.Nat.{mod_below, Bits.{bit_at_cat_high, bit_at-zero}}
 use Rattle.std.proofs.lemmas.Nat.Bits.{bit_at_and, bit_at_or, bit_at_xor, and_pow, bit_at-lt, bit_at_above, bit_at_cat_low}
-use Rattle.std.proofs.lemmas.Nat.Bits.{bit_at_cat_high, bit_at-zero}
 use Rattle.bit_blocks.specs.Digits.{IsBoth, IsEither, IsDifferent, IsComplement, IsShiftedLeft, IsShiftedRight}
 
 pub both : (w m n r : ℕ) → m < 2 ^ w → n < 2 ^ w → r ≡ bit_and m n → (r < 2 ^ w) × IsBoth w m n r

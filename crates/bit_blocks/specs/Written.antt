@@ -1,7 +1,6 @@
 -- What is left of blocks that were written, one by one or at the end of a vector. Of the public clauses only those of `packed`
 -- cite this.
-use Rattle.std.specs.Prelude.{◌≡◌, ℕ, All, length, List, vec_capacity, vec_len}
-use Rattle.std.specs.Global.{Vec}
+use Rattle.std.specs.{Prelude.{◌≡◌, ℕ, All, length, List, vec_capacity, vec_len}, Global.Vec}
 
 -- Some blocks of a list were written: each is a block value, and there are as many.
 pub record WritesBlocks {X : Type 0} (is_block : X → Type 0) (old new : List X) : Type 0 where

@@ -1,26 +1,23 @@
 -- What a caller cites of sets that are made of chains.
 use Rattle.std.proofs.Common.{◌≡◌, ℕ, ◌+◌, ◌-◌, ◌*◌, ◌/◌, ◌%◌, ◌<◌, ◌≤◌, ◌++◌, ◌⊎◌, inl, inr, Bool, ◌&&◌, not, nat_le, ltb}
 use Rattle.std.proofs.Common.{filter, take, Option, List, [], ◌∷◌, Result, IsTrue, Bor, refl, sym, ap, ◌∙◌, zero, suc}
-use Rattle.std.proofs.Common.{append_assoc, arith, div-add-mod', length, reverse, subst, ◌==◌}
-use Rattle.std.proofs.Math.Nat.{add-mod_right}
+use Rattle.std.proofs.{Common.{append_assoc, arith, div-add-mod', length, reverse, subst, ◌==◌}, Math.Nat.add-mod_right}
 use Rattle.std.proofs.{iter.Yields.nat_range_steps, lemmas.{Bool.{cases_Bool, Decides.nat_tests}, Grind.take_at_read, Nat.mod-mul-add}}
 use Rattle.std.proofs.lemmas.{List.{append-nil, reverse-append}, List.Folds.list_any-append, List.Sums.{length-filter, count_by-le-length, sum_by-append}}
 use Rattle.std.proofs.lemmas.Iterator.{YieldsList, YieldsList-from_range, YieldsList-from_take, Adapters.fact_from_collect}
 use Rattle.std.proofs.lemmas.Iterator.Consumers.{YieldsList-at, YieldsList-from_filter, YieldsList-from_shown}
-use Rattle.std.proofs.lemmas.Result.{IfOk-weaker}
-use Rattle.std.specs.Prelude.{IfOk}
+use Rattle.std.{proofs.lemmas.Result.IfOk-weaker, specs.Prelude.IfOk}
 use Rattle.std.specs.{BTreeMap.{BTreeMap, get_by}, Fn.{Mut, CalledAt}, Iterator.{Drains, Adapters.{filter_source, filter_callee, filter_steps, rev_source, rev_steps, take_count, take_source, take_steps}}, List.range_with_len}
 use Rattle.bit_blocks.specs.Bits.{Bits}
 use Rattle.set_algebra.specs.{Members.IsSameSet, Order.order_of_sets, Ranges.span}
 use Rattle.set_algebra.specs.Sets.{AscendsFrom, IsAscending, bound_of, elements, has, put_all, those_below}
-use Rattle.bit_set.specs.Walk.{Walk, Advances, AdvancesBack}
+use Rattle.bit_set.{specs.Walk.{Walk, Advances, AdvancesBack}, proofs.WalkCalls.gives_from_back}
 use Rattle.set_algebra.proofs.AlgebraLemmas.{members_of_merged_sets}
 use Rattle.set_algebra.proofs.TestLemmas.{below_all, below_none, filter_all, filter_none, from_all, from_none}
-use Rattle.bit_set.proofs.WalkCalls.{gives_from_back}
 use Rattle.set_algebra.proofs.PlaceLemmas.{all_by_places, any_by_places, at_place, has_place, in_order}
 use Rattle.set_algebra.proofs.RangeLemmas.{IsAscending-span, filtered_apart, has-range_with_len, has-span, length-span}
 use Rattle.set_algebra.proofs.SetLemmas.{AscendsFrom-filter, IsAscending-elements, has-filter, has-first, same_members}
-pub use Rattle.set_algebra.proofs.CallerLemmas.{length-filter-le, take-first, has-reverse, ascends_pushed, length_of_parts, count_complement, few_below, fewer_within, multiples, set_steps, calls, kept_by_tests, steps, rows}
+pub use Rattle.set_algebra.proofs.CallerLemmas.{increasing, ascending, ranked, same_by_members, same_elements, counts, pages, ranges, length-filter-le, take-first, has-reverse, ascends_pushed, length_of_parts, count_complement, few_below, fewer_within, multiples, set_steps, calls, kept_by_tests, steps, rows}
 
 module _ {S V E : Type 0} {steps : S → Option ℕ → S → Type 0} {s : S} {all : List ℕ} where
   -- what is made of a chain by `from_iter` is made of all that the chain gives

@@ -5,11 +5,9 @@ use Rattle.std.proofs.Common.{ℕ, ◌+◌, ◌-◌, ◌≤◌, ◌++◌, length
 use Rattle.std.proofs.{Math.Seq.take-append_seam, lemmas.{List.get_or-append_right, Option.slice_get-get_or}}
 use Rattle.std.specs.Iterator.{YieldsFirst}
 use Rattle.bit_words.specs.Bounds.{greatest}
-use Rattle.set_algebra.specs.{Moved.raised, Sets.bound_of}
+use Rattle.set_algebra.specs.{Moved.raised, Sets.{bound_of, elements, has, put, union, without}, Ranges.span}
 use Rattle.bit_set.specs.Changes.{Change, Change.{Insert, InsertRange, PopFirst, PopLast, ShiftUp, ShrinkToFit, Toggle}, Changes, Event, Happens, Outcome, Outcome.{Done, Gave, NoMemory, Returned}, elements_after, outcome_of_result, outcome_of, outcomes}
 use Rattle.bit_set.specs.Changes.{set_after}
-use Rattle.set_algebra.specs.Sets.{elements}
-use Rattle.set_algebra.specs.{Ranges.span, Sets.{has, put, union, without}}
 
 -- ---- one call
 

@@ -1,35 +1,17 @@
 -- What a set becomes by a pass over two others at once.
-use Rattle.std.proofs.Common.{◌≡◌, ℕ, ◌-◌, ◌++◌, max, replicate, length-append, Bool, false, List, [], length, take, ap, ◌∙◌, arith, ⊎_elim, length-take, get_or-take}
-use Rattle.std.proofs.lemmas.{Bool.cases_lt, List.{get_or_past, length-replicate}}
-use Rattle.bit_blocks.{specs.{Merges.merge_of, declared.block.merge.Merge.TheVariants.{Difference, Intersection, Union}}, proofs.MergeLemmas.{get_or-merged, length-merged}}
+use Rattle.std.proofs.Common.{◌≡◌, ℕ, ◌-◌, ◌++◌, max, replicate, length-append, Bool, false, List, [], length, take, ap, refl, ◌∙◌, arith}
+use Rattle.std.proofs.lemmas.List.{length-replicate}
+use Rattle.bit_blocks.specs.{Merges.merge_of, declared.block.merge.Merge.TheVariants.{Difference, Intersection, Union}}
 use Rattle.set_algebra.specs.{Members.{IsDifference, IsUnionWithIntersection}, Sets.{difference, elements, has, intersection, union}}
 use Rattle.set_algebra.proofs.AlgebraLemmas.{elements-lengthened, has-difference, has-intersection, has-union}
-use Rattle.set_algebra.proofs.SetLaws.{IsAscending-put_all}
-use Rattle.bit_set.proofs.ReportedLemmas.{elements-except}
-use Rattle.set_algebra.proofs.SetLemmas.{AscendsFrom-filter, IsAscending-elements, elements-by_members, has-elements}
+use Rattle.set_algebra.proofs.{SetLaws.IsAscending-put_all, SetLemmas.{AscendsFrom-filter, IsAscending-elements}}
+use Rattle.bit_set.proofs.ReportedLemmas.{elements-cut, elements-except, length-cut}
 use Rattle.set_algebra.proofs.SetLemmas.{same_members}
 
 -- ---- a union with an intersection
 
 pub elements-common : (xs ys : List Bool) → elements (merge_of Intersection xs (take (length xs) ys)) ≡ intersection (elements xs) (elements ys)
-elements-common xs ys =
-    elements-by_members (merge_of Intersection xs (take (length xs) ys)) (intersection (elements xs) (elements ys)) (AscendsFrom-filter 0 _ (elements xs) (IsAscending-elements xs)) (λ k.
-    let value = get_or-merged Intersection xs (take (length xs) ys) k in
-    let member = has-intersection (elements xs) (elements ys) k in
-    let first = has-elements xs k in
-    let second = has-elements ys k in
-    ⊎_elim
-    (λ early. let cut = get_or-take (length xs) ys k false early in grind arith)
-    (λ late. let past = get_or_past xs k false late in grind arith)
-    (cases_lt k (length xs)))
-
-pub length-lengthened-common : (xs ys zs : List Bool)
-    → length (merge_of Union (xs ++ replicate (length ys - length xs) false)
-    (merge_of Intersection ys (take (length ys) zs))) ≡ max (length xs) (length ys)
-length-lengthened-common xs ys zs =
-    let front = xs ++ replicate (length ys - length xs) false in
-    let common = merge_of Intersection ys (take (length ys) zs) in
-    omega (arith, length-merged Union front common, length-merged Intersection ys (take (length ys) zs), length-take (length ys) zs, length-append xs (replicate (length ys - length xs) false), length-replicate (length ys - length xs) false)
+elements-common xs ys = elements-cut Intersection xs ys _ (λ b. refl) (AscendsFrom-filter 0 _ (elements xs) (IsAscending-elements xs)) (has-intersection (elements xs) (elements ys))
 
 pub members-common : (s t u r : List ℕ) → r ≡ union s (intersection t u) → IsUnionWithIntersection s t u r
 members-common s t u r is n = let member = has-union s (intersection t u) n in let both = has-intersection t u n in ap (λ v. has v n) is ∙ grind arith
@@ -52,8 +34,7 @@ pub length-replaced : (xs ys zs : List Bool)
     (merge_of Difference ys (take (length ys) zs))) ≡ max (length xs) (length ys)
 length-replaced xs ys zs =
     let front = xs ++ replicate (length ys - length xs) false in
-    let apart = merge_of Difference ys (take (length ys) zs) in
-    omega (arith, length-merged Union (replicate (length front) false) apart, length-replicate (length front) false, length-merged Difference ys (take (length ys) zs), length-take (length ys) zs, length-append xs (replicate (length ys - length xs) false), length-replicate (length ys - length xs) false)
+    omega (arith, length-cut Union Difference (replicate (length front) false) ys zs, length-replicate (length front) false, length-append xs (replicate (length ys - length xs) false), length-replicate (length ys - length xs) false)
 
 pub members-replaced : (t u r : List ℕ) → r ≡ difference t u → IsDifference t u r
 members-replaced t u r is n = ap (λ v. has v n) is ∙ has-difference t u n

@@ -3,9 +3,8 @@ use Rattle.std.proofs.Common.{◌≡◌, ℕ, ◌+◌, ◌-◌, ◌*◌, ◌/◌
 use Rattle.std.proofs.lemmas.{Bool.Decides.nat_tests, List.Elements.{All-nil, All-cons, All-head, All-tail, All-append, All-weaker}}
 use Rattle.std.specs.Option.{SomeIff}
 use Rattle.bit_words.specs.Nonzero.{Hand, Nonzeros}
-use Rattle.set_algebra.specs.Sets.{AscendsFrom, IsAscending}
+use Rattle.set_algebra.{specs.Sets.{AscendsFrom, IsAscending}, proofs.SetLemmas.AscendsFrom-reach}
 use Rattle.bit_set.specs.{Indexes.{indexes, indexes_of, left_between, IsSparseWalk}, Walk.bound_on_rest}
-use Rattle.set_algebra.proofs.SetLemmas.{AscendsFrom-reach}
 use Rattle.bit_set.proofs.{IndexLemmas.{AscendsFrom-indexes, indexes-below}, SparseLemmas.ends_apart}
 
 -- n lies from low on and below high

@@ -9,8 +9,7 @@ use Rattle.bit_blocks.proofs.{BitsLemmas.{blocks_of-digit, read_back}, OnesLemma
 use Rattle.bit_blocks.specs.{Bits.blocks_of, Highest.IsHighest, Lowest.{IsLowest, IsCleared}, Digits.is_one}
 use Rattle.set_algebra.proofs.SetLemmas.{AscendsFrom-elements_from, elements-alike, length-elements-le, length-elements_from_both, length-elements}
 use Rattle.set_algebra.specs.Sets.{AscendsFrom, elements_from, elements}
-use Rattle.bit_set.specs.Indexes.{digits_from}
-use Rattle.bit_set.specs.Indexes.{values_in, indexes}
+use Rattle.bit_set.specs.Indexes.{digits_from, values_in, indexes}
 
 -- digits that are 0 are passed over
 zeros_passed : (a w p : ℕ) (bs : List Bool) → elements_from p (digits_from 0 a w ++ bs) ≡ elements_from (p + w) bs

@@ -5,8 +5,7 @@ use Rattle.std.proofs.lemmas.{List.{length-map, get_or-map, ext_get_or, Elements
 use Rattle.std.proofs.lemmas.{Nat.Bits.bit_at-zero}
 use Rattle.std.proofs.{lemmas.{Nat.Bits.same_from_bits_below, Option.same_Some}, Math.Nat.{div-add-mod', mod-lt}}
 use Rattle.serde_json.specs.{Data.{Data, array, member, no_members, number, object, unsigned}, Events.members_len, View.{view, items_of, items_view, members_view}, declared.value.Value.Value}
-use Rattle.serde_json.specs.{Find.as_object}
-use Rattle.serde_json.proofs.Views.{Entry, members_len-members_view}
+use Rattle.serde_json.{specs.Find.as_object, proofs.Views.{Entry, members_len-members_view}}
 use Rattle.bit_blocks.{specs.{Bits.{blocks_for, blocks_of}, Digits.IsShiftedRight}, proofs.BitsLemmas.{blocks_of-lt, length-blocks_of}}
 use Rattle.bit_set.proofs.{IndexLemmas.values_in-blocks_of, FilledLemmas.blocks_of_zero_tail}
 use Rattle.bit_set.specs.{declared.json.JsonError.JsonError, Json.{HasNumbers, HasZeroTail, IsFault, IsFirstFault, Spells, members_in}}

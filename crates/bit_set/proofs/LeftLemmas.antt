@@ -1,10 +1,8 @@
 -- How many elements a walk has left that goes by the blocks that are not 0.
 use Rattle.std.proofs.Common.{◌≡◌, ℕ, ◌+◌, ◌*◌, ◌^◌, ◌<◌, List, [], ◌∷◌, ◌++◌, length, All, count_ones, refl}
-use Rattle.std.proofs.Common.{arith, length-append}
-use Rattle.std.proofs.lemmas.List.{Elements.{All-head, All-tail}, Sums.sum_by-cons}
+use Rattle.std.proofs.{Common.{arith, length-append}, lemmas.List.{Elements.{All-head, All-tail}, Sums.sum_by-cons}}
 use Rattle.bit_words.specs.Nonzero.{Hand, Nonzeros, ones_left}
-use Rattle.bit_set.specs.{Indexes.{indexes, indexes_of, left_between, IsSparseWalk}}
-use Rattle.bit_set.proofs.IndexLemmas.{length-indexes}
+use Rattle.bit_set.{specs.Indexes.{indexes, indexes_of, left_between, IsSparseWalk}, proofs.IndexLemmas.length-indexes}
 
 module _ {X : Type 0} (w : ℕ) (number : X → ℕ) (is_block : X → Type 0) (small : (x : X) → is_block x → number x < 2 ^ w) where
   ones_of_block : (p : ℕ) (x : X) → is_block x → length (indexes w p (number x) []) ≡ count_ones (number x)

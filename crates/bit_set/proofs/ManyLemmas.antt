@@ -1,13 +1,11 @@
 -- Sets that are made of many: what each number becomes, and how long the lists are.
 use Rattle.std.proofs.Common.{◌≡◌, ◌≢◌, ℕ, ◌<◌, ◌≤◌, max, min, Bool, true, false, ◌↔◌, ◌&&◌, ◌||◌, IsTrue, All, Any, List, [], ◌∷◌, map, length, get_or, refl, sym, ◌∙◌, arith, ⊎_elim}
-use Rattle.std.proofs.{Math.Bool.or-false, lemmas.Bool.cases_lt}
-use Rattle.std.specs.List.{fold, list_all, list_any}
+use Rattle.std.{proofs.{Math.Bool.or-false, lemmas.Bool.cases_lt}, specs.List.{fold, list_all, list_any}}
 use Rattle.std.proofs.lemmas.List.{Elements.{All-cons, All-head, All-nil, All-tail, All-weaker}, Folds.{Any-from_list_any, list_any-from_Any}, Sums.{AllPass-from_list_all, list_all-from_AllPass}}
 use Rattle.bit_blocks.specs.{Bits.Bits, declared.block.merge.Merge.{TheVariants.{Intersection, Union}}}
-use Rattle.set_algebra.specs.Sets.{IsAscending, elements, has, intersection, union}
+use Rattle.set_algebra.{specs.Sets.{IsAscending, elements, has, intersection, union}, proofs.ValueLemmas.has-past}
 use Rattle.bit_set.specs.Many.{HasEach, HasSome, intersection_all, longest, merged_at, shortest, union_all}
 use Rattle.set_algebra.proofs.{AlgebraLemmas.{has-intersection, has-union, IsAscending-merge_of_sets}, MemberLemmas.none_from_members, SetLemmas.{has-elements, same_members, IsAscending-elements}}
-use Rattle.set_algebra.proofs.ValueLemmas.{has-past}
 
 -- ---- one number
 

@@ -1,15 +1,13 @@
 -- What is in a range and what is not, and what searches find: the laws of `src/laws/ranges.rt`.
 use Rattle.std.proofs.Common.{◌≡◌, ℕ, ◌+◌, ◌↔◌, true, ◌||◌, eqb, ltb, nat_le, List, [], ◌∷◌, ◌++◌, IsTrue, length, filter, Option, Some, None, refl, sym, ap, ◌∙◌, arith, subst}
-use Rattle.std.proofs.lemmas.Bool.{false≢true, Decides.nat_tests}
-use Rattle.std.specs.Prelude.{MatchOption}
+use Rattle.std.{proofs.lemmas.Bool.{false≢true, Decides.nat_tests}, specs.Prelude.MatchOption}
 use Rattle.bit_blocks.specs.{Ranges.in_range, Searches.{FindsBefore, FindsFrom}}
 use Rattle.set_algebra.specs.{Choices.{IsFirstOf, IsGreatest, IsLastOf, IsLeast}, Members.HasNone, Ranges.{span, those_in_range}}
-use Rattle.set_algebra.specs.Sets.{IsAscending, difference, has, is_disjoint, those_below, those_from, union}
+use Rattle.set_algebra.specs.Sets.{IsAscending, difference, has, is_disjoint, those_below, those_from, union, without}
 use Rattle.set_algebra.proofs.{AlgebraLemmas.has-union, EndLemmas.{first_of_those, greatest_last, has-pushed, last_of_those, least_first}, MemberLemmas.{init_below, none_from_members, takes_least}}
 use Rattle.set_algebra.proofs.{RangeLemmas.{IsAscending-span, filtered_apart, has-span}, SetLaws.IsAscending-put_all, SetLemmas.{AscendsFrom-filter, has-filter, same_members}}
 use Rattle.bit_set.proofs.MissingLemmas.{has-missing}
 use Rattle.set_algebra.proofs.SubsetLemmas.{is_disjoint-members}
-use Rattle.set_algebra.specs.Sets.{without}
 
 -- ---- a range in two parts
 

@@ -6,9 +6,8 @@ use Rattle.std.proofs.lemmas.List.{get_or_append_left, get_or-append_right, get_
 use Rattle.std.proofs.lemmas.List.FromFn.{get_or-map-range_with_len, length-map-range_with_len, length-range_with_len}
 use Rattle.std.{proofs.Math.Nat.{div-add-mod', mod-lt, mul-div_cancel}, specs.List.{count_by, range_with_len}}
 use Rattle.bit_blocks.specs.{Digits.is_one, Lowest.{IsCleared, IsLowest}, Ranges.{in_range, values_in_range}}
-use Rattle.set_algebra.specs.Ranges.{span}
+use Rattle.set_algebra.specs.{Ranges.span, Sets.{AscendsFrom, difference, elements, elements_from, has}}
 use Rattle.bit_set.specs.{Indexes.{digits_from, indexes}, Missing.{IsMissingWalk, MissingWalk, PassesMembers, StartsMissing, StaysInRange, missing_left, missing_values}}
-use Rattle.set_algebra.specs.Sets.{AscendsFrom, difference, elements, elements_from, has}
 use Rattle.set_algebra.proofs.{MemberLemmas.takes_least, RangeLemmas.{IsAscending-span, has-span}}
 use Rattle.bit_set.proofs.IndexLemmas.{AscendsFrom-indexes, indexes-lowest, indexes-zero}
 use Rattle.set_algebra.proofs.SetLemmas.{AscendsFrom-filter, AscendsFrom-lower, elements-alike, has-below, has-elements, has-elements_from, has-filter, length-elements, same_members}

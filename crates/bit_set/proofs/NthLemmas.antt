@@ -1,13 +1,11 @@
 -- Calls of `next` in a row, of which those within one block may be left out.
 use Rattle.std.proofs.Common.{◌≡◌, ℕ, zero, suc, ◌+◌, ◌-◌, ◌*◌, ◌/◌, ◌^◌, ◌<◌, ◌≤◌, List, [], ◌∷◌, ◌++◌, drop, take, map, length, slice_get, All, Option, Some, None, count_ones, refl, sym, ap, ap₂}
-use Rattle.std.proofs.Common.{◌∙◌, subst, arith}
+use Rattle.std.proofs.{Common.{◌∙◌, subst, arith}, Math.Seq.{drop-append_seam, drop-drop}}
 use Rattle.std.proofs.lemmas.List.{append_assoc, drop_all, drop-append-le, drop-map, length-append, length-drop, length-map, take-append-drop, Elements.{All-drop, All-take}}
-use Rattle.std.proofs.Math.Seq.{drop-append_seam, drop-drop}
 use Rattle.std.specs.{Iterator.YieldsLast, List.last_or}
 use Rattle.bit_words.specs.Nonzero.{Hand, Nonzeros, SkipsBlocks}
-use Rattle.set_algebra.specs.Sets.{AscendsFrom, IsAscending}
+use Rattle.set_algebra.{specs.Sets.{AscendsFrom, IsAscending}, proofs.SetLemmas.AscendsFrom-lower}
 use Rattle.bit_set.specs.{Indexes.{indexes, indexes_of, left_between, seen_of, IsSparseWalk, Passes}, Walk.{Walk, Advances, PullsBlocks, PullsBlocksAlong, Skips}}
-use Rattle.set_algebra.proofs.SetLemmas.{AscendsFrom-lower}
 use Rattle.bit_set.proofs.{IndexLemmas.{indexes-none, length-indexes}, LeftLemmas.ones_of_entries, PartLaws.rank_of, SparseLemmas.indexes_of-append}
 
 -- ---- lists

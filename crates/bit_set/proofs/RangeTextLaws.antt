@@ -1,15 +1,13 @@
 -- The text that is written of the runs of a set reads as just these runs.
 use Rattle.std.proofs.Common.{◌≡◌, ◌≢◌, ℕ, ◌+◌, ◌-◌, ◌<◌, ◌≤◌, true, cond, eqb, List, [], ◌∷◌, ◌++◌, length, Ok, refl, sym, ap, ap₂, ◌∙◌, arith, append-nil, length-append, eq-eqb, ne_eqb, subst}
-use Rattle.std.proofs.Common.{⊎_elim}
+use Rattle.std.proofs.{Common.⊎_elim, lemmas.Str.Parse.{IsNumeralModel, numerals_by_value, tells_all_ascii_digits}}
 use Rattle.std.proofs.lemmas.{Bool.{and_parts, cases_eq, or_right, Decides.nat_tests}, Fmt.{decimal_nonempty, digits_decimal, digits_value-decimal}, List.Elements.{All-append, All-cons, All-nil}}
-use Rattle.std.proofs.lemmas.Str.Parse.{IsNumeralModel, numerals_by_value, tells_all_ascii_digits}
 use Rattle.std.specs.{Prelude.{codes, decimal}, Char.is_ascii_digit, List.{All, flat_map}, Str.all_ascii_digits, Str.Parse.digits_value}
 use Rattle.std.specs.declared.ops.Range.{Range}
 use Rattle.bit_words.specs.Bounds.{greatest}
 use Rattle.bit_blocks.specs.Ranges.{in_range}
-use Rattle.set_algebra.specs.Runs.{AreApartFrom, in_ranges, runs_of}
+use Rattle.set_algebra.specs.{Runs.{AreApartFrom, in_ranges, runs_of}, Sets.{IsAscending, has}}
 use Rattle.bit_set.specs.{RangeReading.{before_ranges, items_of, number_of, range_between, range_of, ranges_in, ranges_of}, RangeTexts.{ranges_text, run_text}}
-use Rattle.set_algebra.specs.Sets.{IsAscending, has}
 use Rattle.set_algebra.proofs.RunLemmas.{runs_are}
 use Rattle.bit_set.proofs.RangeTextLemmas.{ends_alone, ends_apart, more_items, one_item}
 

@@ -1,12 +1,10 @@
 -- How the text of ranges is read: its digits, its items, and what each adds to a set.
-use Rattle.std.proofs.{Math.Bool.or-false}
+use Rattle.std.{proofs.Math.Bool.or-false, specs.{Str.{all_ascii_digits, Parse.digits_value}, declared.ops.Range.Range}}
 use Rattle.std.proofs.Common.{◌≡◌, ◌≢◌, ℕ, zero, suc, ◌+◌, ◌-◌, ◌*◌, ◌^◌, ◌<◌, ◌≤◌, max, min, nat_le, nat_lt, Bool, true, false, ◌&&◌, ◌||◌, cond, eqb, List, [], ◌∷◌, ◌++◌, length, map, take, get_or}
 use Rattle.std.proofs.Common.{Option, Some, None, Result, Ok, Err, refl, sym, ap, subst, ◌∙◌, arith, ne_eqb, eq-eqb, ⊎_elim}
 use Rattle.std.proofs.lemmas.{Bool.{and_parts, cases_eq, false≢true, Decides.nat_tests}, Int.Digits.digits_value_more, Str.digit_value_digit}
 use Rattle.std.proofs.lemmas.List.{Elements.{All-head, All-tail, All-weaker}, Splits.{length-slice_split, slice_split_at, slice_split_none}}
 use Rattle.std.specs.{Borrow.Bor, Prelude.{IfNone, IfSome, MatchOption, ⊤}, Option.option_map_or, Result.{is_ok, result_unwrap_or}, Char.{IsAsciiDigit, is_ascii_digit}, List.{All, slice_split}}
-use Rattle.std.specs.{Str.all_ascii_digits, Str.Parse.digits_value}
-use Rattle.std.specs.declared.ops.Range.{Range}
 use Rattle.bit_words.specs.Bounds.{greatest}
 use Rattle.bit_set.specs.RangeReading.{IsRangesFault, before_ranges, cut_at, end_of, items_left, items_of, number_of, range_between, range_of, ranges_in, ranges_of, without_space, without_spaces}
 use Rattle.set_algebra.specs.{Members.{HasNone, UpdatesRange}, Ranges.span_end, Runs.in_ranges, Sets.has}

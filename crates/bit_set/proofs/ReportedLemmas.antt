@@ -1,10 +1,10 @@
 -- What a call returns that reports whether it changed a set, in the words of each operation, and how many elements there are
 -- then.
 use Rattle.std.proofs.Common.{length-take, ◌≡◌, ℕ, ◌+◌, ◌≤◌, ◌↔◌, ◌-◌, ◌++◌, max, replicate, length-append, Bool, true, false, not, cond, List, [], ◌∷◌, filter, length, take, refl, sym, ap, ◌∙◌}
-use Rattle.std.proofs.Common.{arith, ⊎_elim, Result, Ok, Err, get_or-take}
+use Rattle.std.proofs.Common.{arith, ⊎_elim, Result, Ok, Err, get_or, get_or-take}
 use Rattle.std.proofs.lemmas.{Bool.{cases_lt}, List.{get_or_past, length-replicate}}
 use Rattle.std.specs.{Cmp.Lexicographic.bytes_decides, List.list_all, Prelude.{IfOk, OnOk}}
-use Rattle.bit_blocks.{specs.{Merges.merge_of, declared.block.merge.Merge.TheVariants.{Difference, Symmetric, Union}}, proofs.MergeLemmas.{get_or-merged, length-merged}}
+use Rattle.bit_blocks.{specs.{Merges.{merge_of, merge_of_values}, declared.block.merge.Merge.{Merge, TheVariants.{Difference, Symmetric, Union}}}, proofs.MergeLemmas.{get_or-merged, length-merged}}
 use Rattle.bit_set.specs.Effects.{TellsChange}
 use Rattle.set_algebra.specs.{Members.IsUnionWithDifference, Order.same_sets, Sets.{IsAscending, difference, elements, has, intersection, is_disjoint, is_subset, symmetric_difference, those_new, union}}
 use Rattle.set_algebra.proofs.{AlgebraLemmas.{IsAscending-merge_of_sets, has-difference, has-symmetric, has-union}, MemberLemmas.none_from_members, SetLaws.{IsAscending-put_all, same_values}}
@@ -39,16 +39,16 @@ reported_of_lists old mid new changed same long tells =
     let there : changed ≡ false → elements old ≡ elements new = λ h. sym same ∙ ap elements (sym (tells.0 h)) in
     grind arith
 
--- lengthened with false, and then changed in place
-pub reported_of_lengthened : (old mid new : List Bool) (len : ℕ) (changed : Bool) → mid ≡ old ++ replicate (len - length old) false
-    → length new ≡ max (length old) len → ((changed ≡ false) ↔ (new ≡ mid)) → changed ≡ not (same_sets (elements old) (elements new))
-reported_of_lengthened old mid new len changed is long tells =
-    reported_of_lists old mid new changed (ap elements is ∙ elements-padded old (len - length old))
-    (omega (arith, long, ap length is, length-append old (replicate (len - length old) false), length-replicate (len - length old) false)) tells
-
 -- and where no change was reported there was none
 pub told : (s t : List ℕ) (changed : Bool) → changed ≡ not (same_sets s t) → TellsChange changed s t
 told s t changed tells = record { changed = tells; unchanged = λ none. let lists = bytes_decides s t in grind arith }
+
+-- lengthened with false, and then changed in place
+pub told_of_lengthened : (old mid new : List Bool) (len k : ℕ) (changed : Bool) → mid ≡ old ++ replicate (len - length old) false → len ≡ k
+    → length new ≡ max (length old) k → ((changed ≡ false) ↔ (new ≡ mid)) → TellsChange changed (elements old) (elements new)
+told_of_lengthened old mid new len k changed is at long tells =
+    told (elements old) (elements new) changed (reported_of_lists old mid new changed (ap elements is ∙ elements-padded old (len - length old))
+    (omega (arith, at, long, ap length is, length-append old (replicate (len - length old) false), length-replicate (len - length old) false)) tells)
 
 -- ---- whether a set stays
 
@@ -104,34 +104,33 @@ pub filter_count : (p : ℕ → Bool) (s : List ℕ) → length (filter p s) + c
 filter_count p [] = omega arith
 filter_count p (x ∷ xs) = let rest = filter_count p xs in grind arith
 
--- ---- a union with a difference
+-- ---- a merge with what two others make of each other
 
--- what a list is true at, except for what another is, which counts as far as the first is long
-pub elements-except : (xs ys : List Bool) → elements (merge_of Difference xs (take (length xs) ys)) ≡ difference (elements xs) (elements ys)
-elements-except xs ys =
-    elements-by_members (merge_of Difference xs (take (length xs) ys)) (difference (elements xs) (elements ys)) (AscendsFrom-filter 0 _ (elements xs) (IsAscending-elements xs)) (λ k.
-    let value = get_or-merged Difference xs (take (length xs) ys) k in
-    let member = has-difference (elements xs) (elements ys) k in
+-- what two lists become where the second counts as far as the first is long, and nothing comes of what the first lacks
+pub elements-cut : (m : Merge) (xs ys : List Bool) (r : List ℕ) → ((b : Bool) → merge_of_values m false b ≡ false) → IsAscending r
+    → ((k : ℕ) → has r k ≡ merge_of_values m (has (elements xs) k) (has (elements ys) k)) → elements (merge_of m xs (take (length xs) ys)) ≡ r
+elements-cut m xs ys r none up each =
+    elements-by_members (merge_of m xs (take (length xs) ys)) r up (λ k.
+    let value = get_or-merged m xs (take (length xs) ys) k in
+    let member = each k in
     let first = has-elements xs k in
     let second = has-elements ys k in
     ⊎_elim
     (λ early. let cut = get_or-take (length xs) ys k false early in grind arith)
-    (λ late. let past = get_or_past xs k false late in grind arith)
+    (λ late. let past = get_or_past xs k false late in grind (arith, none (get_or (take (length xs) ys) k false), none (has (elements ys) k)))
     (cases_lt k (length xs)))
 
-pub length-lengthened-except : (xs ys zs : List Bool)
-    → length (merge_of Union (xs ++ replicate (length ys - length xs) false) (merge_of Difference ys (take (length ys) zs))) ≡ max (length xs) (length ys)
-length-lengthened-except xs ys zs =
-    let front = xs ++ replicate (length ys - length xs) false in
-    let apart = merge_of Difference ys (take (length ys) zs) in
-    omega (
-      arith,
-      length-merged Union front apart,
-      length-merged Difference ys (take (length ys) zs),
-      length-take (length ys) zs,
-      length-append xs (replicate (length ys - length xs) false),
-      length-replicate (length ys - length xs) false,
-    )
+pub elements-except : (xs ys : List Bool) → elements (merge_of Difference xs (take (length xs) ys)) ≡ difference (elements xs) (elements ys)
+elements-except xs ys = elements-cut Difference xs ys _ (λ b. refl) (AscendsFrom-filter 0 _ (elements xs) (IsAscending-elements xs)) (has-difference (elements xs) (elements ys))
+
+pub length-cut : (m inner : Merge) (front xs ys : List Bool) → length (merge_of m front (merge_of inner xs (take (length xs) ys))) ≡ max (length front) (length xs)
+length-cut m inner front xs ys =
+    omega (arith, length-merged m front (merge_of inner xs (take (length xs) ys)), length-merged inner xs (take (length xs) ys), length-take (length xs) ys)
+
+pub length-lengthened-cut : (inner : Merge) (xs ys zs : List Bool)
+    → length (merge_of Union (xs ++ replicate (length ys - length xs) false) (merge_of inner ys (take (length ys) zs))) ≡ max (length xs) (length ys)
+length-lengthened-cut inner xs ys zs =
+    omega (arith, length-cut Union inner (xs ++ replicate (length ys - length xs) false) ys zs, length-append xs (replicate (length ys - length xs) false), length-replicate (length ys - length xs) false)
 
 pub members-except : (s t u r : List ℕ) → r ≡ union s (difference t u) → IsUnionWithDifference s t u r
 members-except s t u r is n = let member = has-union s (difference t u) n in let apart = has-difference t u n in ap (λ v. has v n) is ∙ grind arith

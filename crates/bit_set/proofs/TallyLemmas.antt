@@ -3,10 +3,8 @@ use Rattle.std.proofs.Common.{◌≡◌, ℕ, false, ◌+◌, ◌*◌, ◌/◌, 
 use Rattle.std.proofs.lemmas.{List.{ext_get_or, length-map, FromFn.{get_or-map-range_with_len, length-map-range_with_len}}, Nat.le-div}
 use Rattle.bit_blocks.{specs.{Merges.merge_of, Storage.{value_at, values_of, IsZeroFrom}, declared.block.merge.Merge.Merge}, proofs.StorageLemmas.{value_at-index, value_at-past}}
 use Rattle.bit_words.{specs.MergedOnes.merged_ones, proofs.MergedOnesLemmas.merged_trues}
-use Rattle.set_algebra.specs.Sets.{elements}
-use Rattle.bit_set.specs.Indexes.{values_in}
-use Rattle.set_algebra.proofs.SetLemmas.{length-elements}
-use Rattle.bit_set.proofs.{IndexLemmas.{length-values_in, value_in}, PairLemmas.both_held}
+use Rattle.set_algebra.{specs.Sets.elements, proofs.SetLemmas.length-elements}
+use Rattle.bit_set.{specs.Indexes.values_in, proofs.{IndexLemmas.{length-values_in, value_in}, PairLemmas.both_held}}
 
 -- the values of whole blocks, by their places
 values_whole : (w : ℕ) (ms : List ℕ) → 0 < w → values_in w ms ≡ values_of w ms (length ms * w)

@@ -5,13 +5,11 @@ use Rattle.std.proofs.{Math.{Bool.{or-false, and-false}, Nat.{mod-lt, lt_of_mul-
 use Rattle.std.{proofs.lemmas.{Bool.Decides.nat_tests, List.append-nil}, specs.Iterator.{Yields, YieldsFirst, YieldsThen, Drains}}
 use Rattle.bit_blocks.specs.{Bits.blocks_for, declared.block.merge.Merge.Merge}
 use Rattle.set_algebra.specs.Sets.{IsAscending, has, elements, put_all, merge_of_sets, AscendsFrom}
-use Rattle.bit_set.specs.Agreement.{WalksAgree}
+use Rattle.bit_set.specs.{Agreement.WalksAgree, Walk.{AdvancesByEach, IsWalkedOut, IsWalkedOutByEach, IsAtStart}}
 use Rattle.bit_set.specs.Walk.{Walk, TwoSetWalk, Advances, AdvancesBack, CallsEnd, GivesFromEnds, in_order, PullsBlocks, PullsBlocksBack, PullsEachBlock, IsAtFirstBlock, IsAtFirstBlocks}
-use Rattle.bit_set.specs.Walk.{AdvancesByEach, IsWalkedOut, IsWalkedOutByEach, IsAtStart}
 use Rattle.set_algebra.proofs.{SetLemmas.{same_members, IsAscending-elements}, SetLaws.{has-put_all, IsAscending-put_all, put_all-items}}
-use Rattle.bit_set.specs.Walk.{StartsOverTwo, WalksOverTwo, blocks_past}
+use Rattle.bit_set.{specs.Walk.{StartsOverTwo, WalksOverTwo, blocks_past}, proofs.SparseLemmas.whole_index}
 use Rattle.set_algebra.proofs.AlgebraLemmas.{IsAscending-merge_of_sets}
-use Rattle.bit_set.proofs.SparseLemmas.{whole_index}
 
 -- ---- calls of any kind
 

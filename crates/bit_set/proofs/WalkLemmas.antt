@@ -1,14 +1,12 @@
 -- What a pull and a taken item do to a walk.
 use Rattle.std.proofs.Common.{◌≡◌, ℕ, ◌+◌, ◌-◌, ◌*◌, ◌^◌, ◌<◌, ◌≤◌, ◌/◌, Bool, List, [], ◌∷◌, ◌++◌, map, length, All, Option, Some, None, true, false, ◌⊎◌, inl, inr, refl, sym, ap, ◌∙◌}
-use Rattle.std.proofs.Common.{subst, arith}
+use Rattle.std.{proofs.Common.{subst, arith}, specs.{Prelude.IfSome, Option.{SomeIff, unwrap_or}}}
 use Rattle.std.proofs.{Math.Nat.{mul-suc, mul-le-mul_left, mul-div-le}, lemmas.List.{length-map, Elements.{All-nil, All-head, All-tail, All-same, All-rest}}}
-use Rattle.std.specs.{Prelude.IfSome, Option.{SomeIff, unwrap_or}}
 use Rattle.std.specs.Iterator.{UpTo, at_most, YieldsFirst}
 use mir.Val.{bool_byte}
 use Rattle.bit_blocks.{specs.{Bits.{blocks_of, blocks_for}, Lowest.{IsLowest, IsCleared}}, proofs.BitsLemmas.length-blocks_of}
-use Rattle.set_algebra.specs.Sets.{elements_from, elements}
+use Rattle.set_algebra.{specs.Sets.{elements_from, elements}, proofs.SetLemmas.length-elements-le}
 use Rattle.bit_set.specs.{Walk.{GoesOn, TwoSetWalk}, Indexes.{digits_from, values_in, indexes, Ahead, PullsBlock, PullsBlockIf, IsWalkable, CanWalk, IsWalk}}
-use Rattle.set_algebra.proofs.SetLemmas.{length-elements-le}
 use Rattle.bit_set.proofs.IndexLemmas.{indexes-zero, indexes-next, indexes-lowest, length-digits_from, length-values_in, length-indexes-le, elements-blocks_of}
 use Rattle.bit_set.proofs.IndexLemmas.{elements-below}
 

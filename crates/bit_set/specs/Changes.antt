@@ -1,10 +1,9 @@
 -- What calls make of the elements of a set, and what they return. No block, length or capacity occurs in it.
 use Rattle.std.specs.List.{items_where_true}
 use Rattle.std.specs.Prelude.{◌≡◌, ℕ, ◌-◌, ◌==◌, max, not, if◌then◌else◌, Bool, List, [], ◌∷◌, ◌++◌, Option, Result, Ok, Err, drop, length, nat_le, slice_get, take}
-use Rattle.set_algebra.specs.Moved.{lowered, raised}
+use Rattle.set_algebra.specs.{Moved.{lowered, raised}, Order.same_sets, Sets.merge_of_sets}
 use Rattle.bit_set.specs.declared.faults.SetError.{SetError, TheVariants.{Element, Length, Memory}}
 use Rattle.set_algebra.specs.{Sets.{bound_of, difference, elements, has, intersection, put, put_all, symmetric_difference, those_below, those_from, union, without}, Ranges.span}
-use Rattle.set_algebra.specs.{Order.same_sets, Sets.merge_of_sets}
 use Rattle.bit_blocks.specs.declared.block.merge.Merge.{Merge}
 use Rattle.bit_words.specs.Bounds.{greatest}
 

@@ -7,6 +7,7 @@ pub use Rattle.set_algebra.specs.Texts
 pub use Rattle.set_algebra.specs.Runs
 pub use Rattle.set_algebra.specs.Moved
 pub use Rattle.set_algebra.specs.Gaps
+pub use Rattle.set_algebra.specs.Measures
 pub use Rattle.set_algebra.specs.Mismatches
 pub use Rattle.bit_words.specs.Bounds
 pub mod Faults

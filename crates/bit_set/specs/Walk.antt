@@ -1,8 +1,6 @@
 -- Walks over the elements of a set, block by block.
 use Rattle.std.specs.Prelude.{◌≡◌, ℕ, ◌+◌, ◌-◌, ◌*◌, ◌/◌, ◌^◌, ◌<◌, ◌≤◌, ◌==◌, max, min, Bool, true, false, nat_lt, if◌then◌else◌, List, [], ◌∷◌, ◌++◌, drop, length, slice_get, ⊤, Option, Some, None}
-use Rattle.std.specs.Prelude.{MatchOption}
-use Rattle.std.specs.Iterator.{YieldsFirst, YieldsLast, YieldsThen}
-use Rattle.std.specs.Iterator.{Drains}
+use Rattle.std.specs.{Prelude.MatchOption, Iterator.{YieldsFirst, YieldsLast, YieldsThen, Drains}}
 use Rattle.bit_words.specs.Bounds.{greatest}
 use Rattle.bit_blocks.specs.{Bits.blocks_for, declared.block.merge.Merge.Merge}
 use Rattle.set_algebra.specs.{Choices.IsSelected, Members.{TakesGreatest, TakesLeast}, Ranges.those_in_range, Sets.{elements, merge_of_sets, those_from}}

@@ -12,7 +12,7 @@ use crate::{BitBlock, BitSet};
 use std::cmp::Ordering;
 
 /// Sets are equal if they have the same elements, whatever their lengths and capacities. Compares the blocks up to
-/// the first that differs; for long sets the summaries first, and then only the nonzero blocks.
+/// the first that differs; for long sets only the nonzero ones, by the summaries up to at most 16 times as far.
 impl<B: BitBlock> PartialEq for BitSet<B> {
     ghost eq = { λ s t. same_sets (elements s.values) (elements t.values) };
 

@@ -1,18 +1,11 @@
--- What C owns of a set or of a matrix, and its parts, own what a box at the same types owns.
-use denote.Signature.{Slot, plain}
-use denote.RattleType.{RattleType}
-use Rattle.std.specs.contracts.alloc.Global as Heap
-use Rattle.std.specs.contracts.impls.GlobalAllocator.TheImpl.{ghosts}
-use Rattle.bit_set_c.specs.contracts.handed.matrices.OwnedMatrix as OwnedMatrix
-use Rattle.bit_set_c.specs.contracts.handed.sets.Owned as Owned
-use Rattle.bit_set_c.specs.contracts.parts.Parts as Parts
-pub use Rattle.bit_set_c.proofs.Sets.{matrix_box, set_box}
+-- What C owns of a set or of a matrix.
+use Rattle.c_handles.proofs.Owned.{Owner}
+use Rattle.bit_set_c.specs.Block.{matrix_row, set_row}
+use Rattle.bit_set_c.specs.contracts.handed.matrices.OwnedMatrix.{the_type as M}
+use Rattle.bit_set_c.specs.contracts.handed.sets.Owned.{the_type as S}
 
-abbrev pub FromParts : RattleType → Slot 0
-FromParts X = plain (λ _. Parts.the_row X Heap.the_row ghosts)
+abbrev pub set_owner : Owner set_row
+set_owner = record { name = S.name; D = S.D; at = λ h. h.at; alloc = λ h. h.alloc; held = λ h. h.held; coded = S.coded; shr_at = S.shr_at }
 
-abbrev pub FromOwned : Slot 0
-FromOwned = plain (λ _. Owned.the_row)
-
-abbrev pub FromOwnedMatrix : Slot 0
-FromOwnedMatrix = plain (λ _. OwnedMatrix.the_row)
+abbrev pub matrix_owner : Owner matrix_row
+matrix_owner = record { name = M.name; D = M.D; at = λ h. h.at; alloc = λ h. h.alloc; held = λ h. h.held; coded = M.coded; shr_at = M.shr_at }

@@ -2,12 +2,7 @@ pub mod AsBox
 pub mod BlockNumbers
 pub mod Bounds
 pub mod ByteDigits
-pub mod Loans
-pub mod Names
-pub mod Nulls
-pub mod Outcomes
 pub mod RowBlocks
 pub mod RowSearches
 pub mod Runs
 pub mod Sets
-pub mod Values

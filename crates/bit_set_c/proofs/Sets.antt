@@ -1,15 +1,10 @@
--- The laws of sets and of matrices in memory, and of the boxes that C owns of them.
-use mir.Syntax.{impl, tnil, dnil}
-use mathlib.Core.List.{[]}
+-- The laws of sets and of matrices in memory.
 use mathlib.Core.Path.{refl}
 use denote.Param.Laws.{Laws, of_field}
 use denote.Param.Shared.{copy_shared}
 use denote.Struct.Field.{u64-field}
 use denote.Struct.Laws.{u64-laws, u64-copy}
-use Rattle.std.proofs.BoxSteps.Form.{Bx}
-use Rattle.std.specs.{Borrow.{RattleType, u64}, contracts.impls.GlobalAllocator.TheImpl.{ghosts, dict}}
-use Rattle.std.specs.contracts.alloc.Global as Heap
-use Rattle.std.proofs.alloc.Global.TheLaws as heap
+use Rattle.std.specs.Borrow.{u64}
 use Rattle.bit_blocks.specs.contracts.block.integers.U64BitBlock.TheImpl as block
 use Rattle.std.specs.contracts.prelude.U64PartialEq.TheImpl as eq
 use Rattle.std.specs.contracts.prelude.U64BitAnd.TheImpl as and
@@ -27,12 +22,3 @@ set_laws = set.the_row_laws u64 block.ghosts eq.ghosts and.ghosts or.ghosts xor.
 
 abbrev pub matrix_laws : Laws matrix_row
 matrix_laws = matrix.the_row_laws u64 block.ghosts eq.ghosts and.ghosts or.ghosts xor.ghosts complement.ghosts add.ghosts sub.ghosts (of_field u64-field u64-laws refl (copy_shared u64-field u64-copy))
-
-abbrev box_of : (X : RattleType) → Laws X → Bx
-box_of X laws = record { row = X; laws = laws; al = record { row = Heap.the_row; laws = heap.the_row_laws; g = ghosts; d = dict; drops = impl [] tnil dnil } }
-
-abbrev pub set_box : Bx
-set_box = box_of set_row set_laws
-
-abbrev pub matrix_box : Bx
-matrix_box = box_of matrix_row matrix_laws

@@ -1,14 +1,10 @@
 -- What the answers of calls say to C.
-use Rattle.std.specs.Prelude.{◌≡◌, ℕ, ℤ, zero, suc, pos, negsuc, Bool, true, false, not, ◌==◌, if◌then◌else◌, List, Option, Some, None, Result, Ok, Err, IfOk, alloc_error, ⊤}
-use Rattle.std.specs.{declared.alloc.AllocError.AllocError, declared.ops.Range.Range}
-use Rattle.std.specs.declared.cmp.Ordering.{Ordering, TheVariants.{Less, Equal, Greater}}
-use Rattle.bit_words.specs.Bounds.{greatest}
+use Rattle.std.specs.Prelude.{◌≡◌, ℕ, ℤ, zero, suc, pos, negsuc, Bool, true, false, not, List, Option, Some, None, Result, Ok, Err, IfOk, alloc_error, ⊤}
+use Rattle.std.specs.declared.ops.Range.{Range}
 use Rattle.bit_set.specs.{Order.same_sets, declared.faults.SetError.{SetError, TheVariants.{Element, Length, Memory}}}
-
--- of a call that fails for memory alone: whether it was done
-abbrev pub done : Bool → Result ⊤ AllocError
-done true = Ok tt
-done false = Err alloc_error
+use Rattle.c_handles.specs.Answers.{changed, spelled}
+use Rattle.roaring_bit_sets.specs.declared.from_bit_set_error.FromBitSetError.{FromBitSetError}
+use Rattle.roaring_bit_sets.specs.declared.from_bit_set_error.FromBitSetError.TheVariants as converting
 
 -- of a call that puts numbers in: 1 where they are new, 0 where not, -1 for memory, -2 for a number that is no element
 abbrev pub inserted : ℤ → Result Bool SetError
@@ -25,33 +21,23 @@ moved (negsuc zero) = Err (Memory alloc_error)
 moved (negsuc (suc zero)) = Err Element
 moved answer = Err Length
 
--- of a call that changes a set: 1 where it did, 0 where not, -1 for memory
-abbrev pub changed : ℤ → Result Bool AllocError
-changed (pos zero) = Ok false
-changed (pos (suc n)) = Ok true
-changed (negsuc n) = Err alloc_error
+-- of a call that makes a Roaring bitmap: 1 where it did, -1 for memory, -2 for a member that is too great
+abbrev pub converted : ℤ → Result ⊤ FromBitSetError
+converted (pos n) = Ok tt
+converted (negsuc zero) = Err converting.Memory
+converted (negsuc (suc n)) = Err converting.TooGreat
 
--- the one number that stands for such an outcome
-abbrev pub spelled : Result Bool AllocError → ℤ
-spelled (Ok false) = pos 0
-spelled (Ok true) = pos 1
-spelled (Err fault) = negsuc 0
+abbrev pub spelled_conversion : Result ⊤ FromBitSetError → ℤ
+spelled_conversion (Ok done) = pos 1
+spelled_conversion (Err converting.Memory) = negsuc 0
+spelled_conversion (Err converting.TooGreat) = negsuc 1
 
--- Such an answer says whether the members changed, which were `old` and are `new`, and is the one number that says so.
+-- The answer of a call that may change a set says whether the members changed, which were `old` and are `new`, and is the
+-- one number that says so.
 pub record TellsChange (answer : ℤ) (old new : List ℕ) : Type 0 where
   pub told : IfOk (changed answer) (λ it. it ≡ not (same_sets old new))
   pub unchanged : IfOk (changed answer) (λ it. it ≡ false → new ≡ old)
   pub exact : answer ≡ spelled (changed answer)
-
--- of a call that looks for a member: the greatest number stands for none
-abbrev pub found : ℕ → Option ℕ
-found n = if n == greatest then None else Some n
-
--- of a comparison: -1, 0 or 1
-abbrev pub order_answer : Ordering → ℤ
-order_answer Less = negsuc 0
-order_answer Equal = pos 0
-order_answer Greater = pos 1
 
 -- of a call that looks for a number, or for a range, and puts it out: what it found
 abbrev pub given : Bool → ℕ → Option ℕ

@@ -1,18 +1,9 @@
--- What calls write into an array of C's.
-use Rattle.std.specs.Prelude.{◌≡◌, ℕ, ◌+◌, ◌*◌, ◌<◌, Bool, drop, length, List, max, min, slice_index, take}
+-- What calls that merge two sets write into an array of C's.
+use Rattle.std.specs.Prelude.{◌≡◌, ℕ, ◌+◌, ◌*◌, ◌<◌, Bool, drop, length, List, max, slice_index}
 use Rattle.bit_blocks.specs.{Bits.blocks_of, Digits.is_one, Merges.merge_of_values, declared.block.merge.Merge.Merge}
 use Rattle.bit_set.specs.Sets.{elements, has}
+use Rattle.c_handles.specs.Copies.{FillsFront}
 use Rattle.bit_set_c.specs.Block.{width}
-
--- A call wrote so many at the front, which are as many of n as fit, and no others.
-pub record FillsFront {X : Type 0} (written n : ℕ) (old new : List X) : Type 0 where
-  pub count : written ≡ min (length old) n
-  pub others : drop written new ≡ drop written old
-
--- These are the first of the items.
-pub record CopiesFront {X : Type 0} (written : ℕ) (items old new : List X) : Type 0 where
-  pub fills : FillsFront written (length items) old new
-  pub values : take written new ≡ take written items
 
 -- These are the blocks, from an index on, of what the sets of two lists of values become.
 pub record CopiesMerged (merge : Merge) (a b : List Bool) (from written : ℕ) (old new : List ℕ) : Type 0 where

@@ -1,8 +1,8 @@
 -- What a set or a matrix that C lends is after it was handed on.
-use Rattle.std.specs.{Borrow.{Fml, Lends, MutBor, RattleType, follows_so}, Prelude.{◌≡◌, ⊤}}
-use mathlib.Core.Option.{none}
+use Rattle.std.specs.Borrow.{Fml, Lends, MutBor}
 use Rattle.bit_blocks.specs.Bits.{Bits}
 use Rattle.bit_matrix.specs.Matrices.{Matrix}
+use Rattle.c_handles.specs.Handed.{ends_as_is}
 use Rattle.bit_set_c.specs.{Block.{matrix_row, set_row}, declared.handed.sets.Exclusive.Exclusive}
 use Rattle.bit_set_c.specs.contracts.handed.sets.Exclusive as exclusive
 use Rattle.bit_set_c.specs.{declared.handed.matrices.SharedMatrix.SharedMatrix, declared.handed.sets.Shared.Shared}
@@ -24,10 +24,6 @@ lends_set set inner = Lends exclusive.the_row set_row set inner (with_bits set.n
 -- `matrix` ends as what is left in `inner`
 abbrev pub lends_matrix : MutBor ExclusiveMatrix → MutBor Matrix → Fml
 lends_matrix matrix inner = Lends exclusive_matrix.the_row matrix_row matrix inner (with_cells matrix.now)
-
--- what was lent ends as it is
-abbrev pub ends_as_is : (R : RattleType) → MutBor R.Denot → Fml
-ends_as_is R lent = follows_so R R lent.ghost_name none (λ _ _. ⊤) (λ left. left ≡ lent.now)
 
 abbrev pub set_stays : MutBor Shared → Fml
 set_stays = ends_as_is shared.the_row

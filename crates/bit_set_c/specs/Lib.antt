@@ -1,6 +1,4 @@
 pub mod Answers
 pub mod Block
 pub mod Copies
-pub mod Handed
-pub mod Hash
 pub mod Lends

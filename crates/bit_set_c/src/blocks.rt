@@ -3,7 +3,8 @@ ghost use Rattle.std.specs.Prelude.{◌≡◌, ◌≢◌, ℕ, ◌+◌, ◌*◌,
 ghost use Rattle.bit_blocks.specs.{Bits.blocks_of, Digits.is_one, Ranges.in_range};
 ghost use Rattle.bit_words.specs.Growth.{Grows};
 ghost use Rattle.bit_set.specs.{Ranges.span_end, Sets.{elements, has}, Sizes.Lengthens};
-ghost use Rattle.bit_set_c.specs.{Answers.done, Block.width, Copies.CopiesFront, Handed.IsAt};
+ghost use Rattle.c_handles.specs.{Answers.done, Copies.CopiesFront, Handed.IsAt};
+ghost use Rattle.bit_set_c.specs.Block.{width};
 
 use crate::block::{Block, WIDTH};
 use crate::handed::{Exclusive, Shared};

@@ -2,7 +2,8 @@
 ghost use Rattle.std.specs.Prelude.{◌≡◌, ℕ, ◌+◌, ◌*◌, ◌-◌, ◌/◌, ◌%◌, ◌<◌, ◌≤◌, drop, get_or, length, min, slice_index};
 ghost use Rattle.bit_blocks.specs.{Bits.blocks_for, Digits.is_one};
 ghost use Rattle.bit_set.specs.Sets.{elements, has};
-ghost use Rattle.bit_set_c.specs.{Block.width, Copies.FillsFront, Handed.IsAt};
+ghost use Rattle.c_handles.specs.{Copies.FillsFront, Handed.IsAt};
+ghost use Rattle.bit_set_c.specs.Block.{width};
 
 use crate::block::{Block, WIDTH};
 use crate::blocks::blocks_from;

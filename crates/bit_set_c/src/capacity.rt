@@ -3,7 +3,8 @@ ghost use Rattle.std.specs.Prelude.{◌≡◌, ◌*◌, ◌<◌, ◌≤◌, max,
 ghost use Rattle.bit_blocks.specs.Bits.{blocks_for, capacity_of, whole_blocks};
 ghost use Rattle.bit_words.specs.Growth.{Grows};
 ghost use Rattle.bit_set.specs.{Members.IsSameSet, Sets.{bound_of, elements}};
-ghost use Rattle.bit_set_c.specs.{Answers.done, Block.width, Handed.IsAt};
+ghost use Rattle.c_handles.specs.{Answers.done, Handed.IsAt};
+ghost use Rattle.bit_set_c.specs.Block.{width};
 
 use crate::handed::Exclusive;
 

@@ -3,7 +3,8 @@ ghost use Rattle.std.specs.Prelude.{◌≡◌, max, min, OnOk, false, [], length
 ghost use Rattle.bit_blocks.specs.Bits.{blocks_for, capacity_of};
 ghost use Rattle.bit_words.specs.Growth.{Grows};
 ghost use Rattle.bit_set.specs.{Members.{HasNone, IsSameSet, KeepsBelow}, Sets.{elements, those_below}};
-ghost use Rattle.bit_set_c.specs.{Answers.done, Block.width, Handed.{AreAt, BothStay, IsAt}};
+ghost use Rattle.c_handles.specs.{Answers.done, Handed.{AreAt, BothStay, IsAt}};
+ghost use Rattle.bit_set_c.specs.Block.{width};
 
 use crate::handed::{Exclusive, Shared};
 

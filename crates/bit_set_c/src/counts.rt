@@ -1,7 +1,7 @@
 // How many members the merges of two sets have. Both may be the same set.
 ghost use Rattle.std.specs.Prelude.{◌≡◌, length};
 ghost use Rattle.bit_set.specs.Sets.{difference, elements, intersection, symmetric_difference, union};
-ghost use Rattle.bit_set_c.specs.Handed.{AreAt, BothStay};
+ghost use Rattle.c_handles.specs.Handed.{AreAt, BothStay};
 
 use crate::handed::Shared;
 

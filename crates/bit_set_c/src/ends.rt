@@ -1,7 +1,7 @@
 // Calls that remove the least or the greatest member.
 ghost use Rattle.std.specs.{Prelude.{◌≡◌, ◌+◌, MatchOption, if◌then◌else◌, is_some, length}, Iterator.{YieldsFirst, YieldsLast}};
 ghost use Rattle.bit_set.specs.{Members.{HasNone, TakesGreatest, TakesLeast}, Sets.elements, Sizes.KeepsSize};
-ghost use Rattle.bit_set_c.specs.{Answers.found, Handed.IsAt};
+ghost use Rattle.c_handles.specs.{Answers.found, Handed.IsAt};
 
 use crate::handed::Exclusive;
 use crate::searching::or_max;

@@ -1,7 +1,7 @@
 // Calls that merge a set in place with another. They must be two different sets.
 ghost use Rattle.std.specs.Prelude.{◌≡◌, OnErr, OnOk, [], length};
 ghost use Rattle.bit_set.specs.{Members.{HasNone, IsDifference, IsIntersection, IsSymmetricDifference, IsUnion}, Sets.{difference, elements, intersection, symmetric_difference, union}, Sizes.{KeepsSize, Lengthens}};
-ghost use Rattle.bit_set_c.specs.{Answers.done, Handed.{AreAt, BothStay}};
+ghost use Rattle.c_handles.specs.{Answers.done, Handed.{AreAt, BothStay}};
 
 use crate::handed::{Exclusive, Shared};
 

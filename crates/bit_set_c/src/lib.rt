@@ -1,6 +1,7 @@
 //! Sets of whole numbers, and matrices of bits, for C: `bindings/c/bit_set.h` has the prototypes.
 #![tactic(auto)]
 
+mod bitmaps;
 mod block;
 mod blocks;
 mod bytes;
@@ -14,7 +15,6 @@ mod making;
 mod matrix;
 mod members;
 mod merges;
-mod parts;
 mod ranges;
 mod reading;
 mod relations;

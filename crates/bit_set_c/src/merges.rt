@@ -1,7 +1,8 @@
 // The blocks of a merge of two sets, copied out. Both may be the same set.
 ghost use Rattle.std.specs.Prelude.{◌≡◌, ℕ, ◌<◌, get_or, length, max};
 ghost use Rattle.bit_blocks.specs.{Digits.is_one, Merges.merge_of_values};
-ghost use Rattle.bit_set_c.specs.{Block.width, Copies.{CopiesMerged, FillsFront}, Handed.{AreAt, BothStay}};
+ghost use Rattle.c_handles.specs.{Copies.FillsFront, Handed.{AreAt, BothStay}};
+ghost use Rattle.bit_set_c.specs.{Block.width, Copies.CopiesMerged};
 
 use crate::block::Block;
 use crate::blocks::blocks_from;

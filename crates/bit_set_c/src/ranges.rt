@@ -1,7 +1,7 @@
 // Calls on the numbers of a range: from `start` up to `end`, and none if `end` is `start` or below.
 ghost use Rattle.std.specs.Prelude.{◌≡◌, ℕ, ◌+◌, ◌-◌, ◌<◌, ◌≤◌, ◌↔◌, ◌++◌, false, length, max, not, true, IsTrue, OnOk};
 ghost use Rattle.bit_set.specs.{Members.UpdatesRange, Ranges.{span, span_end, those_in_range}, Sets.{elements, has, is_disjoint, is_subset, symmetric_difference, those_below, those_from, union}, Sizes.{KeepsSize, Lengthens}};
-ghost use Rattle.bit_set_c.specs.{Answers.done, Handed.IsAt};
+ghost use Rattle.c_handles.specs.{Answers.done, Handed.IsAt};
 
 use crate::handed::{Exclusive, Shared};
 

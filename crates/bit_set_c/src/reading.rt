@@ -2,7 +2,8 @@
 ghost use Rattle.std.specs.Prelude.{◌≡◌, ◌≤◌, ◌↔◌, IsTrue, [], length};
 ghost use Rattle.bit_blocks.specs.Bits.{IsCapacityOfBlocks};
 ghost use Rattle.bit_set.specs.{Members.{HasNone, IsCounted}, Sets.elements};
-ghost use Rattle.bit_set_c.specs.{Block.width, Handed.IsAt, Hash.hash_of};
+ghost use Rattle.c_handles.specs.{Handed.IsAt, Hash.hash_of};
+ghost use Rattle.bit_set_c.specs.Block.{width};
 
 use crate::block::Block;
 use crate::handed::Shared;

@@ -3,22 +3,11 @@
 ghost use Rattle.std.specs.Prelude.{◌≡◌, ◌+◌, ◌≤◌, not, if◌then◌else◌, IfOk, OnOk, length, false};
 ghost use Rattle.bit_set.specs.Members.{IsDifference, IsIntersection, IsSymmetricDifference, IsUnion, IsUnionWithDifference, IsUnionWithIntersection};
 ghost use Rattle.bit_set.specs.{Sets.{elements, union, intersection, difference, symmetric_difference, is_subset}, Sizes.Lengthens};
-ghost use Rattle.bit_set_c.specs.{Answers.{TellsChange, changed, spelled}, Handed.{AreAt, BothStay, IsAt}};
+ghost use Rattle.c_handles.specs.{Answers.changed, Handed.{AreAt, BothStay, IsAt}};
+ghost use Rattle.bit_set_c.specs.Answers.{TellsChange};
 
 use crate::handed::{Exclusive, Shared};
-use std::alloc::AllocError;
-
-// What C receives for a merge in which memory may run out.
-fn answer_of(outcome: Result<bool, AllocError>) -> i32
-    ensures outcome { changed result ≡ outcome }
-    ensures exact { result ≡ spelled (changed result) }
-{
-    match outcome {
-        Ok(true) => 1,
-        Ok(false) => 0,
-        Err(_) => -1,
-    }
-}
+use c_handles::answer_of_change;
 
 /// Inserts the members of the other set, and says whether any of them was absent.
 #[unsafe(no_mangle)]
@@ -36,7 +25,7 @@ pub extern "C" fn bit_set_union_changes(set: &mut Exclusive, other: &mut Shared)
     ensures grows { Lengthens (length other.old.bits.values) (changed result) set.old.bits set.new.bits }
     ensures kept { BothStay set.old.at set.new.at other.old other.new }
 {
-    answer_of(set.get().union_changes(other.get()))
+    answer_of_change(set.get().union_changes(other.get()))
 }
 
 /// Keeps the members that the other set has too, and says whether it removed any.
@@ -53,7 +42,7 @@ pub extern "C" fn bit_set_intersection_changes(set: &mut Exclusive, other: &mut 
     ensures grows { Lengthens (length other.old.bits.values) (changed result) set.old.bits set.new.bits }
     ensures kept { BothStay set.old.at set.new.at other.old other.new }
 {
-    answer_of(set.get().intersection_changes(other.get()))
+    answer_of_change(set.get().intersection_changes(other.get()))
 }
 
 /// Removes the members of the other set, and says whether any of them was present.
@@ -70,7 +59,7 @@ pub extern "C" fn bit_set_difference_changes(set: &mut Exclusive, other: &mut Sh
     ensures grows { Lengthens (length other.old.bits.values) (changed result) set.old.bits set.new.bits }
     ensures kept { BothStay set.old.at set.new.at other.old other.new }
 {
-    answer_of(set.get().difference_changes(other.get()))
+    answer_of_change(set.get().difference_changes(other.get()))
 }
 
 /// Leaves what is in exactly one of the two sets, and says whether that changed the set.
@@ -88,7 +77,7 @@ pub extern "C" fn bit_set_symmetric_difference_changes(
     ensures grows { Lengthens (length other.old.bits.values) (changed result) set.old.bits set.new.bits }
     ensures kept { BothStay set.old.at set.new.at other.old other.new }
 {
-    answer_of(set.get().symmetric_difference_changes(other.get()))
+    answer_of_change(set.get().symmetric_difference_changes(other.get()))
 }
 
 /// Inserts the members of the other set that are not in `except`, and says whether any of them was absent.
@@ -111,7 +100,7 @@ pub extern "C" fn bit_set_union_with_difference(
     ensures kept { BothStay set.old.at set.new.at other.old other.new }
     ensures except_kept { except.new ≡ except.old }
 {
-    answer_of(set.get().union_with_difference(other.get(), except.get()))
+    answer_of_change(set.get().union_with_difference(other.get(), except.get()))
 }
 
 /// Inserts what the other set and `also` have in common, and says whether any of it was absent.
@@ -137,7 +126,7 @@ pub extern "C" fn bit_set_union_with_intersection(
     ensures kept { BothStay set.old.at set.new.at other.old other.new }
     ensures also_kept { also.new ≡ also.old }
 {
-    answer_of(set.get().union_with_intersection(other.get(), also.get()))
+    answer_of_change(set.get().union_with_intersection(other.get(), also.get()))
 }
 
 /// Sets the members to those of the other set that are not in `except`, and says whether that changed them.
@@ -158,5 +147,5 @@ pub extern "C" fn bit_set_become_difference(
     ensures kept { BothStay set.old.at set.new.at other.old other.new }
     ensures except_kept { except.new ≡ except.old }
 {
-    answer_of(set.get().copy_difference(other.get(), except.get()))
+    answer_of_change(set.get().copy_difference(other.get(), except.get()))
 }

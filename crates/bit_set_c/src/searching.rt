@@ -3,7 +3,7 @@
 ghost use Rattle.std.specs.Prelude.{◌≡◌, ◌<◌, ◌≤◌, IfSome, MatchOption, get_or, length, max, not};
 ghost use Rattle.bit_blocks.specs.Searches.{FindsBefore, FindsFrom, IsFirstFrom};
 ghost use Rattle.bit_set.specs.{Choices.{IsFirstOf, IsGreatest, IsLastOf, IsLeast}, Members.HasNone, Sets.{elements, has, those_below, those_from}};
-ghost use Rattle.bit_set_c.specs.{Answers.found, Handed.IsAt};
+ghost use Rattle.c_handles.specs.{Answers.found, Handed.IsAt};
 
 use crate::handed::Shared;
 

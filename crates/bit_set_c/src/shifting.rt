@@ -1,7 +1,8 @@
 // Calls that move each member by one distance.
 ghost use Rattle.std.specs.Prelude.{◌≡◌, ◌<◌, ◌↔◌, IsErrOf, OnOk, length};
 ghost use Rattle.bit_set.specs.{Moved.{IsLowered, IsRaised, lowered, raised}, Sets.{bound_of, elements}, Sizes.{KeepsSize, Lengthens}};
-ghost use Rattle.bit_set_c.specs.{Answers.moved, Handed.IsAt};
+ghost use Rattle.c_handles.specs.Handed.{IsAt};
+ghost use Rattle.bit_set_c.specs.Answers.{moved};
 
 use crate::handed::Exclusive;
 use bit_set::SetError;

@@ -3,7 +3,8 @@ ghost use Rattle.std.specs.Prelude.{◌≡◌, ℕ, ◌≤◌, IfSome, List, Mat
 ghost use Rattle.std.specs.declared.ops.Range.{Range};
 ghost use Rattle.bit_blocks.specs.Searches.{FindsFrom};
 ghost use Rattle.bit_set.specs.{Gaps.{FindsGap, is_gap}, Members.HasNone, Runs.{IsFirstRun, runs_of}, Sets.{elements, those_from}};
-ghost use Rattle.bit_set_c.specs.{Answers.{given, given_range}, Handed.IsAt};
+ghost use Rattle.c_handles.specs.Handed.{IsAt};
+ghost use Rattle.bit_set_c.specs.Answers.{given, given_range};
 
 use crate::handed::Shared;
 

@@ -1,12 +1,10 @@
 -- How far a list is true, and the blocks that this takes.
 use Rattle.std.proofs.Common.{◌≡◌, ◌≢◌, ℕ, zero, suc, ◌+◌, ◌-◌, ◌*◌, ◌/◌, ◌^◌, ◌<◌, ◌≤◌, max, Bool, false, List, [], ◌∷◌, length, get_or, take, refl, ap, ◌∙◌, arith, length-take}
-use Rattle.std.proofs.Common.{le_of_mul-le-mul_right, mul-le-mul_right}
-use Rattle.std.proofs.lemmas.{Bool.Decides.nat_tests, Nat.le-div}
+use Rattle.std.proofs.{Common.{le_of_mul-le-mul_right, mul-le-mul_right}, lemmas.{Bool.Decides.nat_tests, Nat.le-div}}
 use Rattle.bit_blocks.specs.{Bits.{Bits, blocks_for, capacity_of, true_end, whole_blocks}, Storage.{value_at, values_of, IsZeroFrom}}
 use Rattle.bit_words.specs.Summary.{shared_capacity, short_count, stored_for}
 use Rattle.bit_blocks.proofs.{BitsLemmas.{blocks_for-enough, blocks_for-least, whole_before}, CompareLemmas.zero_from_digits, StorageLemmas.{value_at-is, value_at-past, value_at-index}}
-use Rattle.bit_blocks.proofs.PackedLemmas.{value_at-take}
-use Rattle.bit_blocks.proofs.{VectorLemmas.length_from_view, Masks.is_one-zero}
+use Rattle.bit_blocks.proofs.{PackedLemmas.value_at-take, VectorLemmas.length_from_view, Masks.is_one-zero}
 
 -- ---- how far a list is true
 

@@ -6,14 +6,11 @@ use Rattle.std.proofs.Math.Bool.{and-true, or-false}
 use Rattle.std.proofs.lemmas.{Bool.{cases_eq, cases_lt}, List.{get_or_past, length-map, take-map}}
 use Rattle.bit_blocks.specs.{Bits.{Bits, blocks_for}, Digits.is_one, BlockMerges.{other_at, HasMerged}}
 use Rattle.bit_blocks.specs.{Merges.merge_of_values, Storage.{value_at, values_of, IsPacked, IsZeroFrom, is_used}}
-use Rattle.bit_blocks.specs.declared.block.merge.Merge.{Merge}
-use Rattle.bit_blocks.specs.declared.block.merge.Merge.TheVariants.{Difference, Intersection, Symmetric, Union}
-use Rattle.bit_blocks.proofs.{BitsLemmas.{block_past, blocks_for-below}, Masks.is_one-zero}
+use Rattle.bit_blocks.specs.declared.block.merge.Merge.{Merge, TheVariants.{Difference, Intersection, Symmetric, Union}}
+use Rattle.bit_blocks.proofs.{BitsLemmas.{block_past, blocks_for-below}, Masks.is_one-zero, StorageLemmas.value_at-past}
 use Rattle.bit_blocks.proofs.{MergeLemmas.merge_of_values-none, PackedLemmas.value_at-take}
 use Rattle.bit_blocks.proofs.StorageLemmas.{get_or-values_of_zero_tail, length-values_of, value_at-index, value_at-is}
-use Rattle.bit_blocks.proofs.StorageLemmas.{value_at-past}
-use Rattle.bit_words.specs.{Chunks.MergesBetween, Summary.IsSummary}
-use Rattle.bit_words.proofs.SummaryLemmas.{summary_of_blocks}
+use Rattle.bit_words.{specs.{Chunks.MergesBetween, Summary.IsSummary}, proofs.SummaryLemmas.summary_of_blocks}
 
 -- ---- the blocks
 

@@ -149,22 +149,6 @@ module _ {X : Type 0} (w : ℕ) (number : X → ℕ) (is_block : X → Type 0) (
       let also : value_at w (map number ts) k ≡ true = value_at-is w (map number ts) k ∙ ap (λ m. is_one m (k % w)) (sym same) ∙ sym (value_at-is w (map number ss) k) ∙ some in
       (used_within number xs k (sym (own.digit k) ∙ some), used_within number ys k (sym (other.digit k) ∙ also))
 
-  -- it is enough to look where a summary reaches
-  pub same_everywhere : ((q : ℕ) → get_or (map number ss) q 0 ≡ get_or (map number ts) q 0) → ((k : ℕ) → k < length ss * w → get_or (map number xs) k 0 ≡ get_or (map number ys) k 0)
-      → (k : ℕ) → get_or (map number xs) k 0 ≡ get_or (map number ys) k 0
-  same_everywhere alike each k =
-      ⊎_elim
-      (each k)
-      (λ past. both_zero k (alike (k / w)) (value_at-past w (map number ss) k (rw length-map (le-div (length ss) k w pos past))))
-      (cases_lt k (length ss * w))
-
-  -- lists of the same blocks have the same summary
-  pub same_summaries : ((x : X) → is_block x → number x < 2 ^ w) → ((k : ℕ) → get_or (map number xs) k 0 ≡ get_or (map number ys) k 0) → (q : ℕ)
-      → get_or (map number ss) q 0 ≡ get_or (map number ts) q 0
-  same_summaries below same q =
-      same_block w (map number ss) (map number ts) q (numbers_below w number is_block ss below own.packed.each q) (numbers_below w number is_block ts below other.packed.each q)
-      (λ j index. own.digit (q * w + j) ∙ ap (λ m. not (m == 0)) (same (q * w + j)) ∙ sym (other.digit (q * w + j)))
-
 pub none_since : (o : Option ℕ) (b : Bool) (ms ns : List ℕ) (P : Type 0) → is_some o ≡ not b → MatchOption o P (IsFirstBlockMismatch ms ns) → ((k : ℕ) → get_or ms k 0 ≡ get_or ns k 0) → b ≡ true
 none_since None b ms ns P is match same = grind arith
 none_since (Some k) b ms ns P is match same = absurd (match.here (same k))
@@ -174,3 +158,23 @@ pub same_below : (o : Option ℕ) (most end : ℕ) (ms ns : List ℕ) → end �
     → k < end → get_or ms k 0 ≡ get_or ns k 0
 same_below None most end ms ns is match k below = match k
 same_below (Some at) most end ms ns is match k below = match.below k (omega (arith, is))
+
+-- ---- parts of summaries
+
+-- block j of the blocks from `first` on, as many as `count`
+pub part_read : {X : Type 0} (number : X → ℕ) (is_block : X → Type 0) (first count j : ℕ) (xs : List X) → j < count
+    → get_or (map number (take count (drop first xs))) j 0 ≡ get_or (map number xs) (first + j) 0
+part_read number is_block first count j xs within = front_read 1 number is_block (drop first xs) count j within ∙ dropped number first j xs
+
+-- two lists of so many blocks at most differ before that, or not at all
+pub first_within : {X : Type 0} (number : X → ℕ) (o : Option ℕ) (count end : ℕ) (own other rest others : List X) → own ≡ take count rest → other ≡ take count others → end ≡ unwrap_or o count
+    → MatchOption o ((k : ℕ) → get_or (map number own) k 0 ≡ get_or (map number other) k 0) (IsFirstBlockMismatch (map number own) (map number other)) → end ≤ count
+first_within number None count end own other rest others is also at match = omega (arith, at)
+first_within number (Some k) count end own other rest others is also at match =
+    ⊎_elim
+    (λ (below : k < count). omega (arith, at, below))
+    (λ (past : count ≤ k). absurd (match.here (
+    get_or_past (map number own) k 0 (omega (arith, past, ap length is, length-take count rest, length-map own number))
+    ∙ sym (get_or_past (map number other) k 0 (omega (arith, past, ap length also, length-take count others, length-map other number)))
+    )))
+    (cases_lt k count)

@@ -1,11 +1,9 @@
 -- A list of which one block was cut down to some of its ones.
-use Rattle.std.specs.Global.{Vec}
+use Rattle.std.{specs.Global.Vec, proofs.lemmas.{Bool.cases_eq, List.{get_or-set_other, get_or-set_same}}}
 use Rattle.std.proofs.Common.{◌≡◌, ◌≢◌, ℕ, ◌+◌, ◌*◌, ◌/◌, ◌%◌, ◌<◌, false, not, ◌&&◌, ◌==◌, List, length, get_or, map, set, sym, ap, ◌∙◌, arith, ⊎_elim, mod-lt, div-add-mod', lt_of_mul-lt-mul_right}
-use Rattle.std.proofs.lemmas.{Bool.{cases_eq}, List.{get_or-set_other, get_or-set_same}}
 use Rattle.bit_blocks.specs.{Bits.{Bits, blocks_for}, Digits.{IsBoth, is_one}, Storage.{value_at, values_of, IsPacked, IsZeroFrom, WritesInPlace, WritesValue, is_used}}
-use Rattle.bit_words.specs.{Kept.KeepsInBlock, Summary.IsSummary}
+use Rattle.bit_words.{specs.{Kept.KeepsInBlock, Summary.IsSummary}, proofs.SummaryLemmas.summary_updated}
 use Rattle.bit_blocks.proofs.{BitsLemmas.blocks_for-enough, Masks.is_one-both, StorageLemmas.{get_or-values_of_zero_tail, length-values_of, value_at-index, value_at-set_other}}
-use Rattle.bit_words.proofs.SummaryLemmas.{summary_updated}
 
 -- of the values of block k of the blocks ms those stayed true at which m has a 1
 pub record KeptBlock (w k m : ℕ) (ms ns : List ℕ) : Type 0 where

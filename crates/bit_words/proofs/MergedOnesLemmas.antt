@@ -1,13 +1,13 @@
 -- How many values of the merge of two lists of blocks are true, block by block.
-use Rattle.std.proofs.Common.{◌≡◌, ◌≢◌, ℕ, zero, suc, ◌+◌, ◌-◌, ◌*◌, ◌^◌, ◌<◌, ◌≤◌, ◌==◌, ◌||◌, if◌then◌else◌, Bool, true, false, cond, max, List, map, length, get_or, count_ones, refl}
+use Rattle.std.proofs.Common.{◌≡◌, ◌≢◌, ℕ, zero, suc, ◌+◌, ◌-◌, ◌*◌, ◌^◌, ◌<◌, ◌≤◌, ◌==◌, ◌||◌, ◌&&◌, if◌then◌else◌, Bool, true, false, not, cond, max, List, map, drop, length, get_or, count_ones, refl}
 use Rattle.std.proofs.Common.{sym, ap, ap₂, ◌∙◌, ⊎_elim, arith, pow_pos, mul-le-mul_right}
-use Rattle.std.proofs.lemmas.Bool.{cases_lt, false≢true, Decides.nat_tests}
-use Rattle.std.proofs.lemmas.{List.{ext_get_or, FromFn.{get_or-map-range_with_len, length-map-range_with_len}, Sums.{count_by-le-length, sum_by-cons}}, Nat.le-div}
+use Rattle.std.proofs.lemmas.Bool.{cases_eq, cases_lt, false≢true, Decides.nat_tests}
+use Rattle.std.proofs.lemmas.{List.{drop_all, ext_get_or, length-drop, length-map, take_all, FromFn.{get_or-map-range_with_len, length-map-range_with_len}, Sums.{count_by-le-length, sum_by-cons}}, Nat.le-div}
 use Rattle.std.specs.List.{count_by, range_with_len, sum_by}
 use Rattle.bit_blocks.specs.{declared.block.merge.Merge.Merge, Bits.Bits, BlockMerges.MergesToFalse, Digits.is_one, Lowest.{IsLowest, IsCleared}}
-use Rattle.bit_blocks.specs.{Merges.{merge_of, merge_of_values}, Storage.{values_of, value_at, is_used, IsZeroFrom}}
-use Rattle.bit_blocks.proofs.{CompareLemmas.{digit_from_zero, value_in_view}, LowestLemmas.ones_zero, Masks.is_one-zero, MergeLemmas.{get_or-merged, length-merged, merge_of_values-none}}
-use Rattle.bit_blocks.proofs.{SpanCountLemmas.{count-parts, ones_of_span, sum-parts}, StorageLemmas.{value_at-index, value_at-past}, UseLemmas.{used_past, zero_from_unused}}
+use Rattle.bit_blocks.specs.{Merges.{merge_of, merge_of_values}, Storage.{ones_in, values_of, value_at, is_used, IsZeroFrom}}
+use Rattle.bit_blocks.proofs.{CompareLemmas.{digit_from_zero, value_in_view, zero_from_digits}, LowestLemmas.ones_zero, Masks.is_one-zero, MergeLemmas.{get_or-merged, length-merged, merge_of_values-none}}
+use Rattle.bit_blocks.proofs.{SpanCountLemmas.{count-parts, ones_of_blocks, ones_of_span, sum-parts}, StorageLemmas.{value_at-index, value_at-past}, UseLemmas.{used_past, zero_from_unused}}
 use Rattle.bit_blocks.proofs.VectorLemmas.{length_from_view}
 use Rattle.bit_words.specs.MergedOnes.{may_merge, merged_at, merged_ones, CoversChunks, CoversMerged}
 use Rattle.bit_words.proofs.RangeQueryLemmas.{trues_of_map}
@@ -132,6 +132,50 @@ left_sums f total w m n le start next none within =
       ap (λ c. sum_by g (range_with_len 0 c)) (let e : n - 0 ≡ n = omega arith in e),
     )
 
+-- ---- where one list has ended
+
+-- a merge with false, from what it makes of true
+pub with_false : (g : Bool → Bool) (b x : Bool) → g false ≡ false → g true ≡ b → g x ≡ (b && x)
+with_false g true true none is = is
+with_false g false true none is = is
+with_false g true false none is = none
+with_false g false false none is = none
+
+-- a block of one 1 that is merged with zeros has one left exactly where the merge keeps it
+pub kept_one : (g : Bool → Bool) (b : Bool) (w r p : ℕ) → 0 < w → r < 2 ^ w → p ≡ 1 → g false ≡ false → g true ≡ b → ((j : ℕ) → j < w → is_one r j ≡ g (is_one p j)) → not (r == 0) ≡ b
+kept_one g true w r p pos small one none is digits =
+    ⊎_elim
+    (λ (gone : r ≡ 0). absurd (false≢true (sym (digit_from_zero r 0 gone) ∙ digits 0 pos ∙ with_false g true (is_one p 0) none is ∙ ap (λ n. is_one n 0) one)))
+    (λ (some : r ≢ 0). grind (arith, nat_tests, some))
+    (cases_eq r 0)
+kept_one g false w r p pos small one none is digits =
+    ap (λ n. not (n == 0)) (zero_from_digits w r small (λ j index. digits j index ∙ with_false g false (is_one p j) none is))
+
+-- the ones of a list from block k on, where these are the true values of a function
+module _ {X : Type 0} (w : ℕ) (number : X → ℕ) (xs : List X) (pos : 0 < w) (small : (k : ℕ) → get_or (map number xs) k 0 < 2 ^ w) (f : ℕ → Bool) (k : ℕ)
+    (same : (i : ℕ) → k * w ≤ i → f i ≡ value_at w (map number xs) i) where
+  none_from_end : (a n : ℕ) → k ≤ a → length xs ≤ a → count_by f (range_with_len (a * w) n) ≡ 0
+  none_from_end a n le past =
+      count_none f (a * w) n (λ i from below.
+      let block = le-div a i w pos from in
+      let reached : k * w ≤ a * w = mul-le-mul_right w le in
+      same i (omega (arith, reached, from)) ∙ value_at-past w (map number xs) i (omega (arith, block, past, length-map xs number)))
+
+  pub ones_of_drop : (n : ℕ) → k ≤ n → length xs ≤ n → ones_in number (drop k xs) ≡ count_by f (range_with_len (k * w) (n * w - k * w))
+  ones_of_drop n le enough =
+      let p = length xs in
+      ⊎_elim
+      (λ (past : p < k). ap (ones_in number) (drop_all k xs (omega (arith, past))) ∙ sym (none_from_end k (n * w - k * w) (omega arith) (omega (arith, past))))
+      (λ (within : k ≤ p).
+      omega (
+        arith,
+        ones_of_blocks number w k p xs (drop k xs) small within (omega arith) (sym (take_all (p - k) (drop k xs) (omega (arith, length-drop k xs)))),
+        sums_same (λ i. cond (f i) 1 0) (λ i. cond (value_at w (map number xs) i) 1 0) (k * w) (p * w - k * w) (λ i from below. ap one_if (same i from)),
+        count-parts f (k * w) (p * w) (n * w) (mul-le-mul_right w within) (mul-le-mul_right w enough),
+        none_from_end p (n * w - p * w) within (omega arith),
+      ))
+      (cases_lt p k)
+
 -- ---- the ones of the merge
 
 module _ (merge : Merge) (w : ℕ) (ms ns : List ℕ) where
@@ -167,24 +211,44 @@ module _ (merge : Merge) (w : ℕ) (ms ns : List ℕ) where
   pub merged_none : (k : ℕ) → ((j : ℕ) → j < w → merge_of_values merge (is_one (get_or ms k 0) j) (is_one (get_or ns k 0) j) ≡ false) → merged_ones merge w ms ns k (k + 1) ≡ 0
   merged_none k none = sym (merged_block k 0 (pow_pos w) (λ j index. is_one-zero j ∙ sym (none j index))) ∙ ones_zero
 
+  -- past the end of the second list, and of the first
+  pub past_second : (b : Bool) (k i : ℕ) → merge_of_values merge true false ≡ b → 0 < w → length ns ≤ k → k * w ≤ i → merged_at merge w ms ns i ≡ (b && value_at w ms i)
+  past_second b k i is pos past from =
+      let block = le-div k i w pos from in
+      ap (merge_of_values merge (value_at w ms i)) (value_at-past w ns i (omega (arith, block, past)))
+      ∙ with_false (λ x. merge_of_values merge x false) b (value_at w ms i) (merge_of_values-none merge) is
+
+  pub past_first : (b : Bool) (k i : ℕ) → merge_of_values merge false true ≡ b → 0 < w → length ms ≤ k → k * w ≤ i → merged_at merge w ms ns i ≡ (b && value_at w ns i)
+  past_first b k i is pos past from =
+      let block = le-div k i w pos from in
+      ap (λ x. merge_of_values merge x (value_at w ns i)) (value_at-past w ms i (omega (arith, block, past)))
+      ∙ with_false (merge_of_values merge false) b (value_at w ns i) (merge_of_values-none merge) is
+
+  -- where the merge keeps none of the other
+  pub none_past_second : (a b : ℕ) → merge_of_values merge true false ≡ false → 0 < w → length ns ≤ a → merged_ones merge w ms ns a b ≡ 0
+  none_past_second a b lost pos past = count_none (merged_at merge w ms ns) (a * w) (b * w - a * w) (λ i from below. past_second false a i lost pos past from)
+
+  pub none_past_first : (a b : ℕ) → merge_of_values merge false true ≡ false → 0 < w → length ms ≤ a → merged_ones merge w ms ns a b ≡ 0
+  none_past_first a b lost pos past = count_none (merged_at merge w ms ns) (a * w) (b * w - a * w) (λ i from below. past_first false a i lost pos past from)
+
   -- past both lists
-  merged_past : (a b : ℕ) → 0 < w → a ≤ b → length ms ≤ a → length ns ≤ a → merged_ones merge w ms ns a b ≡ 0
-  merged_past a b pos le past also = count_none (merged_at merge w ms ns) (a * w) (b * w - a * w) (λ i from below.
+  pub merged_past : (a b : ℕ) → 0 < w → length ms ≤ a → length ns ≤ a → merged_ones merge w ms ns a b ≡ 0
+  merged_past a b pos past also = count_none (merged_at merge w ms ns) (a * w) (b * w - a * w) (λ i from below.
       let block = le-div a i w pos from in
-      ap₂ (merge_of_values merge) (value_at-past w ms i (omega arith)) (value_at-past w ns i (omega arith)) ∙ merge_of_values-none merge)
+      ap₂ (merge_of_values merge) (value_at-past w ms i (omega (arith, block, past))) (value_at-past w ns i (omega (arith, block, also))) ∙ merge_of_values-none merge)
 
   -- so it does not matter how far one counts past them
   pub merged_all : (a b : ℕ) → 0 < w → length ms ≤ a → length ns ≤ a → length ms ≤ b → length ns ≤ b → merged_ones merge w ms ns 0 a ≡ merged_ones merge w ms ns 0 b
   merged_all a b pos first second third fourth =
       ⊎_elim
-      (λ (less : a < b). omega (arith, merged_parts 0 a b (omega arith) (omega arith), merged_past a b pos (omega arith) first second))
-      (λ (more : b ≤ a). omega (arith, merged_parts 0 b a (omega arith) more, merged_past b a pos more third fourth))
+      (λ (less : a < b). omega (arith, merged_parts 0 a b (omega arith) (omega arith), merged_past a b pos first second))
+      (λ (more : b ≤ a). omega (arith, merged_parts 0 b a (omega arith) more, merged_past b a pos third fourth))
       (cases_lt a b)
 
-  -- where there are none in all, there are none in a part
-  pub merged_zero : (a n : ℕ) → 0 < w → length ms ≤ a → length ns ≤ a → merged_ones merge w ms ns 0 a ≡ 0 → merged_ones merge w ms ns 0 n ≡ 0
-  merged_zero a n pos first second none =
-      omega (arith, none, merged_le 0 0 n (n + a) (omega arith) (omega arith) (omega arith), merged_all a (n + a) pos first second (omega (arith, first)) (omega (arith, second)))
+  -- where there are none up to a block, and none past it, there are none in a part
+  pub merged_zero : (a n : ℕ) → merged_ones merge w ms ns 0 a ≡ 0 → merged_ones merge w ms ns a (n + a) ≡ 0 → merged_ones merge w ms ns 0 n ≡ 0
+  merged_zero a n none more =
+      omega (arith, none, more, merged_parts 0 a (n + a) (omega arith) (omega arith), merged_le 0 0 n (n + a) (omega arith) (omega arith) (omega arith))
 
   -- ---- whether there are any
 

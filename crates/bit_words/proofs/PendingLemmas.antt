@@ -1,12 +1,10 @@
 -- The walk over the blocks that are not 0, by the pending bits of a summary.
 use Rattle.std.proofs.Common.{◌≡◌, ◌≢◌, ℕ, zero, suc, ◌+◌, ◌-◌, ◌*◌, ◌/◌, ◌%◌, ◌^◌, ◌<◌, ◌≤◌, true, false, not, leb, nat_lt, ◌&&◌, if◌then◌else◌, ◌==◌, List, [], ◌∷◌, ◌++◌, map, drop, take}
 use Rattle.std.proofs.Common.{length, slice_get, Some, get_or, get_or-take, All, refl, sym, ap, subst, ◌∙◌, ⊎_elim, arith, max, min, mul-le-mul_right, div-mul-le_self, length-take}
-use Rattle.std.proofs.lemmas.Bool.{true≢false, cases_lt, cond_both, Decides.nat_tests}
+use Rattle.std.proofs.lemmas.{Bool.{true≢false, cases_lt, cond_both, Decides.nat_tests}, Option.get_or_from_slice_get}
 use Rattle.std.proofs.lemmas.List.{append-nil, drop_more, drop_all, drop-append-le, drop-map, get_or_past, length-drop, length-map, length-take-le, take_all, take-append-drop, take-map}
-use Rattle.std.proofs.lemmas.List.{take-take, Elements.{All-drop, All-take}}
-use Rattle.std.proofs.lemmas.Option.{get_or_from_slice_get}
+use Rattle.std.proofs.lemmas.{List.{take-take, Elements.{All-drop, All-take}}, Grind.div_ceil_times}
 use Rattle.std.proofs.Math.{Nat.div-lt_iff_lt-mul, Seq.drop-drop}
-use Rattle.std.proofs.lemmas.Grind.{div_ceil_times}
 use Rattle.bit_blocks.specs.{Bits.blocks_for, Digits.is_one, Lowest.{IsLowest, IsCleared}, Storage.{value_at, is_used}}
 use Rattle.bit_words.specs.{Nonzero.nonzero_from, Pending.{CoversUsed, IsInHand, IsLastPending, IsStoredFrom, left_from, next_at}}
 use Rattle.bit_blocks.proofs.{BitsLemmas.{blocks_for-le, blocks_for-least, blocks_for-past}, Masks.{is_one-bit, is_one-zero}}

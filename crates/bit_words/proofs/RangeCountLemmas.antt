@@ -7,8 +7,7 @@ use Rattle.bit_blocks.specs.{Bits.blocks_for, BlockMerges.MergesSpanToFalse, Dig
 use Rattle.bit_blocks.specs.declared.block.merge.Merge.TheVariants.{Intersection}
 use Rattle.bit_blocks.proofs.{BitsLemmas.blocks_for-enough, SpanCountLemmas.{count-le, ones_of_blocks}, StorageLemmas.{value_at-index, value_at-is}, ZeroLemmas.{all_zero, dropped, front_read}}
 use Rattle.bit_blocks.proofs.{CompareLemmas.zero_from_digits, Masks.is_one-zero, UseLemmas.unused_from_false, VectorLemmas.{all_zero_map, numbers_below}}
-use Rattle.bit_words.proofs.SummaryZeros.{zero_from_chunk}
-use Rattle.bit_words.specs.Summary.{IsSummary}
+use Rattle.bit_words.{proofs.SummaryZeros.zero_from_chunk, specs.Summary.IsSummary}
 
 -- a list that has so many chunks whole has as many blocks of a summary
 pub chunks_within : (w n chunks : ℕ) → 0 < w → chunks * w ≤ n → chunks ≤ blocks_for w n

@@ -1,8 +1,7 @@
 -- A walk passes over whole chunks of blocks.
 use Rattle.std.proofs.Common.{◌≡◌, ℕ, ◌+◌, ◌-◌, ◌<◌, ◌≤◌, List, [], ◌∷◌, ◌++◌, drop, take, length, min}
-use Rattle.std.proofs.Common.{count_ones, refl, sym, ap, ◌∙◌, arith}
+use Rattle.std.proofs.{Common.{count_ones, refl, sym, ap, ◌∙◌, arith}, Math.Seq.{drop-drop, take-add}}
 use Rattle.std.proofs.lemmas.{Bool.Decides.nat_tests, Option.slice_get_within, List.{drop-take, length-drop, take-append-drop, take-take, Sums.{sum_by-append, sum_by-cons, sum_by-take-drop}}}
-use Rattle.std.proofs.Math.Seq.{drop-drop, take-add}
 use Rattle.std.specs.{List.{sum_by}}
 use Rattle.bit_blocks.specs.{Bits.blocks_for, Storage.{ones_in}}
 use Rattle.bit_words.specs.{Nonzero.{Nonzeros, SkipsBlocks, nonzero_from, ones_left}, Pending.{IsNextChunk, IsPending, left_from, next_at}}

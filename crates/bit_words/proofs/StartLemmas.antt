@@ -1,12 +1,10 @@
 -- Where a search of the summary for the first true value may start.
 use Rattle.std.proofs.Common.{◌≡◌, ℕ, ◌+◌, ◌*◌, ◌/◌, ◌^◌, ◌<◌, ◌≤◌, Bool, true, false, List, map, get_or, All, sym, ap, ◌∙◌, arith, ⊎_elim, div-add-mod'}
-use Rattle.std.proofs.Common.{div-lt_iff_lt-mul, mul-le-mul_right}
-use Rattle.std.proofs.lemmas.{Bool.cases_lt, Nat.div-mul-add}
+use Rattle.std.proofs.{Common.{div-lt_iff_lt-mul, mul-le-mul_right}, lemmas.{Bool.cases_lt, Nat.div-mul-add}}
 use Rattle.bit_blocks.specs.{Mismatches.IsFirstNonzeroBlock, Searches.IsFirstFrom, Storage.{value_at, IsZeroFrom, WritesValue, is_used}}
 use Rattle.bit_blocks.proofs.{CompareLemmas.zero_from_digits, SearchLemmas.{first_past_none, unused}, StorageLemmas.value_at-index}
-use Rattle.bit_words.specs.Summary.{short_count, IsFalseBefore, IsSummary}
+use Rattle.bit_words.{specs.Summary.{short_count, IsFalseBefore, IsSummary}, proofs.SummaryZeros.zero_from_chunk}
 use Rattle.bit_blocks.proofs.{UseLemmas.{unused_from_false, used_from_zero}, VectorLemmas.numbers_below}
-use Rattle.bit_words.proofs.SummaryZeros.{zero_from_chunk}
 
 -- ---- the start is kept
 

@@ -2,8 +2,7 @@
 use Rattle.std.proofs.Common.{◌≡◌, ℕ, ◌^◌, ◌<◌, ◌≤◌, false, not, ◌&&◌, ◌||◌, ◌==◌, List}
 use Rattle.std.proofs.Common.{map, length, get_or, All, sym, ap, ap₂, ◌∙◌, arith, ⊎_elim}
 use Rattle.std.proofs.lemmas.{Bool.{cases_lt, Decides.nat_tests}, List.length-map}
-use Rattle.bit_blocks.specs.Digits.{is_one}
-use Rattle.bit_blocks.specs.declared.block.merge.Merge.TheVariants.{Union}
+use Rattle.bit_blocks.specs.{Digits.is_one, declared.block.merge.Merge.TheVariants.Union}
 use Rattle.bit_blocks.specs.{BlockMerges.{except_at, HasMerged}, Storage.value_at}
 use Rattle.bit_blocks.{specs.Storage.is_used, proofs.{CompareLemmas.zero_from_digits, Masks.is_one-zero}}
 use Rattle.bit_words.specs.Summary.{IsSummary}

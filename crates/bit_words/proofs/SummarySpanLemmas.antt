@@ -1,7 +1,6 @@
 -- The summary of blocks that were merged with a span.
-use Rattle.std.{specs.{Global.Vec, Vec.vec_len}}
+use Rattle.std.{specs.{Global.Vec, Vec.vec_len}, proofs.Common.div-lt_iff_lt-mul}
 use Rattle.std.proofs.Common.{◌≡◌, ◌≢◌, ℕ, ◌+◌, ◌-◌, ◌*◌, ◌/◌, ◌%◌, ◌^◌, ◌<◌, ◌≤◌, Bool, true, false, List, map, length, get_or, set, min, max, sym, ap, ◌∙◌, arith, mod-lt, div-add-mod'}
-use Rattle.std.proofs.Common.{div-lt_iff_lt-mul}
 use Rattle.bit_blocks.specs.{declared.block.merge.Merge.Merge, Bits.blocks_for, BlockMerges.IsMergedSpan, Digits.is_one, Merges.merge_of_values}
 use Rattle.bit_blocks.specs.Storage.{value_at, IsPacked, WritesInPlace, WritesValue, is_used}
 use Rattle.bit_words.specs.Summary.{IsSummary}

@@ -1,24 +1,10 @@
 -- Which blocks of a chunk a merge may change, by the summaries of both sides, and what the summary is then.
 use Rattle.std.proofs.Common.{◌≡◌, ◌≢◌, ℕ, zero, suc, ◌+◌, ◌-◌, ◌*◌, ◌^◌, ◌<◌, ◌≤◌, ◌==◌, Bool, true, false, not, ◌&&◌, ◌||◌, List, map, length, get_or, All, refl, sym, subst, ap, ◌∙◌, arith, ⊎_elim}
-use Rattle.std.specs.Int.{bit_at}
-use Rattle.std.proofs.lemmas.List.{get_or_past, length-map}
+use Rattle.std.{specs.Int.bit_at, proofs.lemmas.List.{get_or_past, length-map}}
 use Rattle.std.proofs.lemmas.Bool.{cases_lt, cases_eq, true≢false, Decides.nat_tests}
-use Rattle.bit_blocks.specs.{Digits.is_one, Lowest.{IsLowest, IsCleared}}
-use Rattle.bit_blocks.specs.declared.block.merge.Merge.{Merge}
-use Rattle.bit_blocks.specs.declared.block.merge.Merge.TheVariants.{Union, Intersection, Difference, Symmetric}
+use Rattle.bit_blocks.specs.{Digits.is_one, Lowest.{IsLowest, IsCleared}, declared.block.merge.Merge.Merge}
 use Rattle.bit_blocks.specs.{Merges.merge_of_values, BlockMerges.{HasMerged, Stay}, Storage.is_used}
 use Rattle.bit_blocks.proofs.{CompareLemmas.zero_from_digits, Masks.is_one-zero}
-
--- where something is left of a one that is merged with a zero, a value that is merged with false stays
-pub kept_alone : (m : Merge) (w r : ℕ) (one zeros : ℕ → Bool) → r < 2 ^ w → ((i : ℕ) → zeros i ≡ false)
-    → ((i : ℕ) → i < w → is_one r i ≡ merge_of_values m (one i) (zeros i)) → not (r == 0) ≡ true → (a : Bool)
-    → merge_of_values m a false ≡ a
-kept_alone Union w r one zeros small none digits some a = grind arith
-kept_alone Intersection w r one zeros small none digits some a =
-    let gone : r ≡ 0 = zero_from_digits w r small (λ i index. grind (arith, digits i index, none i)) in
-    absurd (true≢false (sym some ∙ ap (λ n. not (n == 0)) gone))
-kept_alone Difference w r one zeros small none digits some a = grind arith
-kept_alone Symmetric w r one zeros small none digits some a = grind arith
 
 pub true_unless : (b c : Bool) → (c ≡ false → b ≡ false) → b ≡ true → c ≡ true
 true_unless b true lacks is = refl

@@ -1,7 +1,6 @@
 -- A walk over the blocks that are not 0, each with its index.
 use Rattle.std.specs.Prelude.{◌≡◌, ℕ, ◌+◌, ◌-◌, ◌*◌, ◌/◌, ◌==◌, ◌<◌, ◌⊎◌, ◌++◌, ◌&&◌, nat_lt, All, Bool, true, false, None, Some, ◌≤◌, if◌then◌else◌, min, List, [], ◌∷◌, Option, MatchOption}
-use Rattle.std.specs.Prelude.{⊤, drop, length, take}
-use Rattle.std.specs.Int.RustNames.{count_ones}
+use Rattle.std.specs.{Prelude.{⊤, drop, length, take}, Int.RustNames.count_ones}
 use Rattle.std.specs.{Iterator.{YieldsFirst, YieldsLast}, List.sum_by}
 use Rattle.bit_blocks.specs.{Bits.blocks_for, Digits.is_one}
 

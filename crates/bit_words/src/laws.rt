@@ -1,7 +1,6 @@
 //! Laws over plain numbers and lists, stated as the contracts of functions that do nothing.
 ghost use Rattle.std.specs.{Prelude.{◌≡◌, ℕ, ◌+◌, ◌-◌, ◌*◌, ◌^◌, ◌<◌, ◌≤◌, ◌↔◌, ◌==◌, Bool, true, Some, None, List, length, slice_get, slice_index}, Int.{bit_at, RustNames.count_ones}};
-ghost use Rattle.std.specs.{Iterator.YieldsThen, List.sum_by};
-ghost use Rattle.std.specs.List.{count_by, range_with_len};
+ghost use Rattle.std.specs.{Iterator.YieldsThen, List.{sum_by, count_by, range_with_len}};
 ghost use Rattle.bit_blocks.specs.{Bits.{blocks_for, blocks_of, values_of_bytes, Bits, IsCapacityOfBlocks}, Lowest.LowestIsFound};
 ghost use Rattle.bit_words.specs.Source.{Source};
 

@@ -237,16 +237,20 @@ pub(crate) fn uniform_summary<B: BitBlock>(
     repeated_bit(alloc, blocks.len(), bit)
 }
 
-// Computes the summary anew, over one that has as many blocks as it takes.
-fn summarize<B: BitBlock>(summary: &mut Vec<B>, blocks: &[B])
+// Computes the summary anew from its block `first` on, over one that has as many blocks as it takes; those before are right.
+fn summarize<B: BitBlock>(summary: &mut Vec<B>, blocks: &[B], first: usize)
     requires count { vec_len summary.old ≡ blocks_for B.width (length blocks.now) }
+    requires within { first ≤ vec_len summary.old }
+    requires before { (q j : ℕ) → q < first → j < B.width
+        → is_one (get_or (map B.number summary.old.items) q 0) j
+        ≡ is_used (map B.number blocks.now) (q * B.width + j) }
     requires each { All B.is_block summary.old.items }
     requires blocks { All B.is_block blocks.now }
     requires fits { length blocks.now < 2 ^ 64 }
     ensures summary { IsSummary B.width B.number B.is_block blocks.now summary.new.items }
     ensures capacity { vec_capacity summary.new ≡ vec_capacity summary.old }
 {
-    for q in 0..summary.len() {
+    for q in first..summary.len() {
         put_block(summary, q, used_from(blocks, q * B::bits()));
     }
 }
@@ -311,8 +315,15 @@ pub(crate) fn summarize_span<B: BitBlock>(
     }
 }
 
-// A summary of its own for the blocks, empty if they are few. Fails only if memory runs out, and never for few.
-pub(crate) fn summary_of<B: BitBlock>(alloc: Global, blocks: &[B]) -> Result<Vec<B>, AllocError>
+// A summary of its own for the blocks, of which those before block `k` are 0; empty if they are few. Fails only if memory runs
+// out, and never for few.
+pub(crate) fn summary_of<B: BitBlock>(
+    alloc: Global,
+    blocks: &[B],
+    k: usize,
+) -> Result<Vec<B>, AllocError>
+    requires within { k ≤ length blocks.now }
+    requires zeros { (q : ℕ) → q < k → is_used (map B.number blocks.now) q ≡ false }
     requires blocks { All B.is_block blocks.now }
     requires fits { length blocks.now < 2 ^ 64 }
     ensures summary { IfOk result (λ summary. IsStoredSummary B.width B.number B.is_block blocks.now summary.items) }
@@ -323,7 +334,7 @@ pub(crate) fn summary_of<B: BitBlock>(alloc: Global, blocks: &[B]) -> Result<Vec
         return Ok(Vec::new(alloc));
     }
     let mut summary = repeated_bit(alloc, blocks.len(), false)?;
-    summarize(&mut summary, blocks);
+    summarize(&mut summary, blocks, block_index::<B>(k));
     Ok(summary)
 }
 
@@ -356,7 +367,7 @@ fn store_short<B: BitBlock>(summary: &mut Vec<B>, blocks: &[B])
     ensures capacity { vec_capacity summary.new ≡ vec_capacity summary.old }
 {
     push_copies(summary, block_count::<B>(blocks.len()), B::zero());
-    summarize(summary, blocks);
+    summarize(summary, blocks, 0);
 }
 
 // The summary of `old` blocks becomes that of the longer list: each of the new ones is 0, or none of them is, and

@@ -87,25 +87,25 @@ on_the_way old new kept within = record { kept = kept; within = within; same_pat
 pub none_on_the_way : (rows : List (List ℕ)) → IsOnTheWay rows rows
 none_on_the_way rows = on_the_way rows rows (λ u v e. e) (λ u v e. (u, here, e))
 
+-- closed rows that have the edges of a graph have an edge wherever a path leads in it
+pub least_closed : (old rows : List (List ℕ)) → IsClosed rows → ((u v : ℕ) → Edge old u v → Edge rows u v) → (u v : ℕ) → LeadsTo old u v → Edge rows u v
+least_closed old rows closed kept u v h = leads u h.0 v h.1 (kept h.0 v h.2)
+  where
+    leads : (u v w : ℕ) → Path old u v → Edge rows v w → Edge rows u w
+    leads u v w here e = e
+    leads u v w (onward {v = x} p f) e = leads u x w p (closed x v w (kept x v f) e)
+
 module _ (old new : List (List ℕ)) (nodes : ℕ) (all : length new ≤ nodes) (c : Closes old nodes new) where
   pub is_closed : IsClosed new
   is_closed u v w a b = let inside = edge_within new v w b in c.through v u w (omega (arith, inside, all)) a b
 
   pub is_closure : IsClosureOf old new
-  is_closure u v = (c.within u v, λ h. leads u h.0 v h.1 (c.kept h.0 v h.2))
-    where
-      leads : (u v w : ℕ) → Path old u v → Edge new v w → Edge new u w
-      leads u v w here e = e
-      leads u v w (onward {v = x} p f) e = leads u x w p (is_closed x v w (c.kept x v f) e)
+  is_closure u v = (c.within u v, least_closed old new is_closed c.kept u v)
 
 -- in closed rows a path is an edge
 module _ (rows : List (List ℕ)) (closed : IsClosed rows) where
-  along : (u v w : ℕ) → Path rows u v → Edge rows v w → Edge rows u w
-  along u v w here e = e
-  along u v w (onward {v = x} p f) e = along u x w p (closed x v w f e)
-
   pub path_is_edge : (u w : ℕ) → LeadsTo rows u w → Edge rows u w
-  path_is_edge u w h = along u h.0 w h.1 h.2
+  path_is_edge u w h = least_closed rows rows closed (λ u v e. e) u w h
 
   pub within_by_paths : (a b : ℕ) (answer : Bool) → (answer ≡ true) ↔ ((v : ℕ) → Edge rows b v → Edge rows a v) → (answer ≡ true) ↔ ((v : ℕ) → LeadsTo rows b v → LeadsTo rows a v)
   within_by_paths a b answer h = (λ is v path. (a, here, h.0 is v (path_is_edge b v path)), λ each. h.1 (λ v e. path_is_edge a v (each v (b, here, e))))

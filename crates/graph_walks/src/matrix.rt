@@ -1,7 +1,7 @@
 // The transitive closure of a graph that is a matrix of bits.
 ghost use Rattle.std.specs.Prelude.{◌≡◌, ◌≢◌, ℕ, ◌<◌, ◌≤◌, ◌&&◌, ◌||◌, ◌==◌, IfNone, IfSome, IsTrue, List, length, nat_lt};
 ghost use Rattle.bit_matrix.specs.Matrices.{IsMatrix, KeepsShape, has_at, row_of};
-ghost use Rattle.graph_walks.specs.Closed.{Follows, HasNoneIn, IsClosed, IsClosureOf, IsOnTheWay, IsReflexiveClosureOf};
+ghost use Rattle.graph_walks.specs.{Closed.{Follows, HasNoneIn, IsClosed, IsClosureOf, IsOnTheWay, IsReflexiveClosureOf}, Paths.Edge};
 
 use bit_matrix::{BitBlock, BitMatrix};
 use bit_set::laws::{members_of_sets, sets_ascend};
@@ -20,6 +20,10 @@ use bit_set::laws::{members_of_sets, sets_ascend};
 pub fn transitive_closure<B: BitBlock>(reaches: &mut BitMatrix<B>)
     ensures closure { IsClosureOf reaches.old.rows reaches.new.rows }
     ensures closed { IsClosed reaches.new.rows }
+    ensures more { (u v : ℕ) → Edge reaches.old.rows u v → Edge reaches.new.rows u v }
+    ensures least { (other : List (List ℕ)) → IsClosed other
+        → ((u v : ℕ) → Edge reaches.old.rows u v → Edge other u v)
+        → (u v : ℕ) → Edge reaches.new.rows u v → Edge other u v }
     ensures shape { KeepsShape reaches.old reaches.new }
 {
     let rows = reaches.rows();

@@ -2,6 +2,7 @@
 //! returns. `tests/scaling.sh` counts the instructions of a turn at a size and at 16 times that size.
 #![tactic(auto)]
 
+mod beside;
 mod changes;
 mod faults;
 mod flow;
@@ -13,6 +14,7 @@ mod shapes;
 mod walks;
 mod work;
 
+use beside::Beside;
 use changes::Change;
 use faults::Fault;
 use flow::Flow;
@@ -67,6 +69,9 @@ fn done(alloc: Global, request: Request<'_>) -> Option<Result<usize, Fault>> {
         return Some(sum);
     }
     if let Some(sum) = as_one_of::<Change>(alloc, request) {
+        return Some(sum);
+    }
+    if let Some(sum) = as_one_of::<Beside>(alloc, request) {
         return Some(sum);
     }
     if let Some(sum) = as_one_of::<InPlace>(alloc, request) {

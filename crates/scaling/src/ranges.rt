@@ -12,6 +12,7 @@ enum Call {
     ContainsAll,
     ContainsAny,
     Count,
+    Copy,
 }
 
 #[derive(Clone, Copy)]
@@ -34,6 +35,7 @@ fn call_of(name: &str) -> Option<Call> {
         "contains_all_in_range" => Call::ContainsAll,
         "contains_any_in_range" => Call::ContainsAny,
         "count_in_range" => Call::Count,
+        "copy_range" => Call::Copy,
         _ => return None,
     })
 }
@@ -58,7 +60,7 @@ impl Work for RangeCall {
         })
     }
 
-    fn turn(self, _alloc: Global, sets: &mut Sets, n: usize) -> Result<usize, Fault> {
+    fn turn(self, alloc: Global, sets: &mut Sets, n: usize) -> Result<usize, Fault> {
         let set = &mut sets.set;
         let range = range_of(self.numbers, n);
         Ok(match self.call {
@@ -77,6 +79,7 @@ impl Work for RangeCall {
             Call::ContainsAll => usize::from(set.contains_all_in_range(range)),
             Call::ContainsAny => usize::from(set.contains_any_in_range(range)),
             Call::Count => set.count_in_range(range),
+            Call::Copy => set.copy_range(alloc, range)?.len(),
         })
     }
 }

@@ -1,16 +1,19 @@
 -- What a caller cites of sets.
-use Rattle.std.proofs.Common.{◌≡◌, ℕ, ◌+◌, ◌-◌, ◌*◌, ◌/◌, ◌%◌, ◌<◌, ◌≤◌, ◌++◌, ◌⊎◌, inl, inr, Bool, ◌&&◌, not, nat_le, ltb}
-use Rattle.std.proofs.Common.{filter, take, List, [], ◌∷◌, IsTrue, refl, sym, ap, ◌∙◌, zero, suc}
-use Rattle.std.proofs.Common.{append_assoc, arith, div-add-mod', length, reverse, ◌==◌}
+use Rattle.std.proofs.Common.{◌≡◌, ℕ, ◌+◌, ◌-◌, ◌*◌, ◌/◌, ◌%◌, ◌<◌, ◌≤◌, ◌↔◌, ◌++◌, ◌⊎◌, inl, inr, Bool, false, ◌&&◌, not, nat_le, ltb}
+use Rattle.std.proofs.Common.{filter, take, drop, List, [], ◌∷◌, IsTrue, refl, subst, sym, ap, ◌∙◌, zero, suc}
+use Rattle.std.proofs.Common.{append_assoc, arith, div-add-mod', get_or, length, reverse, ◌==◌}
+use Rattle.std.specs.{Cmp.Lexicographic.bytes_decides, List.Sorted.IsStrictlyIncreasing}
 use Rattle.std.proofs.Math.Nat.{add-mod_right}
 use Rattle.std.proofs.lemmas.{Bool.{cases_Bool, Decides.nat_tests}, Grind.take_at_read, Nat.mod-mul-add}
 use Rattle.std.proofs.lemmas.{List.{append-nil, reverse-append}, List.Folds.list_any-append, List.Sums.{length-filter, count_by-le-length, sum_by-append}}
-use Rattle.set_algebra.specs.{Ranges.span, Sets.{AscendsFrom, IsAscending, elements, has, those_below}}
-use Rattle.set_algebra.proofs.AlgebraLemmas.{members_of_merged_sets}
+use Rattle.bit_blocks.specs.Ranges.{in_range}
+use Rattle.set_algebra.specs.{Members.IsSameSet, Order.same_sets, Ranges.{span, those_in_range}, Sets.{AscendsFrom, IsAscending, difference, elements, has, intersection, is_subset, those_below, those_from, union}}
+use Rattle.set_algebra.proofs.{AlgebraLemmas.{has-difference, has-intersection, has-union, members_of_merged_sets}, SetLaws.IsAscending-put_all}
 use Rattle.set_algebra.proofs.TestLemmas.{below_all, below_none, filter_all, filter_none, from_all, from_none}
 use Rattle.set_algebra.proofs.PlaceLemmas.{all_by_places, any_by_places, at_place, has_place, in_order}
 use Rattle.set_algebra.proofs.RangeLemmas.{IsAscending-span, filtered_apart, has-span, length-span}
-use Rattle.set_algebra.proofs.SetLemmas.{AscendsFrom-filter, IsAscending-elements, has-filter, has-first, same_members}
+use Rattle.set_algebra.proofs.SubsetLemmas.{is_subset-members}
+use Rattle.set_algebra.proofs.SetLemmas.{AscendsFrom-filter, IsAscending-elements, has-below, has-filter, has-first, same_members}
 
 -- a test keeps no more than there is
 pub length-filter-le : (p : ℕ → Bool) (s : List ℕ) → length (filter p s) ≤ length s
@@ -44,6 +47,68 @@ ascends_pushed_from low (y ∷ ys) x from up =
 pub ascends_pushed : (s : List ℕ) (x : ℕ) → IsAscending s → (s ++ x ∷ [] ≡ s ++ x ∷ []) × (IsAscending (s ++ x ∷ []) ⊎ ((y : ℕ) × IsTrue (has s y) × (x ≤ y)))
 ascends_pushed s x up = (refl, ascends_pushed_from 0 s x (omega arith) up)
 
+-- std's word for a list that ascends
+pub increasing : (s : List ℕ) → IsAscending s → IsStrictlyIncreasing s
+increasing s up k within = in_order s k (k + 1) 0 0 up (omega arith) within
+
+ascending_from : (low x : ℕ) (s : List ℕ) → low ≤ x → IsStrictlyIncreasing (x ∷ s) → AscendsFrom low (x ∷ s)
+ascending_from low x [] from up = (from, tt)
+ascending_from low x (y ∷ ys) from up =
+    let first : x < y = up 0 (omega arith) in (
+      from,
+      ascending_from (x + 1) y ys (omega (arith, first)) (λ k within.
+          let next : suc k + 1 ≡ suc (k + 1) = omega arith in
+          subst (λ m. get_or (x ∷ y ∷ ys) (suc k) 0 < get_or (x ∷ y ∷ ys) m 0) next (up (suc k) (omega (arith, within)))),
+    )
+
+pub ascending : (s : List ℕ) → IsStrictlyIncreasing s → IsAscending s
+ascending [] up = tt
+ascending (x ∷ s) up = ascending_from 0 x s (omega arith) up
+
+-- the members below a number are a front of the list, as long as the number's rank, and those from it on are the rest
+ranked_from : (low n : ℕ) (s : List ℕ) → AscendsFrom low s
+    → (those_below s n ≡ take (length (those_below s n)) s) × (those_from s n ≡ drop (length (those_below s n)) s)
+ranked_from low n [] up = (refl, refl)
+ranked_from low n (x ∷ xs) up =
+    let rest = ranked_from (x + 1) n xs up.1 in
+    let none = below_none xs n in
+    let all = from_all xs n in
+    let below = λ (y : ℕ). has-below (x + 1) xs y up.1 in
+    grind (arith, nat_tests)
+
+pub ranked : (s : List ℕ) (n : ℕ) → IsAscending s
+    → (those_below s n ≡ take (length (those_below s n)) s) × (those_from s n ≡ drop (length (those_below s n)) s)
+ranked s n up = ranked_from 0 n s up
+
+-- a range has no member, or some; and all its numbers are members, or one is not
+pub counted_in_range : (s : List ℕ) (a b : ℕ) → (those_in_range s a b ≡ those_in_range s a b)
+    × (((length (those_in_range s a b) ≡ 0) × ((x : ℕ) → a ≤ x → x < b → has s x ≡ false))
+    ⊎ ((x : ℕ) × (0 < length (those_in_range s a b)) × (a ≤ x) × (x < b) × IsTrue (has s x)))
+counted_in_range [] a b = (refl, inl (refl, λ x from to. refl))
+counted_in_range (y ∷ ys) a b = (
+  refl,
+  elim (cases_Bool (in_range a b y)) [
+    | inl inside ↦ inr (y, grind (arith, inside), grind (arith, nat_tests, inside), grind (arith, nat_tests, inside), has-first y ys)
+    | inr outside ↦
+        elim (counted_in_range ys a b).1 [
+          | inl none ↦ inl (grind (arith, outside, none), λ x from to. grind (arith, nat_tests, outside, from, to, none.1 x from to))
+          | inr some ↦ inr (some.0, grind (arith, outside, some.1), some.2, some.3, grind (arith, some.4))
+        ]
+  ],
+)
+
+pub spanned : (s : List ℕ) (a b : ℕ) → (is_subset (span a b) s ≡ is_subset (span a b) s)
+    × (IsTrue (is_subset (span a b) s) ↔ ((x : ℕ) → a ≤ x → x < b → IsTrue (has s x)))
+spanned s a b = let each = is_subset-members (span a b) s in (refl, grind (arith, nat_tests, has-span))
+
+-- `==` of lists that ascend
+pub same_by_members : (s t : List ℕ) → IsAscending s → IsAscending t → IsTrue (same_sets s t) ↔ IsSameSet s t
+same_by_members s t up_s up_t = let same = bytes_decides s t in let members = same_members s t up_s up_t in grind arith
+
+-- the same members are the same list
+pub same_elements : (a b : List Bool) → IsSameSet (elements a) (elements b) → elements a ≡ elements b
+same_elements a b same = same_members (elements a) (elements b) (IsAscending-elements a) (IsAscending-elements b) same
+
 -- a set of two parts has as many members as they have
 
 pub length_of_parts : (whole a b : List ℕ) → IsAscending whole → IsAscending a → IsAscending b
@@ -54,6 +119,20 @@ length_of_parts whole a b up up_a up_b others within =
     let second : b ≡ filter (has b) whole = same_members b (filter (has b) whole) up_b (AscendsFrom-filter 0 _ whole up)
     (λ x. let kept = has-filter (has b) whole x in let is = within x in grind (arith, nat_tests)) in
     omega (arith, filtered_apart (has b) whole, ap length first, ap length second)
+
+-- how many members merges have
+pub count_difference : (s t : List ℕ) → (difference s t ≡ difference s t) × (length (difference s t) + length (intersection s t) ≡ length s)
+count_difference s t = (refl, filtered_apart (has t) s)
+
+pub count_union : (s t : List ℕ) → IsAscending s → IsAscending t → (union s t ≡ union s t) × (length (union s t) + length (intersection s t) ≡ length s + length t)
+count_union s t up_s up_t =
+    let in_union = has-union s t in
+    let in_rest = has-difference t s in
+    let whole = length_of_parts (union s t) s (difference t s) (IsAscending-put_all s t up_s) up_s (AscendsFrom-filter 0 _ t up_t)
+    (λ x. grind (arith, in_union x, in_rest x)) (λ x is. grind (arith, is, in_union x, in_rest x)) in
+    let same : intersection t s ≡ intersection s t = same_members _ _ (AscendsFrom-filter 0 (has s) t up_t) (AscendsFrom-filter 0 (has t) s up_s)
+    (λ x. grind (arith, has-intersection t s x, has-intersection s t x)) in
+    (refl, omega (arith, whole, (count_difference t s).1, ap length same))
 
 -- what is below n and not in a set, with what is in it below n, is n
 pub count_complement : (n : ℕ) (rest set : List Bool) → ((x : ℕ) → has (elements rest) x ≡ (ltb x n && not (has (elements set) x)))
@@ -107,6 +186,15 @@ pub ruleset calls = (set_steps, members_of_merged_sets, has-reverse, at_place, h
 
 -- for a function whose clause says that a test which is no bound keeps none, or all
 pub ruleset kept_by_tests = (calls, filter_none, filter_all)
+
+-- for a function that asks of ranges by `span` and `those_in_range`
+pub ruleset ranges = (calls, has-span, counted_in_range, spanned)
+
+-- for a clause that counts what merges have
+pub ruleset counts = (calls, count_difference, count_union)
+
+-- for a page that goes on where another ended
+pub ruleset pages = (calls, ranked)
 
 -- for a loop that goes on by steps of a number: a function that needs it names it
 pub ruleset steps = (nat_tests, multiples)

@@ -15,5 +15,11 @@ pub mod RangeQueryLemmas
 pub mod PlaceLemmas
 pub mod OrderLemmas
 pub mod MismatchLemmas
+pub mod PartLemmas
+pub mod PartMembers
+pub mod PartPairs
+pub mod PartMerging
+pub mod PartOrder
+pub mod PartRanks
 pub mod TestLemmas
 pub mod CallerLemmas

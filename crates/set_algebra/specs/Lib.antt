@@ -7,5 +7,7 @@ pub mod Texts
 pub mod Runs
 pub mod Moved
 pub mod Gaps
+pub mod Measures
 pub mod Mismatches
+pub mod Parts
 pub use Rattle.bit_blocks.specs.Bounds

@@ -126,10 +126,19 @@ fn with_a_set(rt: &impl Test, columns: BitSet) -> Result<(), MatrixError> {
     Ok(())
 }
 
+fn a_row_that_is_a_set(rt: &impl Test, set: BitSet) -> Result<(), MatrixError> {
+    let alloc = rt.alloc();
+    let matrix = BitMatrix::from_row(alloc, &set, 2)?;
+    expect(rt, matrix.row_equals(1, &matrix.row_to_set(alloc, 1)?));
+    expect(rt, !matrix.row_equals(1, &BitSet::new(alloc)));
+    Ok(())
+}
+
 #[test]
 fn rows_and_sets(rt: HostRuntime) {
     ok(&rt, rows_of(&rt, set_of_a_byte(&rt)));
     ok(&rt, with_a_set(&rt, set_of_a_byte(&rt)));
+    ok(&rt, a_row_that_is_a_set(&rt, set_of_a_byte(&rt)));
 }
 
 // Of 25 blocks a union takes sixteen at once, then four twice, and then one.

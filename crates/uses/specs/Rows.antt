@@ -1,5 +1,5 @@
 -- Sets of numbers that lead on, each number to what is in its row.
-use Rattle.std.specs.Prelude.{◌≡◌, ℕ, ◌+◌, ◌-◌, ◌*◌, ◌<◌, ◌^◌, false, IsTrue, List, length, slice_index_or}
+use Rattle.std.specs.Prelude.{◌≡◌, ℕ, ◌<◌, false, IsTrue, List, length, slice_index_or}
 use Rattle.bit_set.specs.{Bits.Bits, Members.IsSubset, Sets.{elements, has}}
 
 -- the set has, with each member, what is in its row
@@ -15,7 +15,3 @@ IsClosedBut rows set pending = (x : ℕ) (d : Bits) → x < length rows → IsTr
 -- each closed set that has what is in `old` has what is in `new`
 abbrev pub ReachesOnly : List Bits → List ℕ → List ℕ → Type 0
 ReachesOnly rows old new = (other : List ℕ) → IsSubset old other → IsClosed rows other → IsSubset new other
-
--- a bound on the turns to come: in each the set grows, or else something pending goes
-abbrev pub turns_left : List ℕ → List ℕ → ℕ
-turns_left set pending = (2 ^ 64 - length set) * 2 ^ 64 + length pending

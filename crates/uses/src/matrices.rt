@@ -1,9 +1,8 @@
 //! Matrices as relations: where column b of row a is in, a leads to b.
 ghost use Rattle.std.specs.Prelude.{◌≡◌, ℕ, ◌<◌, ◌==◌, ◌&&◌, ◌↔◌, length, not, IfOk, IsTrue};
 ghost use Rattle.std.specs.List.{list_any};
-ghost use Rattle.bit_set.specs.Order.{same_sets};
 ghost use Rattle.bit_set.specs.Sets.{elements, has};
-ghost use Rattle.bit_matrix.specs.Matrices.{has_at, row_of};
+ghost use Rattle.bit_matrix.specs.Matrices.{has_at};
 
 use bit_matrix::{BitBlock, BitMatrix};
 use bit_set::BitSet;
@@ -20,14 +19,6 @@ pub fn remove_column<B: BitBlock>(matrix: &mut BitMatrix<B>, column: usize)
     for row in 0..matrix.rows() {
         matrix.remove(row, column);
     }
-}
-
-/// Whether a row is a set.
-pub fn row_is<B: BitBlock>(matrix: &BitMatrix<B>, row: usize, set: &BitSet<B>) -> bool
-    requires { row < length matrix.now.rows }
-    ensures { result ≡ same_sets (row_of matrix.now row) (elements set.now.values) }
-{
-    matrix.iter(row).eq(set.iter())
 }
 
 /// Whether the relation is symmetric.

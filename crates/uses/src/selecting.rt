@@ -1,10 +1,11 @@
-//! Members by how many are below them.
-ghost use Rattle.std.specs.Prelude.{◌≡◌, ◌-◌, ◌/◌, ◌<◌, false, length, IfSome, MatchOption};
+//! Members by how many are below them, and in pages.
+ghost use Rattle.std.specs.Prelude.{◌≡◌, ◌+◌, ◌-◌, ◌/◌, ◌<◌, false, length, take, IfOk, IfSome, MatchOption};
 ghost use Rattle.bit_set.specs.Choices.{IsSelected};
 ghost use Rattle.bit_set.specs.Members.{HasNone};
-ghost use Rattle.bit_set.specs.Sets.{elements, has};
+ghost use Rattle.bit_set.specs.Sets.{elements, has, those_from};
 
 use bit_set::{BitBlock, BitSet, laws};
+use std::alloc::{AllocError, Global};
 
 /// How many tickets are called before this one, or `None` if it does not wait.
 pub fn place_in_queue<B: BitBlock>(waiting: &BitSet<B>, ticket: usize) -> Option<usize>
@@ -31,4 +32,17 @@ pub fn median<B: BitBlock>(set: &BitSet<B>) -> Option<usize>
     }
     let mut walk = set.iter();
     walk.nth((count - 1) / 2)
+}
+
+/// A page: the first `count` members above `last`.
+pub fn page<B: BitBlock>(
+    alloc: Global,
+    set: &BitSet<B>,
+    last: usize,
+    count: usize,
+) -> Result<Vec<usize>, AllocError>
+    requires { last < usize.MAX }
+    ensures { IfOk result (λ page. page.items ≡ take count (those_from (elements set.now.values) (last + 1))) }
+{
+    set.iter_from(last + 1).take(count).collect(alloc)
 }

@@ -2,9 +2,10 @@
 //! lead.
 ghost use Rattle.std.specs.Prelude.{◌≡◌, ◌+◌, ◌<◌, ◌≤◌, ◌^◌, if◌then◌else◌, false, true, IfOk, IsTrue, OnErr, OnOk, length, slice_index_or};
 ghost use Rattle.bit_set.specs.Bits.{Bits};
+ghost use Rattle.bit_set.specs.Measures.{turns_left};
 ghost use Rattle.bit_set.specs.Members.{HasNone, IsSubset, IsUnion, IsUnionWithDifference};
 ghost use Rattle.bit_set.specs.Sets.{elements, has};
-ghost use Rattle.uses.specs.Rows.{IsClosed, IsClosedBut, ReachesOnly, turns_left};
+ghost use Rattle.uses.specs.Rows.{IsClosed, IsClosedBut, ReachesOnly};
 
 use bit_set::{BitBlock, BitSet, laws};
 use std::alloc::{AllocError, Global};

@@ -4,7 +4,7 @@ use bit_matrix::BitMatrix;
 use bit_set::BitSet;
 use bit_words::bit_vec::BitVec;
 use uses::bits::{mark, push_true};
-use uses::matrices::{image, is_symmetric, remove_column, row_is};
+use uses::matrices::{image, is_symmetric, remove_column};
 
 #[test]
 fn a_column_leaves_each_row(rt: HostRuntime) {
@@ -33,7 +33,6 @@ fn pairs_lead_back(rt: HostRuntime) {
     matrix.insert(0, 1);
     matrix.insert(1, 0);
     expect(&rt, is_symmetric(&matrix));
-    expect(&rt, row_is(&matrix, 0, &set_of(&rt, &[1])));
 }
 
 #[test]

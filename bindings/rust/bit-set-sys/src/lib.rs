@@ -1,5 +1,5 @@
 //! The calls of `bindings/c/bit_set.h`, and those of `bit_set32.h`, which are the same over blocks of 32 bits. Only
-//! `free` accepts a null pointer.
+//! `free` accepts a null pointer. The module [`roaring`] has those of `bit_roaring.h`.
 //!
 //! All packages over this library depend on this one, since a program can link the library only once.
 #![no_std]
@@ -9,6 +9,8 @@
 
 use core::ffi::c_void;
 use core::marker::PhantomData;
+
+pub mod roaring;
 
 /// An opaque set, used only through pointers.
 #[repr(C)]

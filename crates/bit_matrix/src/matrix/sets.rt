@@ -1,7 +1,7 @@
 // Calls on a row and a set: a set is inserted into a row, or made from one.
 ghost use Rattle.std.specs.Prelude.{◌≡◌, ℕ, ◌*◌, ◌<◌, ◌≤◌, ◌↔◌, ◌||◌, All, IfOk, IsErrOf, IsOk, IsTrue, false, get_or, length, map, not, replicate, true};
 ghost use Rattle.bit_blocks.specs.{Bits.{blocks_for, capacity_of}, Storage.value_at};
-ghost use Rattle.bit_set.specs.{Order.same_sets, Sets.{elements, has, union}};
+ghost use Rattle.bit_set.specs.{Members.IsSameSet, Order.same_sets, Sets.{elements, has, union}};
 ghost use Rattle.bit_matrix.specs.Matrices.{ChangesRow, has_at, matrix_of, row_of, with_row};
 
 use crate::merges::merge_others;
@@ -59,6 +59,20 @@ impl<B: BitBlock> BitMatrix<B> {
         let blocks = set.get_ref().storage();
         let others = blocks.split_at(blocks.len().min(stride)).0;
         merge_others::<B, Union>(self.blocks.as_mut_slice(), others, row * stride)
+    }
+
+    /// Whether the columns of the row are the elements of the set. Walks over both up to the first that differs.
+    ///
+    /// ```
+    /// assert!(matrix.row_equals(1, &matrix.row_to_set(alloc, 1)?));
+    /// ```
+    pub fn row_equals(&self, row: usize, set: &BitSet<B>) -> bool
+        requires { row < length self.now.rows }
+        ensures returned { result ≡ same_sets (row_of self.now row) (elements set.now.values) }
+        ensures members { IsTrue result ↔ IsSameSet (row_of self.now row) (elements set.now.values) }
+    {
+        prove!(self.rows() == self.rows());
+        self.iter(row).eq(set.iter())
     }
 
     /// The set of the columns of the row, of length [`columns`](Self::columns). Writes each block twice. The

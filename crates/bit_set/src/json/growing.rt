@@ -1,8 +1,7 @@
 // Making the bits that were read.
 ghost use Rattle.std.specs.{Prelude.{◌≡◌, ◌≢◌, ◌+◌, ◌^◌, ◌<◌, ℕ, All, IfOk, IsOk, false, get_or, length}, Int.bit_at};
 ghost use Rattle.bit_blocks.specs.{Bits.{blocks_for, blocks_of}, Digits.is_one};
-ghost use Rattle.bit_set.specs.{Json.HasZeroTail, Entries.{IsEntry, numbers_of}};
-ghost use Rattle.bit_set.specs.Sizes.{IsJustOf, KeepsSize};
+ghost use Rattle.bit_set.specs.{Json.HasZeroTail, Entries.{IsEntry, numbers_of}, Sizes.{IsJustOf, KeepsSize}};
 
 use super::JsonBlock;
 use super::checking::block_of;

@@ -1,12 +1,10 @@
 // Calls that change a set in place.
 ghost use Rattle.std.specs.Prelude.{◌≡◌, ℕ, ◌+◌, ◌-◌, ◌<◌, ◌≤◌, ◌↔◌, if◌then◌else◌, max, min, not, IfOk, IfErr, OnErr, OnOk, IsOk, IsErrOf, All, List, [], ◌++◌, length, replicate, false, true, Some};
-ghost use Rattle.std.specs.{Iterator.Drains};
-ghost use Rattle.std.specs.Iterator.{HoldsAlong, IsFinite, YieldsThen, Runs.WholeRun};
+ghost use Rattle.std.specs.Iterator.{Drains, HoldsAlong, IsFinite, YieldsThen, Runs.WholeRun};
 ghost use Rattle.bit_blocks.specs.Bits.{blocks_for, capacity_of};
 ghost use Rattle.bit_words.specs.Growth.{Grows};
 ghost use Rattle.set_algebra.specs.{Sets.{bound_of, elements, has, put, those_below, without}, Members.{HasNone, IsCounted, IsSameSet, KeepsBelow, Updates}};
-ghost use Rattle.bit_set.specs.{Effects.TakesIn, Faults.IsInsertFault};
-ghost use Rattle.bit_set.specs.Changes.{Change, Changes};
+ghost use Rattle.bit_set.specs.{Effects.TakesIn, Faults.IsInsertFault, Changes.{Change, Changes}};
 ghost use Rattle.bit_set.specs.{Changes.{outcome_of_result, outcome_of_insert, Outcome.{Done, Returned}}, Capacity.IsPastBlocks};
 ghost use Rattle.bit_set.specs.Sizes.{KeepsMembers, KeepsSize, Lengthens};
 

@@ -15,8 +15,8 @@ impl<B: BitBlock> BitSet<B> {
     }
 
     /// How many elements are in this set or in `other`: as many as [`BitSet::union`] yields. Adds up the ones of
-    /// each pair of blocks. If a summary is stored, it skips as many blocks at once as a block has bits, if they
-    /// are zero in both sets.
+    /// each pair of blocks, and past the shorter set those of the longer, as [`BitSet::count`] does. If a summary is stored,
+    /// it skips as many blocks at once as a block has bits, if they are zero in both sets.
     ///
     /// ```
     /// // The sets are {1, 4} and {4, 5, 6}.
@@ -29,7 +29,7 @@ impl<B: BitBlock> BitSet<B> {
     }
 
     /// How many elements are in both sets: as many as [`BitSet::intersection`] yields. Reads blocks as
-    /// [`BitSet::union_count`] does, and skips those that are zero in either set.
+    /// [`BitSet::union_count`] does, but none past the shorter set, and skips those that are zero in either set.
     ///
     /// ```
     /// // The sets are {1, 4} and {4, 5, 6}.
@@ -42,7 +42,7 @@ impl<B: BitBlock> BitSet<B> {
     }
 
     /// How many elements are in this set and not in `other`: as many as [`BitSet::difference`] yields. Reads blocks
-    /// as [`BitSet::union_count`] does, and skips those that are zero in this set.
+    /// as [`BitSet::union_count`] does, but none past this set, and skips those that are zero in it.
     ///
     /// ```
     /// // The sets are {1, 4} and {4, 5, 6}.

@@ -1,8 +1,7 @@
 // Calls that remove the least or the greatest element.
 ghost use Rattle.std.specs.{Prelude.{◌≡◌, ◌+◌, MatchOption, if◌then◌else◌, is_some, length}, Iterator.{YieldsFirst, YieldsLast}};
 ghost use Rattle.set_algebra.specs.{Members.{HasNone, TakesGreatest, TakesLeast}, Sets.elements};
-ghost use Rattle.bit_set.specs.Changes.{Change, Changes, Outcome.Gave};
-ghost use Rattle.bit_set.specs.Sizes.{KeepsSize};
+ghost use Rattle.bit_set.specs.{Changes.{Change, Changes, Outcome.Gave}, Sizes.KeepsSize};
 
 use crate::{BitBlock, BitSet};
 

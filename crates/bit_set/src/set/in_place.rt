@@ -3,9 +3,7 @@ ghost use Rattle.std.specs.Prelude.{◌≡◌, ◌-◌, ◌++◌, OnOk, length, 
 ghost use Rattle.bit_words.specs.Growth.{Grows};
 ghost use Rattle.set_algebra.specs.Members.{IsDifference, IsIntersection, IsMerged, IsSymmetricDifference, IsUnion};
 ghost use Rattle.set_algebra.specs.Sets.{elements, union, intersection, difference, symmetric_difference, merge_of_sets};
-ghost use Rattle.bit_set.specs.Changes.{Change};
-ghost use Rattle.bit_set.specs.Changes.{Changes, outcome_of_result};
-ghost use Rattle.bit_set.specs.Sizes.{Lengthens};
+ghost use Rattle.bit_set.specs.{Changes.{Change, Changes, outcome_of_result}, Sizes.Lengthens};
 
 use crate::bit_vec::Merge;
 use crate::{BitBlock, BitSet};

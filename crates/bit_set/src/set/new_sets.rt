@@ -3,8 +3,7 @@ ghost use Rattle.std.specs.{Prelude.{◌≡◌, ◌≢◌, ℕ, ◌≤◌, ◌�
 ghost use Rattle.bit_blocks.specs.Bits.{blocks_for, capacity_of};
 ghost use Rattle.bit_words.specs.Bounds.{greatest};
 ghost use Rattle.set_algebra.specs.{Sets.{bound_of, elements, put_all}, Members.{HasNone, HasTrueOf, IsSameSet}};
-ghost use Rattle.bit_set.specs.Capacity.{IsPastBlocks};
-ghost use Rattle.bit_set.specs.Sizes.{IsJustOf};
+ghost use Rattle.bit_set.specs.{Capacity.IsPastBlocks, Sizes.IsJustOf};
 
 use crate::bit_vec::BitVec;
 use crate::{BitBlock, BitSet, SetError};

@@ -3,8 +3,7 @@
 ghost use Rattle.std.specs.Prelude.{◌≡◌, ◌+◌, ◌≤◌, not, if◌then◌else◌, IfOk, OnOk, length};
 ghost use Rattle.set_algebra.specs.Members.{IsCounted, IsDifference, IsIntersection, IsMerged, IsSymmetricDifference, IsUnion, IsUnionWithDifference};
 ghost use Rattle.set_algebra.specs.Sets.{elements, union, intersection, difference, symmetric_difference, merge_of_sets, is_subset};
-ghost use Rattle.bit_set.specs.Changes.{Change, Changes, outcome_of_flag};
-ghost use Rattle.bit_set.specs.{Effects.TellsChange, Sizes.Lengthens};
+ghost use Rattle.bit_set.specs.{Changes.{Change, Changes, outcome_of_flag}, Effects.TellsChange, Sizes.Lengthens};
 
 use crate::bit_vec::Merge;
 use crate::{BitBlock, BitSet};

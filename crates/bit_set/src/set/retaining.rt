@@ -1,8 +1,7 @@
 // The call that keeps the elements that pass a test.
 ghost use Rattle.std.specs.{Prelude.{◌≡◌, ℕ, ◌^◌, ◌<◌, ◌≤◌, ◌&&◌, All, Bool, List, [], false, length}, Bool.MatchBool, Fn.Called, Iterator.Runs.CallKeepsClosure, List.Retain.IsFiltered};
 ghost use Rattle.set_algebra.specs.Sets.{elements, has};
-ghost use Rattle.bit_set.specs.{Changes.{Change, Changes, Outcome.Done}, Retained.{HasTested, ones}};
-ghost use Rattle.bit_set.specs.Sizes.{KeepsSize};
+ghost use Rattle.bit_set.specs.{Changes.{Change, Changes, Outcome.Done}, Retained.{HasTested, ones}, Sizes.KeepsSize};
 
 use crate::bit_vec::{block_or_zero, take_lowest_one, with_bit};
 use crate::{BitBlock, BitSet};

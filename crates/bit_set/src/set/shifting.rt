@@ -74,8 +74,8 @@ impl<B: BitBlock> BitSet<B> {
 
     /// A new set of the elements of the range. Its length is the end of the range, or this set's length if that is
     /// less; if the range is empty or starts past the length, it is 0. Copies each block of the range once, and
-    /// writes a zero for each before it; the capacity is that of these blocks. Fails only if memory runs out, and
-    /// never if the range is empty or past the length.
+    /// writes a zero for each before it, which it does not read; the capacity is that of these blocks. Fails only if memory
+    /// runs out, and never if the range is empty or past the length.
     ///
     /// ```
     /// // The set is {1, 4, 34}.

@@ -2,8 +2,7 @@
 ghost use Rattle.std.specs.Prelude.{◌≡◌, ◌<◌, ◌≤◌, if◌then◌else◌, nat_lt, min, IfOk, OnOk, OnErr, IsOk, [], length};
 ghost use Rattle.bit_blocks.specs.Bits.{blocks_for, capacity_of};
 ghost use Rattle.set_algebra.specs.{Sets.{elements, those_below, those_from, union}, Members.{HasNone, IsUnion, KeepsBelow, KeepsFrom}};
-ghost use Rattle.bit_set.specs.Changes.{Change, Changes, outcome_of_result};
-ghost use Rattle.bit_set.specs.Sizes.{KeepsSize, Lengthens};
+ghost use Rattle.bit_set.specs.{Changes.{Change, Changes, outcome_of_result}, Sizes.{KeepsSize, Lengthens}};
 
 use crate::{BitBlock, BitSet};
 use std::alloc::{AllocError, Global};

@@ -1,8 +1,7 @@
 // The iterator over a merge of two sets, with a type for each operation.
 ghost use Rattle.std.specs.{Prelude.{◌≡◌, IfSome, length}, Iterator.{UpTo, item_count, Runs.YieldsInOrder, SizeHint.IsWithinCount}};
 ghost use Rattle.set_algebra.specs.{Members.{IsDifference, IsMerged, IsSymmetricDifference, IsUnion}, Sets.{elements, merge_of_sets, union, difference, symmetric_difference}};
-ghost use Rattle.bit_set.specs.Walk.{AdvancesByEach, GoesOn, StartsOverTwo};
-ghost use Rattle.bit_set.specs.Walk.{bound_on_rest};
+ghost use Rattle.bit_set.specs.Walk.{AdvancesByEach, GoesOn, StartsOverTwo, bound_on_rest};
 
 use super::merged_blocks::Pairs;
 use crate::bit_vec::operation::{self, Operation};

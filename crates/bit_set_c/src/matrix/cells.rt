@@ -2,7 +2,7 @@
 ghost use Rattle.std.specs.Prelude.{◌≡◌, ◌<◌, ◌&&◌, ◌||◌, ◌==◌, length, not};
 ghost use Rattle.bit_set.specs.Sets.{put, without};
 ghost use Rattle.bit_matrix.specs.Matrices.{ChangesRow, has_at, row_of, with_row};
-ghost use Rattle.bit_set_c.specs.Handed.{IsAt};
+ghost use Rattle.c_handles.specs.Handed.{IsAt};
 
 use crate::handed::{ExclusiveMatrix, SharedMatrix};
 

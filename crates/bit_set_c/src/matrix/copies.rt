@@ -3,7 +3,8 @@ ghost use Rattle.std.specs.Prelude.{◌≡◌, ℕ, ◌+◌, ◌*◌, ◌-◌, �
 ghost use Rattle.bit_blocks.specs.{Bits.blocks_for, Digits.is_one};
 ghost use Rattle.bit_set.specs.Sets.{those_from};
 ghost use Rattle.bit_matrix.specs.Matrices.{has_at, row_of};
-ghost use Rattle.bit_set_c.specs.{Block.width, Copies.{CopiesFront, FillsFront}, Handed.IsAt};
+ghost use Rattle.c_handles.specs.{Copies.{CopiesFront, FillsFront}, Handed.IsAt};
+ghost use Rattle.bit_set_c.specs.Block.{width};
 
 use crate::block::{Block, WIDTH};
 use crate::handed::SharedMatrix;

@@ -2,7 +2,8 @@
 ghost use Rattle.std.specs.Prelude.{◌≡◌, ◌*◌, ◌<◌, IfSome, None, is_some, length};
 ghost use Rattle.bit_blocks.specs.Bits.{blocks_for};
 ghost use Rattle.graph_walks.specs.{Closed.{IsClosed, IsClosureOf, IsReflexiveClosureOf}, Dominators.AreDominators};
-ghost use Rattle.bit_set_c.specs.{Block.width, Handed.IsAt};
+ghost use Rattle.c_handles.specs.Handed.{IsAt};
+ghost use Rattle.bit_set_c.specs.Block.{width};
 
 use crate::handed::{ExclusiveMatrix, OwnedMatrix, SharedMatrix};
 use crate::matrix::making::boxed_matrix;

@@ -3,7 +3,8 @@ ghost use Rattle.std.specs.Prelude.{◌≡◌, ◌*◌, ◌<◌, IfSome, None, i
 ghost use Rattle.bit_blocks.specs.Bits.{blocks_for};
 ghost use Rattle.bit_set.specs.{Members.IsSameSet, Sets.elements, Sizes.IsJustOf};
 ghost use Rattle.bit_matrix.specs.Matrices.{IsTransposed, matrix_of, row_of};
-ghost use Rattle.bit_set_c.specs.{Block.width, Handed.IsAt};
+ghost use Rattle.c_handles.specs.Handed.{IsAt};
+ghost use Rattle.bit_set_c.specs.Block.{width};
 
 use crate::block::Block;
 use crate::handed::{Owned, OwnedMatrix, Shared, SharedMatrix};

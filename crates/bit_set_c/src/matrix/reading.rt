@@ -3,7 +3,7 @@ ghost use Rattle.std.specs.{Prelude.{◌≡◌, ◌<◌, ◌≤◌, ◌↔◌, I
 ghost use Rattle.bit_blocks.specs.Searches.{FindsFrom};
 ghost use Rattle.bit_set.specs.{Choices.IsFirstOf, Members.{IsDisjoint, IsSubset}, Sets.{is_disjoint, is_subset, those_from}};
 ghost use Rattle.bit_matrix.specs.{Compared.same_matrices, Matrices.{IsMatrix, has_at, row_of}};
-ghost use Rattle.bit_set_c.specs.{Answers.found, Handed.{AreAt, BothStay, IsAt}};
+ghost use Rattle.c_handles.specs.{Answers.found, Handed.{AreAt, BothStay, IsAt}};
 
 use crate::block::Block;
 use crate::handed::SharedMatrix;

@@ -3,7 +3,7 @@ ghost use Rattle.std.specs.Prelude.{◌≡◌, ℕ, ◌<◌, ◌≤◌, ◌&&◌
 ghost use Rattle.bit_blocks.specs.Ranges.{in_range};
 ghost use Rattle.bit_set.specs.{Order.same_sets, Ranges.span, Sets.{difference, elements, has, intersection, union}};
 ghost use Rattle.bit_matrix.specs.Matrices.{ChangesRow, has_at, row_of, with_row};
-ghost use Rattle.bit_set_c.specs.Handed.{AreAt, BothStay, IsAt};
+ghost use Rattle.c_handles.specs.Handed.{AreAt, BothStay, IsAt};
 
 use crate::handed::{ExclusiveMatrix, Shared};
 

@@ -54,7 +54,7 @@ impl<B: BitBlock> BitVec<B> {
             return Err(BitsError::Length);
         };
         let blocks = blocks_of_bytes(alloc, bytes)?;
-        let summary = summary_of(alloc, &blocks)?;
+        let summary = summary_of(alloc, &blocks, 0)?;
         Ok(BitVec {
             blocks,
             summary,
@@ -96,7 +96,7 @@ impl<B: BitBlock> BitVec<B> {
             return Err(BitsError::Length);
         };
         let blocks = blocks_of_bytes_lsb(alloc, bytes)?;
-        let summary = summary_of(alloc, &blocks)?;
+        let summary = summary_of(alloc, &blocks, 0)?;
         Ok(BitVec {
             blocks,
             summary,

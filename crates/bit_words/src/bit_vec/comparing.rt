@@ -78,7 +78,8 @@ impl<B: BitBlock> BitVec<B> {
     }
 
     /// Whether the same indexes are true in both lists, whichever of them is longer. Of many blocks it compares the
-    /// summaries, and then those blocks alone that are not zero. Stops at the first group of at most 32 blocks that differs.
+    /// summaries, and those blocks alone that are not zero, of parts of the lists that grow from 16 blocks of the summary on.
+    /// Stops at the first group of at most 32 blocks that differs, so that what it reads grows with the place of that.
     ///
     /// ```
     /// // Of three values that at 1 is true, and so it is of 40 in `other`.
@@ -92,8 +93,8 @@ impl<B: BitBlock> BitVec<B> {
         same_by_summaries(&self.blocks, &self.summary, &other.blocks, &other.summary)
     }
 
-    /// The first block at which the lists differ, or `None`, where blocks past the end of a list are zero. Of many blocks it
-    /// compares the summaries, and those blocks alone that are not zero, up to the chunk in which the lists differ.
+    /// The first block at which the lists differ, or `None`, where blocks past the end of a list are zero. Reads what
+    /// [`has_same_blocks`](Self::has_same_blocks) does.
     ///
     /// ```
     /// // Of 100 values, over blocks of 32 bits, that at 70 is true, and none in `other`.
@@ -109,7 +110,7 @@ impl<B: BitBlock> BitVec<B> {
 
     /// How many values of the merge of this list with `other` are true, where the shorter list goes on with false values.
     /// Takes no memory: the merge is not made. Of many blocks it reads the summaries, and the blocks that these say
-    /// may have true values, once each.
+    /// may have true values, once each; past the end of the shorter list nothing, if the merge keeps nothing of that.
     ///
     /// ```
     /// // Of ten values, those at 1 and 8 are true, and of 100 in `other` those at 1 and 70.

@@ -1,7 +1,7 @@
 // The walk over the first block of a bit vector, and then those that are not 0.
 ghost use Rattle.std.specs.{Prelude.{◌≡◌, All, map}, Iterator.item_count};
 ghost use Rattle.bit_blocks.specs.Bits.{blocks_of, IsWithinCapacity};
-ghost use Rattle.bit_words.specs.Nonzero.{before_first, StartsPast};
+ghost use Rattle.bit_words.specs.Nonzero.{before_first};
 
 use crate::bit_vec::{BitVec, Nonzero};
 use bit_blocks::block::BitBlock;
@@ -45,23 +45,14 @@ impl<B: BitBlock> BitVec<B> {
         ensures start { result ≡ before_first B.width B.number result }
         ensures fits { IsWithinCapacity self.now }
     {
-        FirstAndNonzero::before(self.nonzero_past_first())
+        FirstAndNonzero {
+            past: self.nonzero_past_first(),
+            at_first: true,
+        }
     }
 }
 
 impl<'a, B: BitBlock> FirstAndNonzero<'a, B> {
-    // The walk with the first block before this one.
-    #[inline]
-    pub(crate) fn before(past: Nonzero<'a, B>) -> Self
-        requires { StartsPast B.width B.number 0 past }
-        ensures { result ≡ before_first B.width B.number past.entry }
-    {
-        FirstAndNonzero {
-            past,
-            at_first: true,
-        }
-    }
-
     /// An iterator at the same place, whose counts continue from this one's. Constant time.
     #[inline]
     pub fn clone(&self) -> Self

@@ -6,7 +6,7 @@ use crate::bit_vec::BitVec;
 use crate::summary::remaking::remake_summary;
 use crate::summary::summary_of;
 use bit_blocks::block::BitBlock;
-use bit_blocks::packed::access::{block_count, clear_tail};
+use bit_blocks::packed::access::{block_count, block_index, clear_tail};
 use bit_blocks::packed::shifting::{shift_bits_down, shift_bits_up};
 use bit_blocks::packed::tail_copies::copy_bits_from;
 use std::alloc::{AllocError, Global};
@@ -51,7 +51,8 @@ impl<B: BitBlock> BitVec<B> {
 
     /// A bit vector of the values in the range, each at its index; those before the range are false, and the list
     /// ends with the range. The range must not be empty, and must lie within the list. Writes each block once,
-    /// those before the range as zeros. The capacity is that of the blocks. Fails only if memory runs out.
+    /// those before the range as zeros, and reads those of the range alone. The capacity is that of the blocks. Fails only if
+    /// memory runs out.
     ///
     /// ```
     /// // Of ten values over blocks of 8 bits, those at 1, 3 and 8 are true.
@@ -69,7 +70,7 @@ impl<B: BitBlock> BitVec<B> {
         let count = block_count::<B>(range.end);
         let mut blocks = copy_bits_from(alloc, &self.blocks[..count], range.start)?;
         clear_tail(&mut blocks, range.end);
-        let summary = summary_of(alloc, &blocks)?;
+        let summary = summary_of(alloc, &blocks, block_index::<B>(range.start))?;
         Ok(BitVec {
             blocks,
             summary,

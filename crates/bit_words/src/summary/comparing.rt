@@ -1,7 +1,7 @@
 // Where two lists of blocks first differ, by their summaries. A block past the end of a list counts as 0.
-ghost use Rattle.std.specs.Prelude.{◌≡◌, ℕ, ◌+◌, ◌*◌, ◌^◌, ◌<◌, ◌≤◌, ◌↔◌, All, IsTrue, MatchOption, false, true, get_or, length, map};
+ghost use Rattle.std.specs.Prelude.{◌≡◌, ℕ, ◌+◌, ◌-◌, ◌*◌, ◌^◌, ◌<◌, ◌≤◌, ◌↔◌, All, IsTrue, MatchOption, false, true, drop, get_or, length, map, take};
 ghost use Rattle.bit_blocks.specs.{Digits.is_one, Mismatches.IsFirstBlockMismatch, Storage.value_at};
-ghost use Rattle.bit_words.specs.Summary.{IsStoredSummary};
+ghost use Rattle.bit_words.specs.Summary.{IsStoredSummary, IsSummary};
 
 use crate::summary::queries::{chunks_before_few, first_chunks, has_few_of_wide, is_full};
 use crate::summary::{is_nonzero, is_short};
@@ -81,9 +81,10 @@ fn mismatch_in_next<B: BitBlock>(
     requires summary { All B.is_block summary.now }
     requires before { (k : ℕ) → k < q * B.width
         → get_or (map B.number blocks.now) k 0 ≡ get_or (map B.number others.now) k 0 }
-    requires in_both { (k : ℕ) → value_at B.width (map B.number summary.now) k ≡ true
+    requires in_both { (k : ℕ) → q * B.width ≤ k → value_at B.width (map B.number summary.now) k ≡ true
         → (k < length blocks.now) × (k < length others.now) }
-    requires zeros { (k : ℕ) → k < length summary.now * B.width → value_at B.width (map B.number summary.now) k ≡ false
+    requires zeros { (k : ℕ) → q * B.width ≤ k → k < length summary.now * B.width
+        → value_at B.width (map B.number summary.now) k ≡ false
         → get_or (map B.number blocks.now) k 0 ≡ get_or (map B.number others.now) k 0 }
     ensures some { 0 < result.1 }
     ensures within { q + result.1 ≤ length summary.now }
@@ -104,24 +105,32 @@ fn mismatch_in_next<B: BitBlock>(
     (mismatch_in_chunks(blocks, others, q, count), count)
 }
 
-// The first block that differs among those that the summary covers; blocks that it says are 0 are so in both lists.
-// If few blocks of a chunk are nonzero, it compares only these.
+// The first block that differs among those that the summary covers; blocks from chunk `first` on that it says are 0 are so in
+// both lists, and those before are the same. If few blocks of a chunk are nonzero, it compares only these.
 #[inline(never)]
-fn mismatch_in_runs<B: BitBlock>(blocks: &[B], others: &[B], summary: &[B]) -> Option<usize>
+fn mismatch_in_runs<B: BitBlock>(
+    blocks: &[B],
+    others: &[B],
+    summary: &[B],
+    first: usize,
+) -> Option<usize>
     requires each { All B.is_block blocks.now }
     requires others { All B.is_block others.now }
     requires fits { length blocks.now < 2 ^ 64 }
     requires summary { All B.is_block summary.now }
-    requires in_both { (k : ℕ) → value_at B.width (map B.number summary.now) k ≡ true
+    requires before { (k : ℕ) → k < first * B.width
+        → get_or (map B.number blocks.now) k 0 ≡ get_or (map B.number others.now) k 0 }
+    requires in_both { (k : ℕ) → first * B.width ≤ k → value_at B.width (map B.number summary.now) k ≡ true
         → (k < length blocks.now) × (k < length others.now) }
-    requires zeros { (k : ℕ) → k < length summary.now * B.width → value_at B.width (map B.number summary.now) k ≡ false
+    requires zeros { (k : ℕ) → first * B.width ≤ k → k < length summary.now * B.width
+        → value_at B.width (map B.number summary.now) k ≡ false
         → get_or (map B.number blocks.now) k 0 ≡ get_or (map B.number others.now) k 0 }
     ensures { MatchOption result
         ((k : ℕ) → k < length summary.now * B.width
         → get_or (map B.number blocks.now) k 0 ≡ get_or (map B.number others.now) k 0)
         (IsFirstBlockMismatch (map B.number blocks.now) (map B.number others.now)) }
 {
-    let mut q = 0;
+    let mut q = first;
     while q < summary.len() {
         let (found, count) = mismatch_in_next(blocks, others, summary, q);
         if found.is_some() {
@@ -132,24 +141,101 @@ fn mismatch_in_runs<B: BitBlock>(blocks: &[B], others: &[B], summary: &[B]) -> O
     None
 }
 
-// Whether two lists have the same blocks. If both store a summary these are compared first, if enough blocks are 0
-// to be skipped. It is a separate function, so that few blocks are compared with no register saved.
+// The blocks from `first` up to `end`, as far as there are any.
+#[inline]
+fn part_of<B: BitBlock>(blocks: &[B], first: usize, end: usize) -> &[B]
+    requires { first ≤ end }
+    ensures { result.now ≡ take (end - first) (drop first blocks.now) }
+{
+    let rest = blocks.split_at(first.min(blocks.len())).1;
+    rest.split_at((end - first).min(rest.len())).0
+}
+
+// The first of the chunks from `first` on that has another summary in each list, or `end`; but `first` itself where most blocks
+// are not 0, since the summaries save nothing there.
+#[inline]
+fn chunks_alike<B: BitBlock>(summary: &[B], other_summary: &[B], first: usize, end: usize) -> usize
+    requires forward { first ≤ end }
+    requires summary { All B.is_block summary.now }
+    requires other_summary { All B.is_block other_summary.now }
+    ensures from { first ≤ result }
+    ensures within { result ≤ end }
+    ensures alike { (q : ℕ) → first ≤ q → q < result
+        → get_or (map B.number summary.now) q 0 ≡ get_or (map B.number other_summary.now) q 0 }
+{
+    let own = part_of(summary, first, end);
+    let other = part_of(other_summary, first, end);
+    if own.len() == end - first && is_full(own) {
+        return first;
+    }
+    first + first_mismatching_block(own, other).unwrap_or(end - first)
+}
+
+// The first block that differs of the chunks from `first` up to `end`; those before are the same. Both lists store a summary.
+#[inline]
+fn mismatch_in_part<B: BitBlock>(
+    blocks: &[B],
+    summary: &[B],
+    others: &[B],
+    other_summary: &[B],
+    first: usize,
+    end: usize,
+) -> Option<usize>
+    requires forward { first ≤ end }
+    requires each { All B.is_block blocks.now }
+    requires others { All B.is_block others.now }
+    requires summary { IsSummary B.width B.number B.is_block blocks.now summary.now }
+    requires other_summary { IsSummary B.width B.number B.is_block others.now other_summary.now }
+    requires before { (k : ℕ) → k < first * B.width
+        → get_or (map B.number blocks.now) k 0 ≡ get_or (map B.number others.now) k 0 }
+    ensures { MatchOption result
+        ((k : ℕ) → k < end * B.width
+        → get_or (map B.number blocks.now) k 0 ≡ get_or (map B.number others.now) k 0)
+        (IsFirstBlockMismatch (map B.number blocks.now) (map B.number others.now)) }
+{
+    let alike = chunks_alike(summary, other_summary, first, end);
+    let own = alike.min(summary.len());
+    let found = mismatch_in_runs(blocks, others, summary.split_at(own).0, first);
+    if found.is_some() {
+        return found;
+    }
+    mismatch_in_chunks(blocks, others, alike, end - alike)
+}
+
+// Each part of two lists that is compared by itself has this many times as many chunks as all before it: so what is read
+// grows with the place of the first difference, and of a long list there are few parts.
+const FURTHER: usize = 16;
+
+// The first block at which two lists differ, by their summaries if there are many.
 #[inline(never)]
-fn same_of_long<B: BitBlock>(blocks: &[B], summary: &[B], others: &[B], other_summary: &[B]) -> bool
+pub(crate) fn mismatch_by_summaries<B: BitBlock>(
+    blocks: &[B],
+    summary: &[B],
+    others: &[B],
+    other_summary: &[B],
+) -> Option<usize>
     requires each { All B.is_block blocks.now }
     requires others { All B.is_block others.now }
     requires summary { IsStoredSummary B.width B.number B.is_block blocks.now summary.now }
     requires other_summary { IsStoredSummary B.width B.number B.is_block others.now other_summary.now }
-    ensures { IsTrue result
-        ↔ ((k : ℕ) → get_or (map B.number blocks.now) k 0 ≡ get_or (map B.number others.now) k 0) }
+    ensures { MatchOption result
+        ((k : ℕ) → get_or (map B.number blocks.now) k 0 ≡ get_or (map B.number others.now) k 0)
+        (IsFirstBlockMismatch (map B.number blocks.now) (map B.number others.now)) }
 {
     if is_short::<B>(blocks.len().min(others.len())) {
-        return same_blocks(blocks, others);
+        return first_mismatching_block(blocks, others);
     }
-    if is_full(summary) {
-        return same_blocks(blocks, others);
+    let most = summary.len().max(other_summary.len());
+    let mut q = 0;
+    while q < most {
+        let end = most.min(q.max(1).saturating_mul(FURTHER));
+        let found = mismatch_in_part(blocks, summary, others, other_summary, q, end);
+        if found.is_some() {
+            return found;
+        }
+        q = end;
     }
-    same_blocks(summary, other_summary) && mismatch_in_runs(blocks, others, summary).is_none()
+    None
 }
 
 // Whether two lists have the same blocks, by their summaries if there are many.
@@ -170,33 +256,5 @@ pub(crate) fn same_by_summaries<B: BitBlock>(
     if is_short::<B>(blocks.len()) {
         return same_blocks(blocks, others);
     }
-    same_of_long(blocks, summary, others, other_summary)
-}
-
-// The first block at which two lists differ. If both store a summary it lies no further than these differ.
-pub(crate) fn mismatch_by_summaries<B: BitBlock>(
-    blocks: &[B],
-    summary: &[B],
-    others: &[B],
-    other_summary: &[B],
-) -> Option<usize>
-    requires each { All B.is_block blocks.now }
-    requires others { All B.is_block others.now }
-    requires summary { IsStoredSummary B.width B.number B.is_block blocks.now summary.now }
-    requires other_summary { IsStoredSummary B.width B.number B.is_block others.now other_summary.now }
-    ensures { MatchOption result
-        ((k : ℕ) → get_or (map B.number blocks.now) k 0 ≡ get_or (map B.number others.now) k 0)
-        (IsFirstBlockMismatch (map B.number blocks.now) (map B.number others.now)) }
-{
-    if is_short::<B>(blocks.len().min(others.len())) {
-        return first_mismatching_block(blocks, others);
-    }
-    let most = summary.len().max(other_summary.len());
-    let alike = first_mismatching_block(summary, other_summary).unwrap_or(most);
-    let both = alike.min(summary.len());
-    let found = mismatch_in_runs(blocks, others, summary.split_at(both).0);
-    if found.is_some() {
-        return found;
-    }
-    mismatch_in_chunks(blocks, others, both, most)
+    mismatch_by_summaries(blocks, summary, others, other_summary).is_none()
 }

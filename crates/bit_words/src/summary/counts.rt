@@ -1,7 +1,7 @@
 // How many ones a part of the merge of two lists of blocks has. The merge is not made, and if a summary is stored
 // it says which blocks are read.
-ghost use Rattle.std.specs.Prelude.{◌≡◌, ℕ, ◌+◌, ◌*◌, ◌^◌, ◌<◌, ◌≤◌, All, true, length, map, max, min};
-ghost use Rattle.bit_blocks.specs.{Bits.blocks_for, Digits.is_one};
+ghost use Rattle.std.specs.Prelude.{◌≡◌, ℕ, ◌+◌, ◌*◌, ◌^◌, ◌<◌, ◌≤◌, All, false, true, length, map, max, min};
+ghost use Rattle.bit_blocks.specs.{Bits.blocks_for, Digits.is_one, Merges.merge_of_values};
 ghost use Rattle.bit_words.specs.{MergedOnes.{may_merge, merged_ones, CoversMerged}, Summary.IsStoredSummary};
 
 use crate::summary::is_nonzero;
@@ -100,6 +100,43 @@ fn ones_of_used<B: BitBlock, O: Operation>(
         ones += ones_at::<B, O>(blocks, others, start + index);
     }
     ones
+}
+
+// Whether a merge keeps what the first list has past the end of the second: all but an intersection do.
+#[inline(always)]
+pub(crate) fn keeps_first<B: BitBlock, O: Operation>() -> bool
+    ensures { result ≡ merge_of_values O.merge true false }
+{
+    is_nonzero(O::of_blocks(B::one(), B::zero()))
+}
+
+// Whether it keeps what the second has past the end of the first.
+#[inline(always)]
+pub(crate) fn keeps_second<B: BitBlock, O: Operation>() -> bool
+    ensures { result ≡ merge_of_values O.merge false true }
+{
+    is_nonzero(O::of_blocks(B::zero(), B::one()))
+}
+
+// How many blocks of a merge may have ones: as many as the longer list has, or as the shorter, if the merge keeps nothing
+// past its end.
+#[inline(always)]
+pub(crate) fn merged_len<B: BitBlock, O: Operation>(blocks: &[B], others: &[B]) -> usize
+    ensures within { result ≤ max (length blocks.now) (length others.now) }
+    ensures past { (a b : ℕ) → result ≤ a
+        → merged_ones O.merge B.width (map B.number blocks.now) (map B.number others.now) a b ≡ 0 }
+{
+    if blocks.len() > others.len() {
+        if keeps_first::<B, O>() {
+            blocks.len()
+        } else {
+            others.len()
+        }
+    } else if keeps_second::<B, O>() {
+        others.len()
+    } else {
+        blocks.len()
+    }
 }
 
 // Which blocks of a chunk have to be read; `own` and `other` have a 1 for each that is nonzero in either list.

@@ -137,44 +137,8 @@ fn unite_short_from<B: BitBlock>(blocks: &mut [B], others: &[B], except: &[B], s
     unite_except(blocks, others, except, start);
 }
 
-// `unite_long_past_except` by a pass over all blocks up to the others' end.
-#[inline(never)]
-fn unite_dense_past_except<B: BitBlock>(
-    blocks: &mut [B],
-    summary: &mut [B],
-    others: &[B],
-    other_summary: &Vec<B>,
-    except: &[B],
-    except_summary: &Vec<B>,
-) -> bool
-    requires can { CanMerge B.is_block blocks.old (length others.now) (All B.is_block others.now) }
-    requires except { All B.is_block except.now }
-    requires shorter { length except.now < length others.now }
-    requires summary { IsSummary B.width B.number B.is_block blocks.old summary.old }
-    requires other_summary { IsStoredSummary B.width B.number B.is_block others.now other_summary.now.items }
-    requires except_summary { IsStoredSummary B.width B.number B.is_block except.now except_summary.now.items }
-    ensures has { HasMerged Merge.Union B.width B.number B.is_block 0 (length blocks.old)
-        (except_at (map B.number others.now) (map B.number except.now)) blocks.old blocks.new }
-    ensures kept { (result ≡ false) ↔ AreKept (map B.number blocks.old) (map B.number blocks.new) }
-    ensures summary { IsSummary B.width B.number B.is_block blocks.new summary.new }
-    ensures summary_len { length summary.new ≡ length summary.old }
-{
-    let Some(start) = first_change_past_except(blocks, others, except) else {
-        return false;
-    };
-    unite_long_from(
-        blocks,
-        summary,
-        others,
-        other_summary,
-        except,
-        except_summary,
-        start,
-    );
-    true
-}
-
-// `unite_past_except` of a long list: by chunks, unless many blocks may change in most of them.
+// `unite_past_except` of a long list: by chunks, or by a pass over all blocks up to the others' end if many may change
+// in most chunks.
 #[inline(never)]
 fn unite_long_past_except<B: BitBlock>(
     blocks: &mut [B],
@@ -206,17 +170,22 @@ fn unite_long_past_except<B: BitBlock>(
             summary: except_summary,
         },
     };
-    if is_dense::<B, Union, Outside<B>>(blocks, summary, outside) {
-        return unite_dense_past_except(
-            blocks,
-            summary,
-            others,
-            other_summary,
-            except,
-            except_summary,
-        );
+    if !is_dense::<B, Union, Outside<B>>(blocks, summary, outside) {
+        return change_long::<B, Union, Outside<B>>(blocks, summary, outside);
     }
-    change_long::<B, Union, Outside<B>>(blocks, summary, outside)
+    let Some(start) = first_change_past_except(blocks, others, except) else {
+        return false;
+    };
+    unite_long_from(
+        blocks,
+        summary,
+        others,
+        other_summary,
+        except,
+        except_summary,
+        start,
+    );
+    true
 }
 
 // `unite_difference` if `except` is shorter than the others: a separate function, so that the usual one saves no

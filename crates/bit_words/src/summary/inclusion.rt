@@ -3,7 +3,7 @@ ghost use Rattle.std.specs.Prelude.{ℕ, ◌^◌, ◌<◌, ◌↔◌, All, IsTru
 ghost use Rattle.bit_blocks.specs.{BlockMerges.MergesToFalse, declared.block.merge.Merge.Merge};
 ghost use Rattle.bit_words.specs.{MergedOnes.merged_ones, Summary.IsStoredSummary};
 
-use crate::summary::counts::ones_at_chunk;
+use crate::summary::counts::{merged_len, ones_at_chunk};
 use crate::summary::is_short;
 use bit_blocks::block::BitBlock;
 use bit_blocks::block::operation::{Difference, Intersection, Operation};
@@ -26,8 +26,7 @@ fn merge_is_zero<B: BitBlock, O: Operation>(
         → merged_ones O.merge B.width (map B.number blocks.now) (map B.number others.now) 0 n < 2 ^ 64 }
     ensures { IsTrue result ↔ MergesToFalse O.merge B.width (map B.number blocks.now) (map B.number others.now) }
 {
-    let most = blocks.len().max(others.len());
-    for q in 0..block_count::<B>(most) {
+    for q in 0..block_count::<B>(merged_len::<B, O>(blocks, others)) {
         if ones_at_chunk::<B, O>(blocks, summary, others, other_summary, q) != 0 {
             return false;
         }

@@ -1,9 +1,10 @@
 // Merges of the blocks of two lists that have summaries. A merge goes by the summaries: of a chunk, the blocks that a block of
 // the summary is about, it reads what one of them says may change.
-ghost use Rattle.std.specs.Prelude.{◌≡◌, ℕ, ◌+◌, ◌*◌, ◌/◌, ◌<◌, ◌≤◌, All, Bool, IsTrue, false, get_or, length, map, true};
+ghost use Rattle.std.specs.Prelude.{◌≡◌, ℕ, ◌+◌, ◌*◌, ◌/◌, ◌<◌, ◌≤◌, All, false, get_or, length, map, true};
 ghost use Rattle.bit_blocks.specs.{Bits.blocks_for, BlockMerges.{other_at, CanMerge, HasMerged, Stay}, Digits.is_one, Merges.merge_of_values, Storage.is_used, declared.block.merge.Merge.Merge};
 ghost use Rattle.bit_words.specs.Summary.{IsSummary, IsStoredSummary, SaysUsed};
 
+use crate::summary::counts::keeps_first;
 use crate::summary::merges::touched::{merge_touched, touched_by};
 use crate::summary::queries::{SAMPLED, has_few, saved_blocks};
 use crate::summary::summarized::{Listed, Summarized};
@@ -209,14 +210,6 @@ fn merge_chunk_at<B: BitBlock, O: Operation, S: Summarized<B>>(
     }
 }
 
-// Whether a value stays where it is merged with false: all but an intersection have it so.
-#[inline(always)]
-fn keeps_alone<B: BitBlock, O: Operation>() -> bool
-    ensures { IsTrue result → (a : Bool) → merge_of_values O.merge a false ≡ a }
-{
-    is_nonzero(O::of_blocks(B::one(), B::zero()))
-}
-
 // How many chunks of a list may change by a merge: those past them stay.
 #[inline(always)]
 pub(crate) fn chunks_to_merge<B: BitBlock, O: Operation, S: Others<B>>(
@@ -230,7 +223,7 @@ pub(crate) fn chunks_to_merge<B: BitBlock, O: Operation, S: Others<B>>(
     ensures enough { blocks_for B.width (S.count others) ≤ result }
     ensures rest { Stay O.merge B.width B.number (result * B.width) (length blocks.now) (S.digit others) blocks.now }
 {
-    if keeps_alone::<B, O>() {
+    if keeps_first::<B, O>() {
         block_count::<B>(others.len())
     } else {
         summary.len()

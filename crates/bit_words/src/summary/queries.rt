@@ -22,21 +22,13 @@ pub(crate) fn samples(chunks: usize) -> usize
     chunks.saturating_sub(1).div_ceil(SAMPLED)
 }
 
-// Whether most blocks of a chunk are looked at: those at the ones of `used`.
-#[inline(always)]
-fn has_most<B: BitBlock>(used: B) -> bool
-    requires { B.is_block used }
-{
-    used.count_ones() > B::bits() / 2
-}
-
 // Whether most blocks are not 0 in each chunk that is looked at: then no summary saves a pass over all of them.
 #[inline]
 pub(crate) fn is_full<B: BitBlock>(summary: &[B]) -> bool
     requires each { All B.is_block summary.now }
 {
     for sample in 0..samples(summary.len()) {
-        if !has_most(block_at(summary, sample * SAMPLED)) {
+        if block_at(summary, sample * SAMPLED).count_ones() <= B::bits() / 2 {
             return false;
         }
     }

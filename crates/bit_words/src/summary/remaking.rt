@@ -20,5 +20,5 @@ pub(crate) fn remake_summary<B: BitBlock>(summary: &mut Vec<B>, blocks: &[B])
     if is_short::<B>(blocks.len()) {
         return;
     }
-    summarize(summary, blocks);
+    summarize(summary, blocks, 0);
 }

@@ -1,10 +1,8 @@
 use Rattle.std.proofs.Common.{◌≡◌, Bool, List, ℕ, sym, ◌∙◌, subst}
 use Rattle.bit_blocks.specs.declared.block.merge.Merge.{Merge, TheVariants.{Union, Intersection, Difference, Symmetric}}
 use Rattle.set_algebra.specs.Sets.{IsAscending, elements, merge_of_sets}
-use Rattle.bit_set.specs.Walk.{AdvancesByEach, AdvancesWithBound}
+use Rattle.bit_set.{specs.Walk.{AdvancesByEach, AdvancesWithBound}, proofs.WalkLaws.{walked_out, out}}
 use Rattle.set_algebra.proofs.{SetLemmas.IsAscending-elements, AlgebraLemmas.IsAscending-merge_of_sets}
-use Rattle.bit_set.proofs.WalkLaws.{walked_out}
-use Rattle.bit_set.proofs.WalkLaws.{out}
 use Rattle.bit_set.proofs.laws.whole_walks_ascend.Goals as goal
 
 -- items that are what two sets become

@@ -1,5 +1,4 @@
-use Rattle.std.proofs.Common.{subst, sym, ◌∙◌}
-use Rattle.std.proofs.lemmas.Result.{err_from_is_err_and}
+use Rattle.std.proofs.{Common.{subst, sym, ◌∙◌}, lemmas.Result.err_from_is_err_and}
 use Rattle.bit_set.proofs.RangeTextLemmas.{EndsAt, ends_all, ends_fault, ends_first, ends_more, next_items}
 use Rattle.bit_set.proofs.range_texts.end_of_ranges.Goals as goal
 

@@ -1,4 +1,4 @@
-use Rattle.bit_set_c.proofs.Outcomes.{on_done}
+use Rattle.c_handles.proofs.Outcomes.{on_done}
 use Rattle.bit_set_c.proofs.ranges.bit_set_insert_range.Goals as goal
 
 pub returns-clause-elements : goal.returns-clause-elements

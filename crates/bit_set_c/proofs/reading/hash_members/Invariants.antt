@@ -1,6 +1,6 @@
 use Rattle.std.proofs.Common.{◌≡◌}
 use Rattle.bit_set.specs.Sets.{elements}
-use Rattle.bit_set_c.specs.Hash.{state_after}
+use Rattle.c_handles.specs.Hash.{state_after}
 use Rattle.bit_set_c.proofs.reading.hash_members.Given as goal
 
 -- the state, and what is left

@@ -91,24 +91,18 @@ pub overflow_sub-width : goal.overflow_sub-width
 overflow_sub-width g c =
     omega (arith, c.max-start.ensures, starts_in _ _ _ c.loop-q.q _ g.met.B.BitBlock.width_law.positive c.bits-width.ensures c.block_index-q.ensures (omega arith))
 
-pub with_used_bits-requires-clause-of_block : goal.with_used_bits-requires-clause-of_block
-with_used_bits-requires-clause-of_block g c = c.block_at-own.ensures.of_block
-
-pub with_used_bits-requires-clause-index : goal.with_used_bits-requires-clause-index
-with_used_bits-requires-clause-index g c =
-    let pos = g.met.B.BitBlock.width_law.positive in
-    omega (arith, c.max-start.ensures, c.bits-width.ensures, pos, starts_in _ _ _ c.loop-q.q _ pos c.bits-width.ensures c.block_index-q.ensures (omega arith))
-
-pub with_used_bits-requires-clause-within : goal.with_used_bits-requires-clause-within
-with_used_bits-requires-clause-within g c =
-    omega (arith, c.max-start.ensures, c.min-count.ensures, c.bits-width.ensures, starts_in _ _ _ c.loop-q.q _ g.met.B.BitBlock.width_law.positive c.bits-width.ensures c.block_index-q.ensures (omega arith))
-
-pub with_used_bits-requires-clause-in_bounds : goal.with_used_bits-requires-clause-in_bounds
-with_used_bits-requires-clause-in_bounds g c =
-    omega (arith, c.max-start.ensures, c.min-count.ensures, reaches _ _ _ c.loop-q.q _ g.met.B.BitBlock.width_law.positive c.bits-width.ensures c.block_count-q-end.ensures (omega arith), c.requires.forward, c.requires.in_blocks)
-
-pub with_used_bits-requires-clause-each : goal.with_used_bits-requires-clause-each
-with_used_bits-requires-clause-each g c = c.requires.blocks
+pub with_used_bits-requires : goal.with_used_bits-requires
+with_used_bits-requires g c = record {
+  of_block = c.block_at-own.ensures.of_block;
+  index =
+      let pos = g.met.B.BitBlock.width_law.positive in
+      omega (arith, c.max-start.ensures, c.bits-width.ensures, pos, starts_in _ _ _ c.loop-q.q _ pos c.bits-width.ensures c.block_index-q.ensures (omega arith));
+  within =
+      omega (arith, c.max-start.ensures, c.min-count.ensures, c.bits-width.ensures, starts_in _ _ _ c.loop-q.q _ g.met.B.BitBlock.width_law.positive c.bits-width.ensures c.block_index-q.ensures (omega arith));
+  in_bounds =
+      omega (arith, c.max-start.ensures, c.min-count.ensures, reaches _ _ _ c.loop-q.q _ g.met.B.BitBlock.width_law.positive c.bits-width.ensures c.block_count-q-end.ensures (omega arith), c.requires.forward, c.requires.in_blocks);
+  each = c.requires.blocks;
+}
 
 pub block_at-own-requires-clause-in_bounds : goal.block_at-own-requires-clause-in_bounds
 block_at-own-requires-clause-in_bounds g c =

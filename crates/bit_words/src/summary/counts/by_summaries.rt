@@ -1,11 +1,13 @@
 // The ones of the merge of two lists that have summaries, a group of chunks at a time: few of them have any in a sparse list.
-ghost use Rattle.std.specs.Prelude.{◌≡◌, ℕ, ◌+◌, ◌*◌, ◌^◌, ◌<◌, ◌≤◌, All, get_or, false, length, map, max};
-ghost use Rattle.bit_blocks.specs.{Bits.blocks_for, Digits.is_one, declared.block.merge.Merge.Merge};
-ghost use Rattle.bit_words.specs.{MergedOnes.{may_merge, merged_ones, CoversChunks}, Summary.IsStoredSummary};
+ghost use Rattle.std.specs.Prelude.{◌≡◌, ℕ, ◌+◌, ◌*◌, ◌^◌, ◌<◌, ◌≤◌, All, drop, get_or, false, length, map, max, min};
+ghost use Rattle.bit_blocks.specs.{Bits.blocks_for, Digits.is_one, Storage.ones_in, declared.block.merge.Merge.Merge};
+ghost use Rattle.bit_words.specs.{MergedOnes.{may_merge, merged_ones, CoversChunks}, Summary.{short_count, IsStoredSummary, IsSummary}};
 
 use crate::summary::counts::{
-    MANY, count_merged_blocks, may_have_ones, ones_at_chunk, ones_of_chunks,
+    MANY, count_merged_blocks, keeps_first, keeps_second, may_have_ones, merged_len, ones_at_chunk,
+    ones_of_chunks,
 };
+use crate::summary::queries::{first_chunks, ones_of_runs};
 use crate::summary::{is_nonzero, is_short};
 use bit_blocks::block::BitBlock;
 use bit_blocks::block::lowest::take_lowest_one;
@@ -114,7 +116,54 @@ fn ones_of_group<B: BitBlock, O: Operation>(
     }
 }
 
-// The ones of the merge of lists of which one stores a summary at least.
+// The ones of the blocks from chunk `first` on.
+#[inline(always)]
+fn ones_from<B: BitBlock>(blocks: &[B], summary: &[B], first: usize) -> usize
+    requires each { All B.is_block blocks.now }
+    requires summary { IsSummary B.width B.number B.is_block blocks.now summary.now }
+    requires within { first ≤ length summary.now }
+    requires fits { ones_in B.number (drop (first * B.width) blocks.now) < 2 ^ 64 }
+    ensures { result ≡ ones_in B.number (drop (first * B.width) blocks.now) }
+{
+    ones_of_runs(first_chunks(blocks, first).1, summary.split_at(first).1)
+}
+
+// The ones of the merge from chunk `first` on, where the shorter list has ended.
+#[inline(always)]
+fn ones_past<B: BitBlock, O: Operation>(
+    blocks: &[B],
+    summary: &[B],
+    others: &[B],
+    other_summary: &[B],
+    first: usize,
+) -> usize
+    requires each { All B.is_block blocks.now }
+    requires others { All B.is_block others.now }
+    requires summary { IsStoredSummary B.width B.number B.is_block blocks.now summary.now }
+    requires other_summary { IsStoredSummary B.width B.number B.is_block others.now other_summary.now }
+    requires long { short_count B.width < max (length blocks.now) (length others.now) }
+    requires ended { min (length blocks.now) (length others.now) ≤ first * B.width }
+    requires in_blocks { first ≤ blocks_for B.width (max (length blocks.now) (length others.now)) }
+    requires fits { (n : ℕ)
+        → merged_ones O.merge B.width (map B.number blocks.now) (map B.number others.now) 0 n < 2 ^ 64 }
+    ensures { result ≡ merged_ones O.merge B.width (map B.number blocks.now) (map B.number others.now)
+        (first * B.width) (first * B.width + max (length blocks.now) (length others.now)) }
+{
+    if blocks.len() > others.len() {
+        if keeps_first::<B, O>() {
+            ones_from(blocks, summary, first)
+        } else {
+            0
+        }
+    } else if keeps_second::<B, O>() {
+        ones_from(others, other_summary, first)
+    } else {
+        0
+    }
+}
+
+// The ones of the merge of lists of which one stores a summary at least. Reads the chunks that both lists have, and of
+// those past them what the merge keeps.
 #[inline(never)]
 pub(crate) fn ones_of_long<B: BitBlock, O: Operation>(
     blocks: &[B],
@@ -126,12 +175,12 @@ pub(crate) fn ones_of_long<B: BitBlock, O: Operation>(
     requires others { All B.is_block others.now }
     requires summary { IsStoredSummary B.width B.number B.is_block blocks.now summary.now }
     requires other_summary { IsStoredSummary B.width B.number B.is_block others.now other_summary.now }
+    requires long { short_count B.width < max (length blocks.now) (length others.now) }
     requires fits { (n : ℕ)
         → merged_ones O.merge B.width (map B.number blocks.now) (map B.number others.now) 0 n < 2 ^ 64 }
     ensures { (n : ℕ) → length blocks.now ≤ n → length others.now ≤ n
         → result ≡ merged_ones O.merge B.width (map B.number blocks.now) (map B.number others.now) 0 n }
 {
-    let most = blocks.len().max(others.len());
     let both = summary.len().min(other_summary.len());
     let count = B::bits().min(LONG_GROUP);
     let mut ones = 0;
@@ -140,8 +189,10 @@ pub(crate) fn ones_of_long<B: BitBlock, O: Operation>(
         ones += ones_of_group::<B, O>(blocks, summary, others, other_summary, first, count);
         first += count;
     }
-    let end = block_count::<B>(most);
-    ones + ones_of_chunks::<B, O>(blocks, summary, others, other_summary, first, end)
+    let least = blocks.len().min(others.len());
+    let end = block_count::<B>(least);
+    let shared = ones + ones_of_chunks::<B, O>(blocks, summary, others, other_summary, first, end);
+    shared + ones_past::<B, O>(blocks, summary, others, other_summary, end)
 }
 
 // The ones of the merge of lists of any length.
@@ -161,7 +212,7 @@ fn ones_by<B: BitBlock, O: Operation>(
     ensures { (n : ℕ) → length blocks.now ≤ n → length others.now ≤ n
         → result ≡ merged_ones O.merge B.width (map B.number blocks.now) (map B.number others.now) 0 n }
 {
-    if is_short::<B>(blocks.len().max(others.len())) {
+    if is_short::<B>(merged_len::<B, O>(blocks, others)) {
         count_merged_blocks::<B, O>(blocks, others)
     } else {
         ones_of_long::<B, O>(blocks, summary, others, other_summary)

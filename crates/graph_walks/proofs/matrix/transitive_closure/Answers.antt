@@ -1,5 +1,7 @@
 use Rattle.std.proofs.Common.{refl, arith}
 use Rattle.bit_matrix.proofs.CopyLemmas.{shape_on}
+use Rattle.graph_walks.specs.Paths.{here}
+use Rattle.graph_walks.proofs.CloseLemmas.{least_closed}
 use Rattle.graph_walks.proofs.FollowLemmas.{follows_again, follows_all_on, follows_before_on, follows_closed, follows_closure, follows_first}
 use Rattle.graph_walks.proofs.matrix.transitive_closure.Goals as goal
 
@@ -44,3 +46,9 @@ pub returns-clause-closed : goal.returns-clause-closed
 returns-clause-closed g c =
     let count = c.rows-rows.ensures.value in
     follows_closed c.args.reaches.now c.loop-row-2.reaches c.loop-row-2.row (omega (arith, count, c.loop-row-2.auto.row-end, c.loop-row-2-test.false)) c.loop-row-2.invariant.follows
+
+pub returns-clause-more : goal.returns-clause-more
+returns-clause-more g c u v edge = (returns-clause-closure g c u v).1 (u, here, edge)
+
+pub returns-clause-least : goal.returns-clause-least
+returns-clause-least g c other closed kept u v edge = least_closed c.args.reaches.now.rows other closed kept u v ((returns-clause-closure g c u v).0 edge)

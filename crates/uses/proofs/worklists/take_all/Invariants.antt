@@ -1,5 +1,5 @@
-use Rattle.bit_set.specs.{Members.IsSubset, Sets.elements}
-use Rattle.uses.specs.Rows.{IsClosedBut, ReachesOnly, turns_left}
+use Rattle.bit_set.specs.{Measures.turns_left, Members.IsSubset, Sets.elements}
+use Rattle.uses.specs.Rows.{IsClosedBut, ReachesOnly}
 use Rattle.uses.proofs.worklists.take_all.Given as goal
 
 abbrev pub invariant-loop : goal.invariant-loop

@@ -1,8 +1,7 @@
 use Rattle.std.proofs.{Common.{◌≡◌, ℕ, ◌+◌, ◌<◌, List, get_or, sym, ◌∙◌, arith}, lemmas.Bool.{false≢true, eqb-true}}
 use Rattle.bit_blocks.specs.{BlockMerges.MergesToZero, Digits.is_one, Merges.merge_of_values}
-use Rattle.bit_blocks.specs.declared.block.merge.Merge.{Merge}
+use Rattle.bit_blocks.{specs.declared.block.merge.Merge.Merge, proofs.CompareLemmas.first_is_past}
 use Rattle.bit_blocks.proofs.CompareLemmas.{mismatch_zero, merge_of_zeros, first_is_here, zeros_more}
-use Rattle.bit_blocks.proofs.CompareLemmas.{first_is_past}
 use Rattle.bit_blocks.proofs.packed.counted.first_merge_to_zero.Goals as goal
 
 pub loop-k-preserved : goal.loop-k-preserved

@@ -1,6 +1,5 @@
 use Rattle.std.proofs.{Common.{map, ◌∙◌, arith}, lemmas.List.length-map}
-use Rattle.bit_blocks.specs.Shifts.{IsMovedDown}
-use Rattle.bit_blocks.proofs.ShiftLemmas.{moved_from, put_holds, put_other, read_down}
+use Rattle.bit_blocks.{specs.Shifts.IsMovedDown, proofs.ShiftLemmas.{moved_from, put_holds, put_other, read_down}}
 use Rattle.bit_blocks.proofs.packed.shifting.move_down.Goals as goal
 
 pub loop-k-preserved : goal.loop-k-preserved

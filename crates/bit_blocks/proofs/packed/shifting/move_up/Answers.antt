@@ -1,6 +1,5 @@
 use Rattle.std.proofs.{Common.{◌-◌, map, ◌∙◌, arith}, lemmas.List.length-map}
-use Rattle.bit_blocks.specs.Shifts.{IsMovedUp}
-use Rattle.bit_blocks.proofs.ShiftLemmas.{put_holds, put_other, read_up}
+use Rattle.bit_blocks.{specs.Shifts.IsMovedUp, proofs.ShiftLemmas.{put_holds, put_other, read_up}}
 use Rattle.bit_blocks.proofs.packed.shifting.move_up.Goals as goal
 
 pub loop-k-preserved : goal.loop-k-preserved

@@ -1,6 +1,5 @@
 use Rattle.std.proofs.{Common.{ℕ, ◌<◌, drop, length, map, get_or, arith}, lemmas.List.{length-map, take_at}}
-use Rattle.bit_blocks.specs.Shifts.{IsMovedDown}
-use Rattle.bit_blocks.proofs.ShiftLemmas.{down_packed, value_down}
+use Rattle.bit_blocks.{specs.Shifts.IsMovedDown, proofs.ShiftLemmas.{down_packed, value_down}}
 use Rattle.bit_blocks.proofs.packed.shifting.shift_bits_down.Goals as goal
 
 pub returns-clause-values : goal.returns-clause-values

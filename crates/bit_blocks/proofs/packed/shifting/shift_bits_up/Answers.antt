@@ -1,6 +1,5 @@
 use Rattle.std.proofs.{Common.{ℕ, ◌<◌, drop, length, map, get_or, arith}, lemmas.List.take_at}
-use Rattle.bit_blocks.specs.{Bits.blocks_for, Shifts.IsMovedUp}
-use Rattle.bit_blocks.proofs.ShiftLemmas.{value_up}
+use Rattle.bit_blocks.{specs.{Bits.blocks_for, Shifts.IsMovedUp}, proofs.ShiftLemmas.value_up}
 use Rattle.bit_blocks.proofs.packed.shifting.shift_bits_up.Goals as goal
 
 pub returns-clause-values : goal.returns-clause-values

@@ -1,11 +1,9 @@
-use Rattle.std.proofs.lemmas.List.Elements.{All-same, All-take, All-drop}
+use Rattle.std.proofs.{lemmas.List.Elements.{All-same, All-take, All-drop}, Common.mul-le-mul_right}
 use Rattle.std.proofs.Common.{◌≡◌, ◌+◌, ◌-◌, ◌*◌, ◌∙◌, refl, map, arith, lt_of_mul-lt-mul_right}
-use Rattle.std.proofs.Common.{mul-le-mul_right}
 use Rattle.std.specs.List.{count_by, range_with_len}
-use Rattle.bit_blocks.specs.Storage.{ones_in, value_at}
+use Rattle.bit_blocks.{specs.Storage.{ones_in, value_at}, proofs.VectorLemmas.numbers_below}
 use Rattle.bit_blocks.proofs.SpanCountLemmas.{count-le, count-parts, ones_of_blocks, ones_of_mask}
 use Rattle.bit_blocks.proofs.SpanLemmas.{end_within, mask_below, mask_from, ones_span, past_first, starts_within}
-use Rattle.bit_blocks.proofs.VectorLemmas.{numbers_below}
 use Rattle.bit_blocks.proofs.packed.span_queries.ones_in_span.{Given.Over, Goals.{After-blocks_between, After-ones_of, After-ones_under-2}}
 use Rattle.bit_blocks.proofs.packed.span_queries.ones_in_span.Goals as goal
 

@@ -1,6 +1,5 @@
 use Rattle.std.proofs.{Common.{ap, refl}, lemmas.{List.length-replicate, Result.err_from_is_err_and}}
-use Rattle.bit_set.proofs.CapacityLemmas.{Grows-failed}
-use Rattle.bit_set.specs.Changes.{Changes}
+use Rattle.bit_set.{proofs.CapacityLemmas.Grows-failed, specs.Changes.Changes}
 use Rattle.bit_set.proofs.set.BitSet.append.Goals as goal
 
 pub returns-clause-changes : goal.returns-clause-changes

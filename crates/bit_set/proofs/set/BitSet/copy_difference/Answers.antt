@@ -1,9 +1,7 @@
 use Rattle.std.proofs.{Common.{◌∙◌, ap, length, not, rules}}
-use Rattle.set_algebra.proofs.MemberLemmas.{counted_within}
+use Rattle.set_algebra.{proofs.MemberLemmas.counted_within, specs.{Order.same_sets, Sets.elements}}
 use Rattle.bit_set.proofs.FusedLemmas.{elements-replaced, length-replaced, members-replaced}
-use Rattle.bit_set.proofs.ReportedLemmas.{reported_of_lengthened, told}
-use Rattle.set_algebra.specs.{Order.same_sets, Sets.elements}
-use Rattle.bit_set.specs.Changes.{Changes, Outcome.Returned}
+use Rattle.bit_set.{proofs.ReportedLemmas.told_of_lengthened, specs.Changes.{Changes, Outcome.Returned}}
 use Rattle.bit_set.proofs.set.BitSet.copy_difference.Goals as goal
 
 pub returns-clause-elements : goal.returns-clause-elements
@@ -27,11 +25,8 @@ returns-clause-grows g c =
 
 pub returns-clause-changed : goal.returns-clause-changed
 returns-clause-changed g c =
-    let long = (returns-clause-grows g c).long in
-    let len = c.len.ensures.value ∙ ap (λ bits. length bits.values) c.other.view_is in
-    told _ _ _ (reported_of_lengthened c.args.self.now.values c.self.inside.bits.values c.become_difference-changed.new.self.values
-    c.len.result c.become_difference-changed.result (ap (λ bits. bits.values) c.self.view_is ∙ c.in_ok-lengthen.ensures.ok)
-    (rw len long) c.become_difference-changed.ensures.kept)
+    told_of_lengthened c.args.self.now.values c.self.inside.bits.values _ c.len.result (length c.args.other.now.values) _ (ap (λ bits. bits.values) c.self.view_is ∙ c.in_ok-lengthen.ensures.ok)
+    (c.len.ensures.value ∙ ap (λ bits. length bits.values) c.other.view_is) (returns-clause-grows g c).long c.become_difference-changed.ensures.kept
 
 pub returns-clause-counted : goal.returns-clause-counted
 returns-clause-counted g c = counted_within c.become_difference-changed.new.self c.len-2.ensures.fits

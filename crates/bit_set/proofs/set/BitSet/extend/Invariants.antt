@@ -1,7 +1,6 @@
 use Rattle.std.proofs.Common.{◌≡◌, ◌<◌, ◌≤◌, All, length, max}
 use Rattle.set_algebra.specs.Sets.{bound_of}
-use Rattle.bit_set.proofs.ItemLemmas.{IsAhead}
-use Rattle.bit_set.specs.declared.set.changing.TheConstants.{LEAST_GROWN}
+use Rattle.bit_set.{proofs.ItemLemmas.IsAhead, specs.declared.set.changing.TheConstants.LEAST_GROWN}
 use Rattle.bit_set.proofs.set.BitSet.extend.Given as goal
 
 abbrev pub invariant-loop-item : goal.invariant-loop-item

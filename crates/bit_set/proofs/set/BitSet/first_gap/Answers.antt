@@ -1,5 +1,4 @@
-use Rattle.std.proofs.Common.{◌+◌, ◌<◌, ◌≤◌, Some, None, arith}
-use Rattle.std.proofs.lemmas.Bool.Decides.{nat_tests}
+use Rattle.std.proofs.{Common.{◌+◌, ◌<◌, ◌≤◌, Some, None, arith}, lemmas.Bool.Decides.nat_tests}
 use Rattle.set_algebra.specs.Sets.{elements}
 use Rattle.set_algebra.proofs.GapLemmas.{finds_gap, first_gap, in_the_way, none_across, none_asked}
 use Rattle.bit_set.proofs.set.BitSet.first_gap.Goals as goal

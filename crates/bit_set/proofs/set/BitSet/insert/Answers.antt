@@ -2,9 +2,8 @@ use Rattle.std.proofs.Common.{◌≡◌, ◌+◌, ◌-◌, ◌<◌, ◌≤◌, �
 use Rattle.std.proofs.lemmas.{List.{length-replicate, length-set}, Result.err_from_is_err_and}
 use Rattle.bit_blocks.specs.Bits.{Bits}
 use Rattle.bit_words.specs.{Bounds.greatest, Growth.Grows}
-use Rattle.set_algebra.specs.Sets.{elements, has, put}
+use Rattle.set_algebra.{specs.Sets.{elements, has, put}, proofs.MemberLemmas.count_put}
 use Rattle.bit_set.specs.declared.faults.SetError.{SetError}
-use Rattle.set_algebra.proofs.MemberLemmas.{count_put}
 use Rattle.bit_set.proofs.{ChangeLemmas.changes_inserted, CapacityLemmas.{Grows-changed, Grows-failed, Grows-there}}
 use Rattle.set_algebra.proofs.{MemberLemmas.{counted, counted_within, updates_put}, SetLemmas.{elements-padded, elements-set_true}, ValueLemmas.has-read}
 use Rattle.bit_set.proofs.set.BitSet.insert.Goals.{then-value-len+in_ok-lengthen_past, else-value-len}

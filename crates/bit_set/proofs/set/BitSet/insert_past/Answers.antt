@@ -1,6 +1,5 @@
 use Rattle.std.proofs.{Common.{◌≡◌, ◌≤◌, ◌-◌, ◌++◌, ℕ, true, false, length, length-append, replicate, sym, ap, subst, ◌∙◌, arith}, lemmas.List.length-replicate}
-use Rattle.bit_blocks.specs.Bits.{Bits}
-use Rattle.bit_blocks.proofs.RangeLemmas.{length-changed}
+use Rattle.bit_blocks.{specs.Bits.Bits, proofs.RangeLemmas.length-changed}
 use Rattle.set_algebra.{specs.{Members.UpdatesRange, Sets.elements}, proofs.{RangeLemmas.{members_changed, members_filled, none_filled}, SetLemmas.elements-padded}}
 use Rattle.bit_set.proofs.set.BitSet.insert_past.Goals.{then-range-len, else-range-len}
 use Rattle.bit_set.proofs.set.BitSet.insert_past.Goals as goal

@@ -1,8 +1,7 @@
 use Rattle.std.proofs.Common.{refl, true, ap, arith}
 use Rattle.set_algebra.proofs.{RangeLemmas.{count_inserted, inserted_range, members_changed, on_ok}, SetLemmas.IsAscending-elements}
-use Rattle.bit_set.proofs.ChangeLemmas.{changes_filled}
+use Rattle.bit_set.{proofs.ChangeLemmas.changes_filled, specs.Changes.Changes}
 use Rattle.set_algebra.specs.Sets.{elements}
-use Rattle.bit_set.specs.Changes.{Changes}
 use Rattle.bit_set.proofs.set.BitSet.insert_range.Goals as goal
 
 -- ---- past the list

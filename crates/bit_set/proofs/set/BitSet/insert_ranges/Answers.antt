@@ -1,5 +1,4 @@
-use Rattle.std.proofs.Common.{◌≤◌, ◌∷◌, length, refl, ap, subst, sym, ◌∙◌, arith}
-use Rattle.std.specs.Result.{is_ok}
+use Rattle.std.{proofs.Common.{◌≤◌, ◌∷◌, length, refl, ap, subst, sym, ◌∙◌, arith}, specs.Result.is_ok}
 use Rattle.set_algebra.specs.{Ranges.span_end, Sets.elements}
 use Rattle.bit_set.{specs.RangeReading.items_left, proofs.RangeTextLemmas.{Fills, fills_all, fills_end, fills_first, fills_first_items, fills_more, next_items}}
 use Rattle.bit_set.proofs.set.BitSet.insert_ranges.{Given.Over, Goals.{After-first_item, After-insert_range}}

@@ -1,6 +1,5 @@
 use Rattle.set_algebra.specs.Sets.{elements}
-use Rattle.bit_set.specs.Many.{HasEach}
-use Rattle.bit_set.proofs.{ManyLemmas.{intersection_each, intersection_lists, intersection_members}}
+use Rattle.bit_set.{specs.Many.HasEach, proofs.ManyLemmas.{intersection_each, intersection_lists, intersection_members}}
 use Rattle.bit_set.proofs.set.BitSet.intersection_of.{Given.Over, Goals.In_ok-bits}
 use Rattle.bit_set.proofs.set.BitSet.intersection_of.Goals as goal
 

@@ -1,8 +1,7 @@
 use Rattle.std.proofs.Common.{◌-◌, ◌∙◌, ap, length, not, rules}
 use Rattle.set_algebra.proofs.{AlgebraLemmas.{elements-lengthened, length-lengthened}, MemberLemmas.{counted_within, members_merged}}
-use Rattle.bit_set.proofs.ReportedLemmas.{reported_of_lengthened, told}
+use Rattle.bit_set.{proofs.ReportedLemmas.told_of_lengthened, specs.Changes.{Changes, Outcome.Returned}}
 use Rattle.set_algebra.specs.{Order.same_sets, Sets.elements}
-use Rattle.bit_set.specs.Changes.{Changes, Outcome.Returned}
 use Rattle.bit_set.proofs.set.BitSet.merge_changes.Goals as goal
 
 pub returns-clause-elements : goal.returns-clause-elements
@@ -30,10 +29,8 @@ returns-clause-grows g c =
 
 pub returns-clause-changed : goal.returns-clause-changed
 returns-clause-changed g c =
-    let long = (returns-clause-grows g c).long in
-    let len = c.len.ensures.value ∙ ap (λ bits. length bits.values) c.other.view_is in
-    told _ _ _ (reported_of_lengthened c.args.self.now.values c.self.inside.bits.values c.merge_changes-changed.new.self.values c.len.result c.merge_changes-changed.result
-    (ap (λ bits. bits.values) c.self.view_is ∙ c.in_ok-lengthen.ensures.ok) (rw len long) c.merge_changes-changed.ensures.kept)
+    told_of_lengthened c.args.self.now.values c.self.inside.bits.values _ c.len.result (length c.args.other.now.values) _ (ap (λ bits. bits.values) c.self.view_is ∙ c.in_ok-lengthen.ensures.ok)
+    (c.len.ensures.value ∙ ap (λ bits. length bits.values) c.other.view_is) (returns-clause-grows g c).long c.merge_changes-changed.ensures.kept
 
 pub returns-clause-counted : goal.returns-clause-counted
 returns-clause-counted g c = counted_within c.merge_changes-changed.new.self c.len-2.ensures.fits

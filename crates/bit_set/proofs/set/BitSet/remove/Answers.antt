@@ -1,9 +1,8 @@
 use Rattle.std.proofs.Common.{ℕ, Bool, false, List, sym, ap, ap₂, ◌∙◌, arith}
 use Rattle.bit_blocks.specs.Bits.{Bits}
-use Rattle.set_algebra.specs.Sets.{elements}
+use Rattle.set_algebra.{specs.Sets.elements, proofs.MemberLemmas.{count_without, updates_without}}
 use Rattle.bit_set.specs.Changes.{Changes, Outcome.Returned}
 use Rattle.set_algebra.proofs.{SetLemmas.{IsAscending-elements, elements-set_false, without_absent}, ValueLemmas.{has-past, has-read, written_again}}
-use Rattle.set_algebra.proofs.MemberLemmas.{count_without, updates_without}
 use Rattle.bit_set.proofs.set.BitSet.remove.Goals as goal
 
 pub returns-then-value-len-clause-returned : goal.returns-then-value-len-clause-returned

@@ -2,12 +2,10 @@ use Rattle.std.proofs.Common.{◌≡◌, ℕ, ◌+◌, ◌-◌, ◌*◌, ◌/◌
 use Rattle.std.proofs.{Math.Nat.{div-add-mod'}, lemmas.{Bool.Decides.nat_tests, Fn.filter_same}}
 use Rattle.bit_blocks.{proofs.BitsLemmas.{blocks_of-digit, read_back}, specs.{Bits.blocks_of, Digits.is_one}}
 use Rattle.bit_words.specs.Kept.{KeepsInBlock}
-use Rattle.set_algebra.specs.Sets.{elements, has}
-use Rattle.bit_set.specs.{Changes.Changes, Retained.{HasTested, ones}}
-use Rattle.set_algebra.proofs.MemberLemmas.{none_from_members}
+use Rattle.set_algebra.{specs.Sets.{elements, has}, proofs.MemberLemmas.none_from_members}
+use Rattle.bit_set.{specs.{Changes.Changes, Retained.{HasTested, ones}}, proofs.set.BitSet.retain.Given.Over}
 use Rattle.bit_set.proofs.RetainLemmas.{asked_each, below_by_members, filtered-le, has-block, next_at_block, retained-block, tested-all, tested-none}
 use Rattle.set_algebra.proofs.{SetLemmas.{IsAscending-elements, has-filter}, SplitLemmas.all_from, ValueLemmas.has-within}
-use Rattle.bit_set.proofs.set.BitSet.retain.Given.{Over}
 use Rattle.bit_set.proofs.set.BitSet.retain.Goals.{After-block_or_zero-block}
 use Rattle.bit_set.proofs.set.BitSet.retain.Goals as goal
 

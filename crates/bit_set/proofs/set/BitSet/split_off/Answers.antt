@@ -1,8 +1,7 @@
 use Rattle.std.proofs.Common.{◌≡◌, ℕ, ◌<◌, ◌≤◌, ◌++◌, Bool, false, if◌then◌else◌, nat_lt, List, length, length-append, replicate, drop, refl, arith}
 use Rattle.std.proofs.lemmas.{Bool.Decides.nat_tests, List.{length-drop, length-replicate}}
 use Rattle.set_algebra.{specs.Sets.elements, proofs.{MemberLemmas.{members_below, members_from}, SplitLemmas.{all_below, all_from, elements-tail, none_below, none_from}}}
-use Rattle.bit_set.proofs.set.BitSet.split_off.Goals.{After-new_general-then-at-len}
-use Rattle.bit_set.specs.Changes.{Changes}
+use Rattle.bit_set.{proofs.set.BitSet.split_off.Goals.After-new_general-then-at-len, specs.Changes.Changes}
 use Rattle.bit_set.proofs.set.BitSet.split_off.Goals as goal
 
 -- how long the part is

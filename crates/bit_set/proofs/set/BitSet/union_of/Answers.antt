@@ -1,6 +1,5 @@
 use Rattle.set_algebra.specs.Sets.{elements}
-use Rattle.bit_set.specs.Many.{HasSome}
-use Rattle.bit_set.proofs.{ManyLemmas.{none_longer, union_lists, union_members, union_some}}
+use Rattle.bit_set.{specs.Many.HasSome, proofs.ManyLemmas.{none_longer, union_lists, union_members, union_some}}
 use Rattle.bit_set.proofs.set.BitSet.union_of.{Given.Over, Goals.In_ok-bits}
 use Rattle.bit_set.proofs.set.BitSet.union_of.Goals as goal
 

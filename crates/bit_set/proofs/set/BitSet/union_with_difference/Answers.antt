@@ -1,11 +1,10 @@
 use Rattle.std.proofs.{Common.{◌∙◌, ◌-◌, ap, length, not, take, rules}}
 use Rattle.bit_blocks.specs.{declared.block.merge.Merge.TheVariants.{Difference, Union}, Merges.merge_of}
 use Rattle.set_algebra.proofs.{AlgebraLemmas.elements-lengthened, MemberLemmas.counted_within}
-use Rattle.bit_set.proofs.ReportedLemmas.{elements-except, length-lengthened-except, members-except, reported_of_lengthened, told}
-use Rattle.bit_set.proofs.ReportedLemmas.{union_count, union_kept}
+use Rattle.bit_set.proofs.ReportedLemmas.{elements-except, length-lengthened-cut, members-except, told_of_lengthened}
+use Rattle.bit_set.{proofs.ReportedLemmas.{union_count, union_kept}, specs.Changes.{Changes, Outcome.Returned}}
 use Rattle.set_algebra.proofs.SetLemmas.{IsAscending-elements}
 use Rattle.set_algebra.specs.{Order.same_sets, Sets.{difference, elements, union}}
-use Rattle.bit_set.specs.Changes.{Changes, Outcome.Returned}
 use Rattle.bit_set.proofs.set.BitSet.union_with_difference.Goals as goal
 
 pub returns-clause-elements : goal.returns-clause-elements
@@ -26,16 +25,14 @@ returns-clause-grows g c =
     let except = c.args.except.now.values in
     record {
       long = rw (c.unite_difference-changed.ensures.values, c.self.view_is, c.in_ok-lengthen.ensures.ok, c.len.ensures.value, c.other.view_is, c.except.view_is)
-          (length-lengthened-except values others except);
+          (length-lengthened-cut Difference values others except);
       grows = search rules;
     }
 
 pub returns-clause-changed : goal.returns-clause-changed
 returns-clause-changed g c =
-    let long = (returns-clause-grows g c).long in
-    let len = c.len.ensures.value ∙ ap (λ bits. length bits.values) c.other.view_is in
-    told _ _ _ (reported_of_lengthened c.args.self.now.values c.self.inside.bits.values c.unite_difference-changed.new.self.values c.len.result c.unite_difference-changed.result
-    (ap (λ bits. bits.values) c.self.view_is ∙ c.in_ok-lengthen.ensures.ok) (rw len long) c.unite_difference-changed.ensures.kept)
+    told_of_lengthened c.args.self.now.values c.self.inside.bits.values _ c.len.result (length c.args.other.now.values) _ (ap (λ bits. bits.values) c.self.view_is ∙ c.in_ok-lengthen.ensures.ok)
+    (c.len.ensures.value ∙ ap (λ bits. length bits.values) c.other.view_is) (returns-clause-grows g c).long c.unite_difference-changed.ensures.kept
 
 pub returns-clause-count : goal.returns-clause-count
 returns-clause-count g c =

@@ -1,11 +1,10 @@
 use Rattle.std.proofs.{Common.{◌∙◌, ◌-◌, ap, length, not, take, rules}}
 use Rattle.bit_blocks.specs.{declared.block.merge.Merge.TheVariants.{Intersection, Union}, Merges.merge_of}
 use Rattle.set_algebra.proofs.{AlgebraLemmas.elements-lengthened, MemberLemmas.counted_within}
-use Rattle.bit_set.proofs.FusedLemmas.{elements-common, length-lengthened-common, members-common}
-use Rattle.bit_set.proofs.ReportedLemmas.{reported_of_lengthened, union_count, union_kept, told}
+use Rattle.bit_set.{proofs.FusedLemmas.{elements-common, members-common}, specs.Changes.{Changes, Outcome.Returned}}
+use Rattle.bit_set.proofs.ReportedLemmas.{length-lengthened-cut, told_of_lengthened, union_count, union_kept}
 use Rattle.set_algebra.proofs.SetLemmas.{IsAscending-elements}
 use Rattle.set_algebra.specs.{Order.same_sets, Sets.{elements, intersection, union}}
-use Rattle.bit_set.specs.Changes.{Changes, Outcome.Returned}
 use Rattle.bit_set.proofs.set.BitSet.union_with_intersection.Goals as goal
 
 pub returns-clause-elements : goal.returns-clause-elements
@@ -26,17 +25,14 @@ returns-clause-grows g c =
     let also = c.args.also.now.values in
     record {
       long = rw (c.unite_intersection-changed.ensures.values, c.self.view_is, c.in_ok-lengthen.ensures.ok, c.len.ensures.value, c.other.view_is, c.also.view_is)
-          (length-lengthened-common values others also);
+          (length-lengthened-cut Intersection values others also);
       grows = search rules;
     }
 
 pub returns-clause-changed : goal.returns-clause-changed
 returns-clause-changed g c =
-    let long = (returns-clause-grows g c).long in
-    let len = c.len.ensures.value ∙ ap (λ bits. length bits.values) c.other.view_is in
-    told _ _ _ (reported_of_lengthened c.args.self.now.values c.self.inside.bits.values c.unite_intersection-changed.new.self.values
-    c.len.result c.unite_intersection-changed.result (ap (λ bits. bits.values) c.self.view_is ∙ c.in_ok-lengthen.ensures.ok)
-    (rw len long) c.unite_intersection-changed.ensures.kept)
+    told_of_lengthened c.args.self.now.values c.self.inside.bits.values _ c.len.result (length c.args.other.now.values) _ (ap (λ bits. bits.values) c.self.view_is ∙ c.in_ok-lengthen.ensures.ok)
+    (c.len.ensures.value ∙ ap (λ bits. length bits.values) c.other.view_is) (returns-clause-grows g c).long c.unite_intersection-changed.ensures.kept
 
 pub returns-clause-were_in : goal.returns-clause-were_in
 returns-clause-were_in g c =

@@ -1,5 +1,4 @@
-use Rattle.std.proofs.Common.{◌≡◌, max, length, take}
-use Rattle.std.specs.List.{fold}
+use Rattle.std.{proofs.Common.{◌≡◌, max, length, take}, specs.List.fold}
 use Rattle.bit_set.proofs.set.of_many.longest.Given as goal
 
 -- the greatest length so far

@@ -1,5 +1,4 @@
-use Rattle.std.proofs.Common.{◌≡◌, min, length, take}
-use Rattle.std.specs.List.{fold}
+use Rattle.std.{proofs.Common.{◌≡◌, min, length, take}, specs.List.fold}
 use Rattle.bit_set.proofs.set.of_many.shortest.Given as goal
 
 -- the least length so far

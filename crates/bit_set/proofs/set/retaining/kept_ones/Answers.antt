@@ -1,8 +1,7 @@
 use Rattle.std.proofs.Common.{◌≡◌, ◌<◌, ◌+◌, ◌^◌, All, [], ◌∷◌, arith, refl, length, ap, ◌∙◌, sym, subst, of_calls, Bool, true, false, not}
 use Rattle.std.proofs.lemmas.{Bool.{false≢true}, List.Elements.{All-head, All-tail}}
-use Rattle.bit_set.specs.Retained.{HasTested, ones}
+use Rattle.bit_set.{specs.Retained.{HasTested, ones}, proofs.set.retaining.kept_ones.Goals.After-take_lowest_one-bit}
 use Rattle.bit_set.proofs.{IndexLemmas.{AscendsFrom-indexes, indexes-lowest, indexes-none}, RetainLemmas.{ones-cleared, positive, tested-more, tested-none}, set.retaining.kept_ones.Given.Over}
-use Rattle.bit_set.proofs.{set.retaining.kept_ones.Goals.After-take_lowest_one-bit}
 use Rattle.bit_set.proofs.set.retaining.kept_ones.Goals as goal
 
 pub loop-rest-init : goal.loop-rest-init

@@ -1,5 +1,5 @@
 use Rattle.graph_walks.specs.Dominators.{AreDominators}
-use Rattle.bit_set_c.proofs.Outcomes.{if_held}
+use Rattle.c_handles.proofs.Outcomes.{if_held}
 use Rattle.bit_set_c.proofs.matrix.graphs.bit_matrix_dominators.Goals as goal
 
 pub returns-in-Ok-clause-dominators : goal.returns-in-Ok-clause-dominators

@@ -1,43 +1,11 @@
-use Rattle.std.proofs.{Common.{◌≡◌, ◌≤◌, ◌∙◌, sym, ap, ap₂, ◌++◌, false, map, drop, replicate, length, take, arith}, lemmas.List.take_at}
+use Rattle.std.proofs.{Common.{◌≡◌, ap, ◌++◌, false, drop, replicate, length, take, arith}, lemmas.List.take_at}
 use Rattle.bit_blocks.specs.{declared.block.merge.Merge.TheVariants.{Difference, Union}, Merges.merge_of}
-use Rattle.bit_blocks.specs.{BlockMerges.{except_at, HaveBecome}, Storage.IsPacked}
-use Rattle.bit_blocks.proofs.{BitsLemmas.blocks_for-le, BlockMergeLemmas.kept_lists, VectorLemmas.length_from_view}
-use Rattle.bit_blocks.proofs.VectorLemmas.{no_longer_from_views, numbers_below}
 use Rattle.bit_words.proofs.bit_vec.BitVec.become_difference.{Given.Over, Goals.After-become_difference}
-use Rattle.bit_words.proofs.FusedLemmas.{list_of_difference, packed_difference, values_of_difference}
-use Rattle.bit_words.proofs.StartLemmas.{false_before_none}
+use Rattle.bit_words.proofs.{FusedLemmas.{Holds, can_merge, holds_difference, kept_values}, StartLemmas.false_before_none}
 use Rattle.bit_words.proofs.bit_vec.BitVec.become_difference.Goals as goal
 
--- the others are no more blocks
-fewer : (g : Over) (c : After-become_difference g) → length c.other.inside.blocks.items ≤ length c.self.inside.blocks.items
-fewer g c =
-    let shorter = no_longer_from_views _ _ _ _ _ _ _ _ _ c.self.view_is c.other.view_is c.requires in
-    let le = blocks_for-le g.B.BitBlock.width c.other.inside.len c.self.inside.len g.met.B.BitBlock.width_law.positive shorter in
-    omega (arith, le, c.self.invariant.packed.count, c.other.invariant.packed.count)
-
--- what the blocks became
-merged : (g : Over) (c : After-become_difference g)
-    → HaveBecome g.B.BitBlock.width g.B.BitBlock.number g.B.BitBlock.is_block 0 (length c.self.inside.blocks.items)
-    (except_at (map g.B.BitBlock.number c.other.inside.blocks.items)
-    (map g.B.BitBlock.number c.except.inside.blocks.items)) c.self.inside.blocks.items c.become_difference.new.blocks
-merged g c = rw (c.as_mut_slice.ensures.value, c.deref.ensures.value, c.deref-3.ensures.value) at c.become_difference.ensures.has
-
-packed : (g : Over) (c : After-become_difference g) → IsPacked g.B.BitBlock.width g.B.BitBlock.number g.B.BitBlock.is_block c.become_difference.new.blocks c.self.inside.len
-packed g c =
-    packed_difference _ _ _ _ c.other.inside.blocks.items _
-    (map g.B.BitBlock.number c.except.inside.blocks.items) _ c.other.inside.len g.met.B.BitBlock.width_law.positive
-    (fewer g c) (no_longer_from_views _ _ _ _ _ _ _ _ _ c.self.view_is c.other.view_is c.requires) c.self.invariant.packed
-    c.other.invariant.packed.tail (merged g c)
-
 pub become_difference-requires-clause-can : goal.become_difference-requires-clause-can
-become_difference-requires-clause-can g c =
-    let le = blocks_for-le g.B.BitBlock.width c.other.inside.len c.self.inside.len g.met.B.BitBlock.width_law.positive
-    (no_longer_from_views _ _ _ _ _ _ _ _ _ c.self.view_is c.other.view_is c.requires) in
-    rw (c.as_mut_slice.ensures.value, c.deref.ensures.value) (record {
-      fewer = omega (arith, le, c.self.invariant.packed.count, c.other.invariant.packed.count);
-      each = c.self.invariant.packed.each;
-      others = c.other.invariant.packed.each;
-    })
+become_difference-requires-clause-can g c = rw (c.as_mut_slice.ensures.value, c.deref.ensures.value) (can_merge g.met.B.BitBlock.width_law.positive c.self.invariant.packed c.other.invariant.packed c.self.view_is c.other.view_is c.requires)
 
 pub become_difference-requires-clause-except : goal.become_difference-requires-clause-except
 become_difference-requires-clause-except g c = rw c.deref-3.ensures.value c.except.invariant.packed.each
@@ -45,43 +13,28 @@ become_difference-requires-clause-except g c = rw c.deref-3.ensures.value c.exce
 pub become_difference-requires-clause-summary : goal.become_difference-requires-clause-summary
 become_difference-requires-clause-summary g c = rw c.as_mut_slice.ensures.value c.self.invariant.summary
 
+-- what the blocks became
+made : (g : Over) (c : After-become_difference g) → Holds g.B.BitBlock.width g.B.BitBlock.number g.B.BitBlock.is_block c.become_difference.new.blocks c.self.inside.len
+    (merge_of Union (replicate (length c.args.self.now.values) false) (merge_of Difference c.args.other.now.values (take (length c.args.other.now.values) c.args.except.now.values)))
+made g c =
+    holds_difference g.met.B.BitBlock.width_law.positive c.self.invariant.packed c.other.invariant.packed c.self.view_is c.other.view_is c.requires
+    c.except.invariant.packed c.except.view_is _ (rw (c.as_mut_slice.ensures.value, c.deref.ensures.value, c.deref-3.ensures.value) at c.become_difference.ensures.has)
+
 pub invariant_of-self : goal.invariant_of-self
 invariant_of-self g c =
     let ys = c.become_difference.new.blocks in
     let old = c.self.inside.blocks in
     let back : take old.len (ys ++ drop (length ys) old.items) ≡ ys = take_at ys _ old.len (omega arith) in
-    rw back (record { packed = packed g (goal.at.invariant_of-self g c).After-become_difference; summary = c.become_difference.ensures.summary; start = λ _. false_before_none _ _ })
+    rw back (record { packed = (made g (goal.at.invariant_of-self g c).After-become_difference).packed; summary = c.become_difference.ensures.summary; start = λ _. false_before_none _ _ })
 
-pub returns-clause-values : goal.returns-clause-values
-returns-clause-values g c =
-    let here = (goal.at.returns-clause-values g c).After-become_difference in
+pub returns : goal.returns
+returns g c =
     let ys = c.become_difference.new.blocks in
     let old = c.self.inside.blocks in
     let back : take old.len (ys ++ drop (length ys) old.items) ≡ ys = take_at ys _ old.len (omega arith) in
-    let shorter = no_longer_from_views _ _ _ _ _ _ _ _ _ c.self.view_is c.other.view_is c.requires in
-    let pos = g.met.B.BitBlock.width_law.positive in
-    let len : c.self.inside.len ≡ length c.args.self.now.values = omega (arith, length_from_view _ _ _ _ _ c.self.view_is) in
-    rw back
-    (list_of_difference _ _ _ _ _ _ c.except.inside.len shorter c.other.invariant.packed.tail c.except.invariant.packed.tail
-    (values_of_difference _ _ _ old.items c.other.inside.blocks.items ys _ pos (fewer g here) (merged g here))
-    ∙ ap₂ (λ n u. merge_of Union (replicate n false) u) len
-    (ap₂ (λ v u. merge_of Difference v.values (take (length v.values) u.values)) c.other.view_is c.except.view_is))
-
-pub returns-clause-kept : goal.returns-clause-kept
-returns-clause-kept g c =
-    let here = (goal.at.returns-clause-kept g c).After-become_difference in
-    let w = g.B.BitBlock.width in
-    let f = g.B.BitBlock.number in
-    let ys = c.become_difference.new.blocks in
-    let old = c.self.inside.blocks in
-    let back : take old.len (ys ++ drop (length ys) old.items) ≡ ys = take_at ys _ old.len (omega arith) in
-    let new = packed g here in
-    let kept = rw c.as_mut_slice.ensures.value at c.become_difference.ensures.kept in
-    let lists = kept_lists w (map f old.items) (map f ys) c.self.inside.len
-    (numbers_below w f _ old.items (λ x is. (g.met.B.BitBlock.number_law x is).0) c.self.invariant.packed.each)
-    (numbers_below w f _ ys (λ x is. (g.met.B.BitBlock.number_law x is).0) new.each) c.self.invariant.packed.tail new.tail in
-    let view = ap (λ v. v.values) c.self.view_is in
-    rw back (λ no. lists.0 (kept.0 no) ∙ view, λ same. kept.1 (lists.1 (same ∙ sym view)))
-
-pub returns-clause-capacity : goal.returns-clause-capacity
-returns-clause-capacity g c = rw c.become_difference.ensures.capacity (ap (λ v. v.capacity) c.self.view_is)
+    let now = made g (goal.at.returns g c).After-become_difference in
+    rw back (record {
+      values = now.same;
+      kept = kept_values (λ x is. (g.met.B.BitBlock.number_law x is).0) c.self.invariant.packed c.self.view_is now.packed (rw c.as_mut_slice.ensures.value at c.become_difference.ensures.kept);
+      capacity = rw c.become_difference.ensures.capacity (ap (λ v. v.capacity) c.self.view_is);
+    })

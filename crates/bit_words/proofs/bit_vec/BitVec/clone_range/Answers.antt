@@ -1,6 +1,7 @@
 use Rattle.std.proofs.Common.{◌≡◌, ◌≤◌, ◌++◌, false, length, map, replicate, sym, ap, ◌∙◌, arith}
+use Rattle.std.proofs.lemmas.Bool.Decides.{nat_tests}
 use Rattle.bit_blocks.specs.{Bits.{blocks_for, capacity_of}, Ranges.values_in_range}
-use Rattle.bit_blocks.proofs.{BitsLemmas.blocks_for-le, VectorLemmas.length_from_view}
+use Rattle.bit_blocks.proofs.{BitsLemmas.{blocks_for-above, blocks_for-le}, TailLemmas.tail_unused, VectorLemmas.{length_from_view, numbers_below}}
 use Rattle.bit_words.specs.Summary.{stored_for}
 use Rattle.bit_words.proofs.{CapacityLemmas.shared_whole, MovedLemmas.{blocks_taken, part_packed, value_copied, values_of-part}, StartLemmas.false_before_none}
 use Rattle.bit_words.proofs.bit_vec.BitVec.clone_range.Goals as goal
@@ -27,6 +28,25 @@ clear_tail-requires-clause-count g c =
     (rw c.deref.ensures.value at c.in_ok-blocks.ensures.len)
     ∙ blocks_taken g.B.BitBlock.width c.args.range.end c.self.inside.len _ c.self.inside.blocks.items
     g.met.B.BitBlock.width_law.positive within c.self.invariant.packed.count c.block_count-count.ensures
+
+pub summary_of-requires-clause-zeros : goal.summary_of-requires-clause-zeros
+summary_of-requires-clause-zeros g c = λ q before.
+    let w = g.B.BitBlock.width in
+    let number = g.B.BitBlock.number in
+    let zs = c.clear_tail.new.blocks.items in
+    rw c.deref-2.ensures.value
+    (tail_unused w c.args.range.start q (map number zs) (map number zs) (numbers_below w number g.B.BitBlock.is_block zs (λ x is. (g.met.B.BitBlock.number_law x is).0) c.clear_tail.ensures.in_place.each q)
+    (λ i. grind (arith, nat_tests, c.clear_tail.ensures.values i, c.in_ok-blocks.ensures.values i)) (omega (arith, before, c.block_index.ensures)))
+
+pub summary_of-requires-clause-within : goal.summary_of-requires-clause-within
+summary_of-requires-clause-within g c =
+    let w = g.B.BitBlock.width in
+    let within : c.args.range.end ≤ c.self.inside.len = rw (length_from_view _ _ _ _ _ c.self.view_is) at c.requires.within in
+    let taken = blocks_taken w c.args.range.end c.self.inside.len c.block_count-count.result c.self.inside.blocks.items
+    g.met.B.BitBlock.width_law.positive within c.self.invariant.packed.count c.block_count-count.ensures in
+    let long = (rw c.deref.ensures.value at c.in_ok-blocks.ensures.len) ∙ taken in
+    let start = blocks_for-above w c.args.range.end c.args.range.start g.met.B.BitBlock.width_law.positive c.requires.some in
+    omega (arith, start, long, c.clear_tail.ensures.in_place.len, c.block_index.ensures, c.deref-2.ensures.len)
 
 pub invariant_of-result : goal.invariant_of-result
 invariant_of-result g c =

@@ -1,8 +1,7 @@
 use Rattle.std.proofs.Common.{◌≡◌, ◌<◌, ◌^◌, ◌∙◌, ◌++◌, false, drop, length, map, replicate, ap, arith}
 use Rattle.bit_blocks.proofs.{BitsLemmas.{blocks_for-above, blocks_for-le}, TailLemmas.{tail_kept, tail_packed, tail_unused, values_of-tail}}
-use Rattle.bit_words.{specs.Summary.stored_for, proofs.CapacityLemmas.capacity_of_copy}
+use Rattle.bit_words.{specs.Summary.stored_for, proofs.{CapacityLemmas.capacity_of_copy, StartLemmas.false_before_none}}
 use Rattle.bit_blocks.proofs.VectorLemmas.{length_from_view, numbers_below}
-use Rattle.bit_words.proofs.StartLemmas.{false_before_none}
 use Rattle.bit_words.proofs.bit_vec.BitVec.clone_tail.Goals as goal
 
 pub copy_bits_from-requires-clause-within : goal.copy_bits_from-requires-clause-within

@@ -1,7 +1,6 @@
 use Rattle.std.proofs.Common.{◌≡◌, ℕ, List, ◌∙◌, Bool, true, false, refl, sym, ap, arith}
 use Rattle.bit_blocks.specs.{declared.block.merge.Merge.TheVariants.{Difference, Union}, BlockMerges.IsMergedSpan, Merges.merge_of_values, Ranges.changed_in_range, Storage.value_at}
-use Rattle.bit_blocks.proofs.VectorLemmas.{length_from_view}
-use Rattle.bit_blocks.proofs.RangeLemmas.{changed-none, values_of-changed}
+use Rattle.bit_blocks.proofs.{VectorLemmas.length_from_view, RangeLemmas.{changed-none, values_of-changed}}
 use Rattle.bit_words.proofs.{SameCapacity.same_capacity, SummarySpanLemmas.{end_in_blocks, span_packed}}
 use Rattle.bit_words.proofs.StartLemmas.{false_before_less, false_before_none}
 use Rattle.bit_words.proofs.bit_vec.BitVec.fill_range.Goals as goal

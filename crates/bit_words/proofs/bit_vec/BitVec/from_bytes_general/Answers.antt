@@ -1,8 +1,7 @@
 use Rattle.std.proofs.Common.{◌≡◌, ◌*◌, length, sym, ap, ◌∙◌, arith}
 use Rattle.bit_blocks.{specs.Bits.blocks_for, proofs.{ByteLemmas.{byte_value-past, length-values_of_bytes, get_or-values_of_bytes}, StorageLemmas.values_of-same}}
 use Rattle.bit_blocks.specs.Bits.{capacity_of}
-use Rattle.bit_words.proofs.CapacityLemmas.{shared_whole}
-use Rattle.bit_words.proofs.StartLemmas.{false_before_none}
+use Rattle.bit_words.proofs.{CapacityLemmas.shared_whole, StartLemmas.false_before_none}
 use Rattle.bit_words.proofs.bit_vec.BitVec.from_bytes_general.Goals as goal
 
 pub invariant_of-result : goal.invariant_of-result

@@ -1,6 +1,5 @@
 use Rattle.std.proofs.Common.{◌≡◌, ◌*◌, length, ap, sym, ◌∙◌, arith}
-use Rattle.bit_blocks.{specs.Bits.blocks_for, proofs.StorageLemmas.{value_at-past, length-values_of}}
-use Rattle.bit_blocks.specs.Bits.{capacity_of}
+use Rattle.bit_blocks.{specs.Bits.{blocks_for, capacity_of}, proofs.StorageLemmas.{value_at-past, length-values_of}}
 use Rattle.bit_words.proofs.{CapacityLemmas.shared_whole, LowByteLemmas.blocks_of_bytes, StartLemmas.false_before_none}
 use Rattle.bit_words.proofs.bit_vec.BitVec.from_bytes_lsb_general.Goals as goal
 

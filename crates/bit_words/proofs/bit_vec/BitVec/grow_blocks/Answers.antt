@@ -2,8 +2,7 @@ use Rattle.std.proofs.{Common.{◌≡◌, ◌+◌, ◌^◌, ◌<◌, ◌++◌, �
 use Rattle.bit_blocks.{specs.Bits.capacity_of, proofs.StorageLemmas.values_of-append}
 use Rattle.bit_words.{specs.Summary.shared_capacity, proofs.{CapacityLemmas.stored_from_shared, GrowthLemmas.{Grows-blocks, Grows-kept}}}
 use Rattle.bit_blocks.proofs.{BitsLemmas.blocks_for-le, VectorLemmas.length_from_view}
-use Rattle.bit_words.proofs.GrownSummary.{IsGrown, grown_after, grown_before, grown_last}
-use Rattle.bit_words.proofs.StartLemmas.{grown_start}
+use Rattle.bit_words.proofs.{GrownSummary.{IsGrown, grown_after, grown_before, grown_last}, StartLemmas.grown_start}
 use Rattle.bit_words.proofs.bit_vec.BitVec.grow_blocks.Goals as goal
 
 pub overflow_add-len : goal.overflow_add-len
@@ -14,14 +13,6 @@ returns-in_err-reserve_shared-clause-grows g c =
     let p = err_from_is_err_and c.from_residual.result c.from_residual.ensures.1 in
     rw (p.1, p.2) (Grows-kept _ _ _ _ _ _ _ _ _ _ _ _ _ _ _ g.met.B.BitBlock.width_law.positive c.self.invariant (omega arith) (omega arith) c.self.view_is
     (omega (arith, c.requires)) c.block_count-count.ensures (omega (arith, length_from_view _ _ _ _ _ c.self.view_is)) c.reserve_shared.ensures.items c.in_err-reserve_shared.ensures.capacity.reserves)
-
-pub store_summary-requires-clause-longer : goal.store_summary-requires-clause-longer
-store_summary-requires-clause-longer g c =
-    let le = blocks_for-le g.B.BitBlock.width c.self.inside.len (c.self.inside.len + c.args.n) g.met.B.BitBlock.width_law.positive (omega arith) in
-    rw (c.deref.ensures.value, c.reserve_shared.ensures.items) (omega (arith, c.self.invariant.packed.count))
-
-pub store_summary-requires-clause-capacity : goal.store_summary-requires-clause-capacity
-store_summary-requires-clause-capacity g c = stored_from_shared _ _ _ _ g.met.B.BitBlock.width_law.positive c.in_ok-reserve_shared.ensures.capacity.reserves.ok
 
 pub append_to_summary-requires : goal.append_to_summary-requires
 append_to_summary-requires g c =
@@ -70,11 +61,15 @@ returns g c =
 pub invariant_of-self : goal.invariant_of-self
 invariant_of-self g c = rw (c.reserve_shared.ensures.items, c.reserve_shared.ensures.summary) c.self.invariant
 
-pub store_summary-requires-clause-keeps : goal.store_summary-requires-clause-keeps
-store_summary-requires-clause-keeps g c = rw (c.deref.ensures.value, c.reserve_shared.ensures.items, c.reserve_shared.ensures.summary) c.self.invariant.summary
-
-pub store_summary-requires-clause-blocks : goal.store_summary-requires-clause-blocks
-store_summary-requires-clause-blocks g c = rw (c.deref.ensures.value, c.reserve_shared.ensures.items) c.self.invariant.packed.each
+pub store_summary-requires : goal.store_summary-requires
+store_summary-requires g c = record {
+  keeps = rw (c.deref.ensures.value, c.reserve_shared.ensures.items, c.reserve_shared.ensures.summary) c.self.invariant.summary;
+  blocks = rw (c.deref.ensures.value, c.reserve_shared.ensures.items) c.self.invariant.packed.each;
+  longer =
+      let le = blocks_for-le g.B.BitBlock.width c.self.inside.len (c.self.inside.len + c.args.n) g.met.B.BitBlock.width_law.positive (omega arith) in
+      rw (c.deref.ensures.value, c.reserve_shared.ensures.items) (omega (arith, c.self.invariant.packed.count));
+  capacity = stored_from_shared _ _ _ _ g.met.B.BitBlock.width_law.positive c.in_ok-reserve_shared.ensures.capacity.reserves.ok;
+}
 
 pub append_bits-requires-clause-packed : goal.append_bits-requires-clause-packed
 append_bits-requires-clause-packed g c = rw c.reserve_shared.ensures.items c.self.invariant.packed

@@ -1,9 +1,7 @@
-use Rattle.std.proofs.lemmas.List.{length-map}
-use Rattle.std.proofs.Common.{◌<◌, length, map, refl, ap, arith}
-use Rattle.bit_words.specs.Summary.{short_count}
+use Rattle.std.proofs.{lemmas.List.length-map, Common.{◌<◌, length, map, refl, ap, arith}}
+use Rattle.bit_words.{specs.Summary.short_count, proofs.SummarySpanLemmas.in_chunks}
 use Rattle.bit_blocks.proofs.VectorLemmas.{length_from_view}
 use Rattle.bit_words.proofs.{KeepLemmas.{KeptBlock, block_inside, kept_block, kept_packed, kept_summary, kept_values}, SameCapacity.same_capacity, SummaryLemmas.{keeps_all, keeps_none}}
-use Rattle.bit_words.proofs.SummarySpanLemmas.{in_chunks}
 use Rattle.bit_words.proofs.bit_vec.BitVec.keep_in_block.{Given.Over, Goals.{After-put_block, After-self, Else-is_short}}
 use Rattle.bit_words.proofs.{KeepLemmas.kept_less, StartLemmas.false_before_less}
 use Rattle.bit_words.proofs.bit_vec.BitVec.keep_in_block.Goals as goal
@@ -60,23 +58,19 @@ returns-then-is_short-clause-values g c =
 pub returns-then-is_short-clause-capacity : goal.returns-then-is_short-clause-capacity
 returns-then-is_short-clause-capacity g c = same_capacity _ _ _ _ _ _ c.put_block.ensures.in_place.capacity refl (ap (λ v. v.capacity) c.self.view_is)
 
-pub update_summary_at-requires-clause-each : goal.update_summary_at-requires-clause-each
-update_summary_at-requires-clause-each g c = (c.self.invariant.summary.long (many g (goal.at.update_summary_at-requires-clause-each g c).Else-is_short)).packed.each
-
-pub update_summary_at-requires-clause-blocks : goal.update_summary_at-requires-clause-blocks
-update_summary_at-requires-clause-blocks g c = rw c.deref-2.ensures.value c.put_block.ensures.in_place.each
-
-pub update_summary_at-requires-clause-in_bounds : goal.update_summary_at-requires-clause-in_bounds
-update_summary_at-requires-clause-in_bounds g c =
-    let here = inside g (goal.at.update_summary_at-requires-clause-in_bounds g c).After-self in
-    rw c.deref-2.ensures.value (omega (arith, here, c.put_block.ensures.in_place.len))
-
-pub update_summary_at-requires-clause-in_summary : goal.update_summary_at-requires-clause-in_summary
-update_summary_at-requires-clause-in_summary g c =
-    let at = goal.at.update_summary_at-requires-clause-in_summary g c in
-    let there = in_chunks g.B.BitBlock.width c.args.k g.B.BitBlock.number g.B.BitBlock.is_block c.self.inside.blocks.items c.self.inside.summary.items g.met.B.BitBlock.width_law.positive
-    (c.self.invariant.summary.long (many g at.Else-is_short)) (inside g at.After-self) in
-    omega (arith, there)
+pub update_summary_at-requires : goal.update_summary_at-requires
+update_summary_at-requires g c = record {
+  in_bounds =
+      let here = inside g (goal.at.update_summary_at-requires g c).After-self in
+      rw c.deref-2.ensures.value (omega (arith, here, c.put_block.ensures.in_place.len));
+  in_summary =
+      let at = goal.at.update_summary_at-requires g c in
+      let there = in_chunks g.B.BitBlock.width c.args.k g.B.BitBlock.number g.B.BitBlock.is_block c.self.inside.blocks.items c.self.inside.summary.items g.met.B.BitBlock.width_law.positive
+      (c.self.invariant.summary.long (many g at.Else-is_short)) (inside g at.After-self) in
+      omega (arith, there);
+  each = (c.self.invariant.summary.long (many g (goal.at.update_summary_at-requires g c).Else-is_short)).packed.each;
+  blocks = rw c.deref-2.ensures.value c.put_block.ensures.in_place.each;
+}
 
 pub invariant_of-self-2 : goal.invariant_of-self-2
 invariant_of-self-2 g c =

@@ -1,68 +1,38 @@
-use Rattle.std.proofs.{Common.{◌≡◌, ℕ, ◌∙◌, ap, ap₂, ◌++◌, map, drop, length, take, arith}, lemmas.List.take_at}
-use Rattle.bit_blocks.specs.{Merges.{merge_of, merge_of_values}, Storage.value_at}
-use Rattle.bit_blocks.proofs.{BitsLemmas.blocks_for-le, MergeLemmas.{merged_lists, merged_zero_tail}}
-use Rattle.bit_blocks.proofs.{BlockMergeLemmas.merges_of_values, VectorLemmas.no_longer_from_views}
+use Rattle.std.proofs.{Common.{◌≡◌, ap, ◌++◌, drop, length, take, arith}, lemmas.List.take_at}
+use Rattle.bit_blocks.specs.Merges.{merge_of}
 use Rattle.bit_words.proofs.bit_vec.BitVec.merge.{Given.Over, Goals.After-merge_named}
-use Rattle.bit_words.proofs.StartLemmas.{false_before_none}
+use Rattle.bit_words.proofs.{FusedLemmas.{Holds, can_merge, holds_merged}, StartLemmas.false_before_none}
 use Rattle.bit_words.proofs.bit_vec.BitVec.merge.Goals as goal
 
-pub merge_named-requires-clause-can : goal.merge_named-requires-clause-can
-merge_named-requires-clause-can g c =
-    let le = blocks_for-le g.B.BitBlock.width c.other.inside.len c.self.inside.len g.met.B.BitBlock.width_law.positive
-    (no_longer_from_views _ _ _ _ _ _ _ _ _ c.self.view_is c.other.view_is c.requires) in
-    rw (c.as_mut_slice.ensures.value, c.deref.ensures.value) (record {
-      fewer = omega (arith, le, c.self.invariant.packed.count, c.other.invariant.packed.count);
-      each = c.self.invariant.packed.each;
-      others = c.other.invariant.packed.each;
-    })
+pub merge_named-requires : goal.merge_named-requires
+merge_named-requires g c = record {
+  can = rw (c.as_mut_slice.ensures.value, c.deref.ensures.value) (can_merge g.met.B.BitBlock.width_law.positive c.self.invariant.packed c.other.invariant.packed c.self.view_is c.other.view_is c.requires);
+  summary = rw (c.as_mut_slice.ensures.value, c.as_mut_slice-2.ensures.value) c.self.invariant.summary;
+  other_summary = rw (c.deref.ensures.value, c.deref-2.ensures.value) c.other.invariant.summary;
+}
 
-pub merge_named-requires-clause-summary : goal.merge_named-requires-clause-summary
-merge_named-requires-clause-summary g c = rw (c.as_mut_slice.ensures.value, c.as_mut_slice-2.ensures.value) c.self.invariant.summary
-
-pub merge_named-requires-clause-other_summary : goal.merge_named-requires-clause-other_summary
-merge_named-requires-clause-other_summary g c = rw (c.deref.ensures.value, c.deref-2.ensures.value) c.other.invariant.summary
-
--- what each value became
-each : (g : Over) (c : After-merge_named g) → (i : ℕ)
-    → value_at g.B.BitBlock.width (map g.B.BitBlock.number c.merge_named.new.blocks) i ≡ merge_of_values c.args.merge
-    (value_at g.B.BitBlock.width (map g.B.BitBlock.number c.self.inside.blocks.items) i)
-    (value_at g.B.BitBlock.width (map g.B.BitBlock.number c.other.inside.blocks.items) i)
-each g c =
-    let pos = g.met.B.BitBlock.width_law.positive in
-    let le = blocks_for-le g.B.BitBlock.width c.other.inside.len c.self.inside.len pos (no_longer_from_views _ _ _ _ _ _ _ _ _ c.self.view_is c.other.view_is c.requires) in
-    merges_of_values _ _ _ _ c.self.inside.blocks.items c.other.inside.blocks.items _ pos
-    (omega (arith, le, c.self.invariant.packed.count, c.other.invariant.packed.count))
-    (rw (c.as_mut_slice.ensures.value, c.deref.ensures.value) at c.merge_named.ensures.has)
+-- what the blocks became
+made : (g : Over) (c : After-merge_named g) → Holds g.B.BitBlock.width g.B.BitBlock.number g.B.BitBlock.is_block c.merge_named.new.blocks c.self.inside.len
+    (merge_of c.args.merge c.args.self.now.values c.args.other.now.values)
+made g c = holds_merged g.met.B.BitBlock.width_law.positive c.self.invariant.packed c.other.invariant.packed c.self.view_is c.other.view_is c.requires c.args.merge _ (rw (c.as_mut_slice.ensures.value, c.deref.ensures.value) at c.merge_named.ensures.has)
 
 pub invariant_of-self : goal.invariant_of-self
 invariant_of-self g c =
-    let shorter = no_longer_from_views _ _ _ _ _ _ _ _ _ c.self.view_is c.other.view_is c.requires in
     let ys = c.merge_named.new.blocks in
     let summary = c.merge_named.new.summary in
     let old = c.self.inside.blocks in
     let old_summary = c.self.inside.summary in
     let back : take old.len (ys ++ drop (length ys) old.items) ≡ ys = take_at ys _ old.len (omega arith) in
     let back_summary : take old_summary.len (summary ++ drop (length summary) old_summary.items) ≡ summary = take_at summary _ old_summary.len (omega arith) in
-    rw (back, back_summary) (record {
-      packed = record {
-        each = c.merge_named.ensures.has.each;
-        count = omega (arith, c.self.invariant.packed.count);
-        tail = merged_zero_tail _ _ _ _ _ _ _ shorter c.self.invariant.packed.tail c.other.invariant.packed.tail (each g (goal.at.invariant_of-self g c).After-merge_named);
-        fits = c.self.invariant.packed.fits;
-      };
-      summary = c.merge_named.ensures.summary;
-      start = λ _. false_before_none _ _;
-    })
+    rw (back, back_summary) (record { packed = (made g (goal.at.invariant_of-self g c).After-merge_named).packed; summary = c.merge_named.ensures.summary; start = λ _. false_before_none _ _ })
 
-pub returns-clause-values : goal.returns-clause-values
-returns-clause-values g c =
-    let shorter = no_longer_from_views _ _ _ _ _ _ _ _ _ c.self.view_is c.other.view_is c.requires in
+pub returns : goal.returns
+returns g c =
     let ys = c.merge_named.new.blocks in
     let old = c.self.inside.blocks in
     let back : take old.len (ys ++ drop (length ys) old.items) ≡ ys = take_at ys _ old.len (omega arith) in
-    rw back
-    (merged_lists _ _ _ _ _ _ _ shorter c.self.invariant.packed.tail c.other.invariant.packed.tail (each g (goal.at.returns-clause-values g c).After-merge_named)
-    ∙ ap₂ (λ v u. merge_of c.args.merge v.values u.values) c.self.view_is c.other.view_is)
-
-pub returns-clause-capacity : goal.returns-clause-capacity
-returns-clause-capacity g c = ap (λ v. v.capacity) c.self.view_is
+    let now = made g (goal.at.returns g c).After-merge_named in
+    rw back (record {
+      values = now.same;
+      capacity = ap (λ v. v.capacity) c.self.view_is;
+    })

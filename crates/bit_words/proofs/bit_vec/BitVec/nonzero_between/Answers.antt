@@ -1,7 +1,6 @@
 use Rattle.std.proofs.{Common.{◌≡◌, ◌-◌, ◌/◌, ◌≤◌, length, min, sym, ap, ◌∙◌, subst, arith}, lemmas.List.length-map}
 use Rattle.bit_blocks.{specs.Bits.blocks_for, proofs.BitsLemmas.length-blocks_of}
-use Rattle.bit_words.specs.Nonzero.{CutsAt, walk_past}
-use Rattle.bit_words.proofs.bit_vec.BitVec.nonzero_between.Goals.{After-between}
+use Rattle.bit_words.{specs.Nonzero.{CutsAt, walk_past}, proofs.bit_vec.BitVec.nonzero_between.Goals.After-between}
 use Rattle.bit_words.proofs.bit_vec.BitVec.nonzero_between.Goals as goal
 
 pub between-requires : goal.between-requires

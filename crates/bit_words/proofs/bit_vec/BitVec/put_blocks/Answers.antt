@@ -1,5 +1,4 @@
-use Rattle.std.proofs.Common.{◌+◌, ◌*◌, ◌≤◌, length, arith}
-use Rattle.std.proofs.lemmas.List.{length-map}
+use Rattle.std.proofs.{Common.{◌+◌, ◌*◌, ◌≤◌, length, arith}, lemmas.List.length-map}
 use Rattle.bit_blocks.proofs.VectorLemmas.{length_from_view}
 use Rattle.bit_words.proofs.PutLemmas.{put_packed, put_start, put_values, put_within}
 use Rattle.bit_words.proofs.bit_vec.BitVec.put_blocks.{Given.Over, Goals.After-self}

@@ -1,9 +1,8 @@
 use Rattle.std.{proofs.Common.{◌≡◌, ℕ, ◌≤◌, ◌+◌, ◌*◌, ◌/◌, ◌%◌, ◌<◌, ◌∙◌, ◌==◌, true, List, not, sym, ap, ap₂, length, vec_capacity, set, Some, arith, mod-lt, div-add-mod'}}
 use Rattle.bit_blocks.{specs.{Bits.capacity_of, Storage.{value_at, is_used}}, proofs.BitsLemmas.blocks_for-above}
-use Rattle.bit_words.specs.Summary.{shared_capacity, short_count}
+use Rattle.bit_words.{specs.Summary.{shared_capacity, short_count}, proofs.StartLemmas.false_before_written}
 use Rattle.bit_blocks.proofs.{PackedLemmas.replaced_packed, StorageLemmas.values_of-set, UseLemmas.used_from_true, VectorLemmas.{length_from_view, slice_get-values_of}}
 use Rattle.bit_words.proofs.{SummaryLemmas.{changed_summary, keeps_all, keeps_none}, bit_vec.BitVec.replace.Given.Over}
-use Rattle.bit_words.proofs.StartLemmas.{false_before_written}
 use Rattle.bit_words.proofs.bit_vec.BitVec.replace.Goals.{After-self, Else-is_short}
 use Rattle.bit_words.proofs.bit_vec.BitVec.replace.Goals as goal
 

@@ -1,7 +1,6 @@
 use Rattle.std.proofs.Common.{◌≡◌, ◌≤◌, ◌*◌, ◌^◌, ◌-◌, ℕ, ◌∙◌, length, vec_capacity, min, refl, ap, arith}
-use Rattle.bit_blocks.specs.Bits.{blocks_for, capacity_of}
+use Rattle.bit_blocks.{specs.Bits.{blocks_for, capacity_of}, proofs.VectorLemmas.{length_from_view, capacity_from_view}}
 use Rattle.bit_words.{specs.Summary.shared_capacity, proofs.{CapacityLemmas.{shared_enough, shared_le, capacity_le}, SummaryLemmas.{none_stored, stored_length}}}
-use Rattle.bit_blocks.proofs.VectorLemmas.{length_from_view, capacity_from_view}
 use Rattle.bit_words.proofs.bit_vec.BitVec.shrink_to_fit.{Given.Over, Goals.{After-shrink_shared_capacity, After-saturating_mul}}
 use Rattle.bit_words.proofs.bit_vec.BitVec.shrink_to_fit.Goals as goal
 

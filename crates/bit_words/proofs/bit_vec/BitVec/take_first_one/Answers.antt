@@ -1,9 +1,8 @@
 use Rattle.std.proofs.{Common.{◌≡◌, ℕ, ◌<◌, ◌≤◌, ◌∙◌, false, get_or, length, map, refl, set, sym, ap, None, Some, arith}, lemmas.Bool.true≢false}
 use Rattle.bit_blocks.{specs.Storage.value_at, proofs.{BitsLemmas.blocks_for-above, CompareLemmas.value_in_view, PackedLemmas.replaced_packed, SearchLemmas.{finds_from_same, value_fits}}}
-use Rattle.bit_words.specs.Summary.{short_count}
+use Rattle.bit_words.{specs.Summary.short_count, proofs.bit_vec.BitVec.take_first_one.{Given.Over, Goals.Else-is_short}}
 use Rattle.bit_blocks.proofs.StorageLemmas.{values_of-set}
 use Rattle.bit_words.proofs.{SameCapacity.same_capacity, StartLemmas.{false_before_chunk, false_before_written, first_chunk, no_chunk, true_within}, SummaryLemmas.{keeps_all, keeps_none}}
-use Rattle.bit_words.proofs.bit_vec.BitVec.take_first_one.{Given.Over, Goals.Else-is_short}
 use Rattle.bit_words.proofs.bit_vec.BitVec.take_first_one.Goals as goal
 
 -- where the list is not short a summary is stored

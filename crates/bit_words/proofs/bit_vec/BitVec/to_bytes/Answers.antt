@@ -1,5 +1,4 @@
-use Rattle.std.proofs.{Common.{Result, Ok, Err, sym, ◌∙◌}}
-use Rattle.std.specs.Prelude.{IfOk}
+use Rattle.std.{proofs.Common.{Result, Ok, Err, sym, ◌∙◌}, specs.Prelude.IfOk}
 use Rattle.bit_blocks.proofs.{ByteLemmas.values_of_bytes_are, VectorLemmas.length_from_view}
 use Rattle.bit_words.proofs.bit_vec.BitVec.to_bytes.Goals as goal
 

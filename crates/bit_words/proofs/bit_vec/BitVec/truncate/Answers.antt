@@ -15,14 +15,6 @@ returns-clause-values g c =
 pub truncate_bits-requires : goal.truncate_bits-requires
 truncate_bits-requires g c = record { packed = c.self.invariant.packed; shorter = omega arith }
 
-pub cut_summary-requires-clause-packed : goal.cut_summary-requires-clause-packed
-cut_summary-requires-clause-packed g c = λ long.
-    let count : length c.self.inside.blocks.items ≡ c.len-count.result = omega arith in
-    rw (← count) (c.self.invariant.summary.long (omega (arith, long))).packed
-
-pub cut_summary-requires-clause-blocks : goal.cut_summary-requires-clause-blocks
-cut_summary-requires-clause-blocks g c = rw c.deref.ensures.value c.truncate_bits.ensures.packed.each
-
 pub invariant_of-self : goal.invariant_of-self
 invariant_of-self g c = record {
   packed = c.truncate_bits.ensures.packed;
@@ -36,18 +28,22 @@ invariant_of-self g c = record {
 pub returns-clause-capacity : goal.returns-clause-capacity
 returns-clause-capacity g c = same_capacity _ _ _ _ _ _ c.truncate_bits.ensures.capacity c.cut_summary.ensures.capacity (ap (λ v. v.capacity) c.self.view_is)
 
-pub cut_summary-requires-clause-shorter : goal.cut_summary-requires-clause-shorter
-cut_summary-requires-clause-shorter g c =
-    let le = blocks_for-le g.B.BitBlock.width c.args.n c.self.inside.len g.met.B.BitBlock.width_law.positive (omega arith) in
-    rw c.deref.ensures.value (omega (arith, le, c.truncate_bits.ensures.packed.count))
-
-pub cut_summary-requires-clause-before : goal.cut_summary-requires-clause-before
-cut_summary-requires-clause-before g c = λ long k.
-    let w = g.B.BitBlock.width in
-    let f = g.B.BitBlock.number in
-    rw c.deref.ensures.value (λ before.
-    (c.self.invariant.summary.long (omega (arith, long))).digit k
-    ∙ kept_use w c.args.n k (map f c.self.inside.blocks.items) (map f c.truncate_bits.new.blocks.items) g.met.B.BitBlock.width_law.positive
-    (numbers_below w f _ _ (λ x is. (g.met.B.BitBlock.number_law x is).0) c.self.invariant.packed.each k)
-    (numbers_below w f _ _ (λ x is. (g.met.B.BitBlock.number_law x is).0) c.truncate_bits.ensures.packed.each k) c.truncate_bits.ensures.kept
-    (omega (arith, before, c.truncate_bits.ensures.packed.count)))
+pub cut_summary-requires : goal.cut_summary-requires
+cut_summary-requires g c = record {
+  packed = λ long.
+      let count : length c.self.inside.blocks.items ≡ c.len-count.result = omega arith in
+      rw (← count) (c.self.invariant.summary.long (omega (arith, long))).packed;
+  blocks = rw c.deref.ensures.value c.truncate_bits.ensures.packed.each;
+  shorter =
+      let le = blocks_for-le g.B.BitBlock.width c.args.n c.self.inside.len g.met.B.BitBlock.width_law.positive (omega arith) in
+      rw c.deref.ensures.value (omega (arith, le, c.truncate_bits.ensures.packed.count));
+  before = λ long k.
+      let w = g.B.BitBlock.width in
+      let f = g.B.BitBlock.number in
+      rw c.deref.ensures.value (λ before.
+      (c.self.invariant.summary.long (omega (arith, long))).digit k
+      ∙ kept_use w c.args.n k (map f c.self.inside.blocks.items) (map f c.truncate_bits.new.blocks.items) g.met.B.BitBlock.width_law.positive
+      (numbers_below w f _ _ (λ x is. (g.met.B.BitBlock.number_law x is).0) c.self.invariant.packed.each k)
+      (numbers_below w f _ _ (λ x is. (g.met.B.BitBlock.number_law x is).0) c.truncate_bits.ensures.packed.each k) c.truncate_bits.ensures.kept
+      (omega (arith, before, c.truncate_bits.ensures.packed.count)));
+}

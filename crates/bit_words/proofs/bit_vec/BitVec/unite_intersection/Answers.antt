@@ -1,52 +1,29 @@
-use Rattle.std.proofs.{Common.{◌≡◌, ◌≤◌, ◌∙◌, sym, ap, ap₂, ◌++◌, map, drop, length, take, arith}, lemmas.List.take_at}
+use Rattle.std.proofs.{Common.{◌≡◌, refl, ap, ◌++◌, drop, length, take, arith}, lemmas.List.take_at}
 use Rattle.bit_blocks.specs.{declared.block.merge.Merge.TheVariants.{Intersection, Union}, Merges.merge_of}
-use Rattle.bit_blocks.specs.{BlockMerges.{both_at, HasMerged}, Storage.IsPacked}
-use Rattle.bit_blocks.proofs.{BitsLemmas.blocks_for-le, BlockMergeLemmas.kept_lists}
-use Rattle.bit_blocks.proofs.VectorLemmas.{no_longer_from_views, numbers_below}
 use Rattle.bit_words.proofs.bit_vec.BitVec.unite_intersection.{Given.Over, Goals.After-unite_common}
-use Rattle.bit_words.proofs.FusedLemmas.{lists_with_common, packed_with_common, values_with_common}
-use Rattle.bit_words.proofs.StartLemmas.{false_before_none}
+use Rattle.bit_words.proofs.{FusedLemmas.{Holds, fewer_blocks, holds_merged_within, kept_values}, StartLemmas.false_before_none}
 use Rattle.bit_words.proofs.bit_vec.BitVec.unite_intersection.Goals as goal
 
--- the others are no more blocks
-fewer : (g : Over) (c : After-unite_common g) → length c.other.inside.blocks.items ≤ length c.self.inside.blocks.items
-fewer g c =
-    let shorter = no_longer_from_views _ _ _ _ _ _ _ _ _ c.self.view_is c.other.view_is c.requires in
-    let le = blocks_for-le g.B.BitBlock.width c.other.inside.len c.self.inside.len g.met.B.BitBlock.width_law.positive shorter in
-    omega (arith, le, c.self.invariant.packed.count, c.other.invariant.packed.count)
+pub unite_common-requires : goal.unite_common-requires
+unite_common-requires g c = record {
+  can =
+      let fewer = fewer_blocks g.met.B.BitBlock.width_law.positive c.self.invariant.packed c.other.invariant.packed c.self.view_is c.other.view_is c.requires in
+      rw (c.as_mut_slice.ensures.value, c.deref.ensures.value, c.deref-3.ensures.value) (record {
+        fewer = omega (arith, fewer);
+        each = c.self.invariant.packed.each;
+        others = (c.other.invariant.packed.each, c.also.invariant.packed.each);
+      });
+  summary = rw (c.as_mut_slice.ensures.value, c.as_mut_slice-2.ensures.value) c.self.invariant.summary;
+  first_summary = rw (c.deref.ensures.value, c.deref-2.ensures.value) c.other.invariant.summary;
+  second_summary = rw (c.deref-3.ensures.value, c.deref-4.ensures.value) c.also.invariant.summary;
+}
 
 -- what the blocks became
-merged : (g : Over) (c : After-unite_common g)
-    → HasMerged Union g.B.BitBlock.width g.B.BitBlock.number g.B.BitBlock.is_block 0 (length c.self.inside.blocks.items)
-    (both_at (map g.B.BitBlock.number c.other.inside.blocks.items)
-    (map g.B.BitBlock.number c.also.inside.blocks.items)) c.self.inside.blocks.items c.unite_common.new.blocks
-merged g c = rw (c.as_mut_slice.ensures.value, c.deref.ensures.value, c.deref-3.ensures.value) at c.unite_common.ensures.has
-
-packed : (g : Over) (c : After-unite_common g) → IsPacked g.B.BitBlock.width g.B.BitBlock.number g.B.BitBlock.is_block c.unite_common.new.blocks c.self.inside.len
-packed g c =
-    packed_with_common _ _ _ _ c.other.inside.blocks.items _
-    (map g.B.BitBlock.number c.also.inside.blocks.items) Union _ c.other.inside.len g.met.B.BitBlock.width_law.positive
-    (fewer g c) (no_longer_from_views _ _ _ _ _ _ _ _ _ c.self.view_is c.other.view_is c.requires) c.self.invariant.packed
-    c.other.invariant.packed.tail (merged g c)
-
-pub unite_common-requires-clause-can : goal.unite_common-requires-clause-can
-unite_common-requires-clause-can g c =
-    let le = blocks_for-le g.B.BitBlock.width c.other.inside.len c.self.inside.len g.met.B.BitBlock.width_law.positive
-    (no_longer_from_views _ _ _ _ _ _ _ _ _ c.self.view_is c.other.view_is c.requires) in
-    rw (c.as_mut_slice.ensures.value, c.deref.ensures.value, c.deref-3.ensures.value) (record {
-      fewer = omega (arith, le, c.self.invariant.packed.count, c.other.invariant.packed.count);
-      each = c.self.invariant.packed.each;
-      others = (c.other.invariant.packed.each, c.also.invariant.packed.each);
-    })
-
-pub unite_common-requires-clause-summary : goal.unite_common-requires-clause-summary
-unite_common-requires-clause-summary g c = rw (c.as_mut_slice.ensures.value, c.as_mut_slice-2.ensures.value) c.self.invariant.summary
-
-pub unite_common-requires-clause-first_summary : goal.unite_common-requires-clause-first_summary
-unite_common-requires-clause-first_summary g c = rw (c.deref.ensures.value, c.deref-2.ensures.value) c.other.invariant.summary
-
-pub unite_common-requires-clause-second_summary : goal.unite_common-requires-clause-second_summary
-unite_common-requires-clause-second_summary g c = rw (c.deref-3.ensures.value, c.deref-4.ensures.value) c.also.invariant.summary
+made : (g : Over) (c : After-unite_common g) → Holds g.B.BitBlock.width g.B.BitBlock.number g.B.BitBlock.is_block c.unite_common.new.blocks c.self.inside.len
+    (merge_of Union c.args.self.now.values (merge_of Intersection c.args.other.now.values (take (length c.args.other.now.values) c.args.also.now.values)))
+made g c =
+    holds_merged_within g.met.B.BitBlock.width_law.positive c.self.invariant.packed c.other.invariant.packed c.self.view_is c.other.view_is c.requires
+    c.also.invariant.packed c.also.view_is _ Union Intersection (λ b. refl) (rw (c.as_mut_slice.ensures.value, c.deref.ensures.value, c.deref-3.ensures.value) at c.unite_common.ensures.has)
 
 pub invariant_of-self : goal.invariant_of-self
 invariant_of-self g c =
@@ -56,38 +33,16 @@ invariant_of-self g c =
     let old_summary = c.self.inside.summary in
     let back : take old.len (ys ++ drop (length ys) old.items) ≡ ys = take_at ys _ old.len (omega arith) in
     let back_summary : take old_summary.len (summary ++ drop (length summary) old_summary.items) ≡ summary = take_at summary _ old_summary.len (omega arith) in
-    rw (back, back_summary) (record { packed = packed g (goal.at.invariant_of-self g c).After-unite_common; summary = c.unite_common.ensures.summary; start = λ _. false_before_none _ _ })
+    rw (back, back_summary) (record { packed = (made g (goal.at.invariant_of-self g c).After-unite_common).packed; summary = c.unite_common.ensures.summary; start = λ _. false_before_none _ _ })
 
-pub returns-clause-values : goal.returns-clause-values
-returns-clause-values g c =
-    let here = (goal.at.returns-clause-values g c).After-unite_common in
+pub returns : goal.returns
+returns g c =
     let ys = c.unite_common.new.blocks in
     let old = c.self.inside.blocks in
     let back : take old.len (ys ++ drop (length ys) old.items) ≡ ys = take_at ys _ old.len (omega arith) in
-    let shorter = no_longer_from_views _ _ _ _ _ _ _ _ _ c.self.view_is c.other.view_is c.requires in
-    let pos = g.met.B.BitBlock.width_law.positive in
-    rw back
-    (lists_with_common Union _ _ _ _ _ _ _ c.also.inside.len shorter c.self.invariant.packed.tail
-    c.other.invariant.packed.tail c.also.invariant.packed.tail
-    (values_with_common _ _ _ old.items c.other.inside.blocks.items ys _ Union pos (fewer g here) (merged g here))
-    ∙ ap₂ (λ v u. merge_of Union v.values u) c.self.view_is
-    (ap₂ (λ v u. merge_of Intersection v.values (take (length v.values) u.values)) c.other.view_is c.also.view_is))
-
-pub returns-clause-kept : goal.returns-clause-kept
-returns-clause-kept g c =
-    let here = (goal.at.returns-clause-kept g c).After-unite_common in
-    let w = g.B.BitBlock.width in
-    let f = g.B.BitBlock.number in
-    let ys = c.unite_common.new.blocks in
-    let old = c.self.inside.blocks in
-    let back : take old.len (ys ++ drop (length ys) old.items) ≡ ys = take_at ys _ old.len (omega arith) in
-    let new = packed g here in
-    let kept = rw c.as_mut_slice.ensures.value at c.unite_common.ensures.kept in
-    let lists = kept_lists w (map f old.items) (map f ys) c.self.inside.len
-    (numbers_below w f _ old.items (λ x is. (g.met.B.BitBlock.number_law x is).0) c.self.invariant.packed.each)
-    (numbers_below w f _ ys (λ x is. (g.met.B.BitBlock.number_law x is).0) new.each) c.self.invariant.packed.tail new.tail in
-    let view = ap (λ v. v.values) c.self.view_is in
-    rw back (λ no. lists.0 (kept.0 no) ∙ view, λ same. kept.1 (lists.1 (same ∙ sym view)))
-
-pub returns-clause-capacity : goal.returns-clause-capacity
-returns-clause-capacity g c = ap (λ v. v.capacity) c.self.view_is
+    let now = made g (goal.at.returns g c).After-unite_common in
+    rw back (record {
+      values = now.same;
+      kept = kept_values (λ x is. (g.met.B.BitBlock.number_law x is).0) c.self.invariant.packed c.self.view_is now.packed (rw c.as_mut_slice.ensures.value at c.unite_common.ensures.kept);
+      capacity = ap (λ v. v.capacity) c.self.view_is;
+    })

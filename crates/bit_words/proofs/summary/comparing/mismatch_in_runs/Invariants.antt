@@ -6,7 +6,7 @@ abbrev pub invariant-loop-q : goal.invariant-loop-q
 invariant-loop-q g l =
     let number = g.B.BitBlock.number in
     record {
-      within : l.q ≤ length l.summary;
+      from : l.first ≤ l.q;
       same : (k : ℕ) → k < l.q * g.B.BitBlock.width → get_or (map number l.blocks) k 0 ≡ get_or (map number l.others) k 0;
     }
 

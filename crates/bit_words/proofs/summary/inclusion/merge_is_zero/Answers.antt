@@ -1,11 +1,11 @@
-use Rattle.std.proofs.{Common.{◌+◌, ◌*◌, ◌≤◌, ap, length, map, max, refl, arith, mul-le-mul_right}, lemmas.{Bool.false≢true, List.length-map}}
-use Rattle.bit_blocks.{specs.Bits.blocks_for, proofs.BitsLemmas.blocks_for-enough}
+use Rattle.std.proofs.{Common.{◌+◌, ◌*◌, ◌≤◌, length, map, max, refl, arith, mul-le-mul_right}, lemmas.Bool.false≢true}
+use Rattle.bit_blocks.{specs.Bits.blocks_for, proofs.BitsLemmas.{blocks_for-enough, blocks_for-le}}
 use Rattle.bit_words.proofs.MergedOnesLemmas.{false_where_none, merged_parts, merged_zero, none_where_false}
 use Rattle.bit_words.proofs.summary.inclusion.merge_is_zero.Goals as goal
 
 pub ones_at_chunk-requires-clause-in_blocks : goal.ones_at_chunk-requires-clause-in_blocks
 ones_at_chunk-requires-clause-in_blocks g c =
-    let most = ap (blocks_for g.B.BitBlock.width) c.max-most.ensures in
+    let most = blocks_for-le g.B.BitBlock.width c.merged_len.result (max (length c.args.blocks.now) (length c.args.others.now)) g.met.B.BitBlock.width_law.positive c.merged_len.ensures.within in
     omega (arith, most, c.block_count-q-end.ensures)
 
 pub returns-then-ones_at_chunk-ne0 : goal.returns-then-ones_at_chunk-ne0
@@ -29,12 +29,11 @@ pub returns : goal.returns
 returns g c =
     let w = g.B.BitBlock.width in
     let pos = g.met.B.BitBlock.width_law.positive in
-    let xs = c.args.blocks.now in
-    let os = c.args.others.now in
-    let all : blocks_for w c.max-most.result ≤ c.loop-q.q = omega (arith, c.block_count-q-end.ensures) in
-    let end : max (length xs) (length os) ≤ c.loop-q.q * w = omega (arith, blocks_for-enough w c.max-most.result pos, mul-le-mul_right w all, c.max-most.ensures) in (
+    let end = c.loop-q.q * w in
+    let all : blocks_for w c.merged_len.result ≤ c.loop-q.q = omega (arith, c.block_count-q-end.ensures) in
+    let past : c.merged_len.result ≤ end = omega (arith, blocks_for-enough w c.merged_len.result pos, mul-le-mul_right w all) in (
       λ _. false_where_none _ _ _ _ pos (λ n.
-          merged_zero g.O.Operation.merge w (map g.B.BitBlock.number xs) (map g.B.BitBlock.number os) (c.loop-q.q * w) n pos (rw length-map (omega (arith, end)))
-          (rw length-map (omega (arith, end))) c.loop-q.invariant),
+          merged_zero g.O.Operation.merge w (map g.B.BitBlock.number c.args.blocks.now) (map g.B.BitBlock.number c.args.others.now) end n c.loop-q.invariant
+          (c.merged_len.ensures.past end (n + end) past)),
       λ _. refl,
     )

@@ -1,7 +1,6 @@
 use Rattle.std.proofs.{Common.{◌≡◌, ℕ, ◌+◌, ◌*◌, ◌<◌, ◌≤◌, ◌∙◌, false, map, length, sym, ap, arith}, lemmas.List.length-map}
 use Rattle.bit_blocks.{specs.{Digits.is_one, Storage.is_used}, proofs.{StorageLemmas.value_at-index, UseLemmas.{used_from_true, used_past}}}
-use Rattle.bit_words.proofs.TouchedLemmas.{true_unless}
-use Rattle.bit_words.proofs.summary.merges.touched_at.{Given.Over, Goals.After-touched_by}
+use Rattle.bit_words.proofs.{TouchedLemmas.true_unless, summary.merges.touched_at.{Given.Over, Goals.After-touched_by}}
 use Rattle.bit_words.proofs.summary.merges.touched_at.Goals as goal
 
 -- what the block of the summary says

@@ -1,6 +1,5 @@
 use Rattle.std.proofs.Common.{◌+◌, ◌*◌, ◌≤◌, length, map, get_or, get_or-drop, count_ones, sym, ap, ◌∙◌, arith, mul-le-mul_right}
-use Rattle.std.proofs.lemmas.List.{drop-map, take_all, Elements.{All-same, All-take, All-drop}}
-use Rattle.std.proofs.lemmas.List.Sums.{sum_by-take-le}
+use Rattle.std.proofs.lemmas.List.{drop-map, take_all, Elements.{All-same, All-take, All-drop}, Sums.sum_by-take-le}
 use Rattle.bit_blocks.{specs.Storage.ones_in, proofs.CountLemmas.{chunks_counted, chunks_none}}
 use Rattle.bit_words.proofs.summary.queries.ones_of_runs.Goals as goal
 

@@ -1,9 +1,8 @@
 use Rattle.std.proofs.Common.{◌≡◌, ℕ, ◌<◌, ◌≤◌, ◌-◌, ◌*◌, ◌/◌, true, length, map, vec_len, sym, ap, ◌∙◌, arith, div-lt_iff_lt-mul}
 use Rattle.bit_blocks.specs.{Bits.blocks_for, Merges.merge_of_values}
-use Rattle.bit_words.specs.Summary.{short_count}
+use Rattle.bit_words.{specs.Summary.short_count, proofs.summary.spans.fill_span.{Given.Over, Goals.After-merge_span}}
 use Rattle.bit_blocks.proofs.{ChangeLemmas.div_le, VectorLemmas.numbers_below}
 use Rattle.bit_words.proofs.{SummaryLemmas.{keeps_all, keeps_none, stored_each, stored_enough, summary_of_digits}, SummarySpanLemmas.{ends_written, filled_use, in_chunks}}
-use Rattle.bit_words.proofs.summary.spans.fill_span.{Given.Over, Goals.After-merge_span}
 use Rattle.bit_words.proofs.summary.spans.fill_span.Goals as goal
 
 pub returns-then-is_short-clause-span : goal.returns-then-is_short-clause-span
@@ -37,41 +36,6 @@ merge_span-requires-clause-within g c =
 pub merge_span-requires-clause-each : goal.merge_span-requires-clause-each
 merge_span-requires-clause-each g c = stored_each _ _ _ _ _ c.requires.summary
 
-pub update_summary_at-requires-clause-in_bounds : goal.update_summary_at-requires-clause-in_bounds
-update_summary_at-requires-clause-in_bounds g c =
-    rw (c.deref-2.ensures.value, c.block_index-first.ensures)
-    (in_list g.B.BitBlock.width c.args.start c.args.end
-    (vec_len c.args.blocks.now) _ g.met.B.BitBlock.width_law.positive c.requires.some
-    c.requires.within (omega (arith, c.merge_long_span.ensures.in_place.len)))
-
-pub update_summary_at-requires-clause-each : goal.update_summary_at-requires-clause-each
-update_summary_at-requires-clause-each g c = c.merge_span.ensures.in_place.each
-
-pub update_summary_at-requires-clause-blocks : goal.update_summary_at-requires-clause-blocks
-update_summary_at-requires-clause-blocks g c = rw c.deref-2.ensures.value c.merge_long_span.ensures.in_place.each
-
-pub update_summary_at-requires-2-clause-in_bounds : goal.update_summary_at-requires-2-clause-in_bounds
-update_summary_at-requires-2-clause-in_bounds g c =
-    rw (c.deref-3.ensures.value, c.block_index-last.ensures)
-    (in_list g.B.BitBlock.width (c.args.end - 1) c.args.end (vec_len c.args.blocks.now) _ g.met.B.BitBlock.width_law.positive
-    (omega arith) c.requires.within (omega (arith, c.merge_long_span.ensures.in_place.len)))
-
-pub update_summary_at-requires-2-clause-each : goal.update_summary_at-requires-2-clause-each
-update_summary_at-requires-2-clause-each g c = c.update_summary_at.ensures.in_place.each
-
-pub update_summary_at-requires-2-clause-blocks : goal.update_summary_at-requires-2-clause-blocks
-update_summary_at-requires-2-clause-blocks g c = rw c.deref-3.ensures.value c.merge_long_span.ensures.in_place.each
-
-pub returns-clause-span : goal.returns-clause-span
-returns-clause-span g c = c.merge_long_span.ensures.span
-
-pub returns-clause-in_place : goal.returns-clause-in_place
-returns-clause-in_place g c = c.merge_long_span.ensures.in_place
-
-pub returns-clause-capacity : goal.returns-clause-capacity
-returns-clause-capacity g c =
-    c.update_summary_at-2.ensures.in_place.capacity ∙ c.update_summary_at.ensures.in_place.capacity ∙ c.merge_span.ensures.in_place.capacity
-
 -- where the list is not short a summary is stored, and each block of the span has its bit there
 many : (g : Over) (c : After-merge_span g) → short_count g.B.BitBlock.width < length c.args.blocks.now.items
 many g c = let long = c.is_short.ensures.long c.if-is_short.false in omega (arith, long, c.merge_long_span.ensures.in_place.len)
@@ -83,35 +47,58 @@ in_summary g c i below =
     let within : i < length c.args.blocks.now.items * w = rw (← c.args.blocks.now.ok.0) (omega arith) in
     in_chunks w (i / w) _ _ c.args.blocks.now.items _ pos (c.requires.summary.long (many g c)) ((div-lt_iff_lt-mul pos).1 within)
 
-pub update_summary_at-requires-clause-in_summary : goal.update_summary_at-requires-clause-in_summary
-update_summary_at-requires-clause-in_summary g c =
-    rw c.block_index-first.ensures
-    (omega (arith, c.merge_span.ensures.in_place.len, in_summary g (goal.at.update_summary_at-requires-clause-in_summary g c).After-merge_span c.args.start c.requires.some))
+pub update_summary_at-requires : goal.update_summary_at-requires
+update_summary_at-requires g c = record {
+  in_bounds =
+      rw (c.deref-2.ensures.value, c.block_index-first.ensures)
+      (in_list g.B.BitBlock.width c.args.start c.args.end
+      (vec_len c.args.blocks.now) _ g.met.B.BitBlock.width_law.positive c.requires.some
+      c.requires.within (omega (arith, c.merge_long_span.ensures.in_place.len)));
+  in_summary =
+      rw c.block_index-first.ensures
+      (omega (arith, c.merge_span.ensures.in_place.len, in_summary g (goal.at.update_summary_at-requires g c).After-merge_span c.args.start c.requires.some));
+  each = c.merge_span.ensures.in_place.each;
+  blocks = rw c.deref-2.ensures.value c.merge_long_span.ensures.in_place.each;
+}
 
-pub update_summary_at-requires-2-clause-in_summary : goal.update_summary_at-requires-2-clause-in_summary
-update_summary_at-requires-2-clause-in_summary g c =
-    rw c.block_index-last.ensures
-    (omega (arith, c.merge_span.ensures.in_place.len, c.update_summary_at.ensures.in_place.len, in_summary g (goal.at.update_summary_at-requires-2-clause-in_summary g c).After-merge_span (c.args.end - 1) (omega arith)))
+pub update_summary_at-requires-2 : goal.update_summary_at-requires-2
+update_summary_at-requires-2 g c = record {
+  in_bounds =
+      rw (c.deref-3.ensures.value, c.block_index-last.ensures)
+      (in_list g.B.BitBlock.width (c.args.end - 1) c.args.end (vec_len c.args.blocks.now) _ g.met.B.BitBlock.width_law.positive
+      (omega arith) c.requires.within (omega (arith, c.merge_long_span.ensures.in_place.len)));
+  in_summary =
+      rw c.block_index-last.ensures
+      (omega (arith, c.merge_span.ensures.in_place.len, c.update_summary_at.ensures.in_place.len, in_summary g (goal.at.update_summary_at-requires-2 g c).After-merge_span (c.args.end - 1) (omega arith)));
+  each = c.update_summary_at.ensures.in_place.each;
+  blocks = rw c.deref-3.ensures.value c.merge_long_span.ensures.in_place.each;
+}
 
-pub returns-clause-summary : goal.returns-clause-summary
-returns-clause-summary g c =
-    let m = g.O.Operation.merge in
-    let w = g.B.BitBlock.width in
-    let f = g.B.BitBlock.number in
-    let P = g.B.BitBlock.is_block in
-    let long = many g (goal.at.returns-clause-summary g c).After-merge_span in
-    let said = c.requires.summary.long long in
-    let olds = c.args.blocks.now.items in
-    let news = c.merge_long_span.new.blocks.items in
-    let size : length olds ≡ length news = omega (arith, c.merge_long_span.ensures.in_place.len) in
-    keeps_all w f P news _ (omega (arith, long, c.merge_long_span.ensures.in_place.len)) (
-    summary_of_digits w f P news _ c.update_summary_at-2.ensures.in_place.each
-    (omega (arith, said.packed.count ∙ ap (blocks_for w) size, c.merge_span.ensures.in_place.len, c.update_summary_at.ensures.in_place.len, c.update_summary_at-2.ensures.in_place.len))
-    (omega (arith, said.packed.fits, c.merge_long_span.ensures.in_place.len))
-    (ends_written w c.block_index-first.result c.block_index-last.result (map f news) _ _ _
-    (filled_use m w c.args.start c.args.end _ _ (map f olds) (map f news) (map f c.args.summary.now.items) _ (merge_of_values m true true) g.met.B.BitBlock.width_law.positive
-    (numbers_below w f P olds (λ x is. (g.met.B.BitBlock.number_law x is).0) c.requires.each)
-    (numbers_below w f P news (λ x is. (g.met.B.BitBlock.number_law x is).0) c.merge_long_span.ensures.in_place.each)
-    c.block_index-first.ensures c.block_index-last.ensures c.requires.fills c.merge_long_span.ensures.span said.digit c.merge_span.ensures.span)
-    (rw c.deref-2.ensures.value at c.update_summary_at.ensures.value)
-    (rw c.deref-3.ensures.value at c.update_summary_at-2.ensures.value)))
+pub returns : goal.returns
+returns g c = record {
+  span = c.merge_long_span.ensures.span;
+  in_place = c.merge_long_span.ensures.in_place;
+  summary =
+      let m = g.O.Operation.merge in
+      let w = g.B.BitBlock.width in
+      let f = g.B.BitBlock.number in
+      let P = g.B.BitBlock.is_block in
+      let long = many g (goal.at.returns g c).After-merge_span in
+      let said = c.requires.summary.long long in
+      let olds = c.args.blocks.now.items in
+      let news = c.merge_long_span.new.blocks.items in
+      let size : length olds ≡ length news = omega (arith, c.merge_long_span.ensures.in_place.len) in
+      keeps_all w f P news _ (omega (arith, long, c.merge_long_span.ensures.in_place.len)) (
+      summary_of_digits w f P news _ c.update_summary_at-2.ensures.in_place.each
+      (omega (arith, said.packed.count ∙ ap (blocks_for w) size, c.merge_span.ensures.in_place.len, c.update_summary_at.ensures.in_place.len, c.update_summary_at-2.ensures.in_place.len))
+      (omega (arith, said.packed.fits, c.merge_long_span.ensures.in_place.len))
+      (ends_written w c.block_index-first.result c.block_index-last.result (map f news) _ _ _
+      (filled_use m w c.args.start c.args.end _ _ (map f olds) (map f news) (map f c.args.summary.now.items) _ (merge_of_values m true true) g.met.B.BitBlock.width_law.positive
+      (numbers_below w f P olds (λ x is. (g.met.B.BitBlock.number_law x is).0) c.requires.each)
+      (numbers_below w f P news (λ x is. (g.met.B.BitBlock.number_law x is).0) c.merge_long_span.ensures.in_place.each)
+      c.block_index-first.ensures c.block_index-last.ensures c.requires.fills c.merge_long_span.ensures.span said.digit c.merge_span.ensures.span)
+      (rw c.deref-2.ensures.value at c.update_summary_at.ensures.value)
+      (rw c.deref-3.ensures.value at c.update_summary_at-2.ensures.value)));
+  capacity =
+      c.update_summary_at-2.ensures.in_place.capacity ∙ c.update_summary_at.ensures.in_place.capacity ∙ c.merge_span.ensures.in_place.capacity;
+}

@@ -1,7 +1,6 @@
 use Rattle.std.proofs.Common.{◌≡◌, ◌<◌, ◌≤◌, ◌-◌, ◌*◌, length, map, vec_len, arith, ap, ◌∙◌, div-lt_iff_lt-mul}
-use Rattle.bit_blocks.specs.Bits.{blocks_for}
+use Rattle.bit_blocks.{specs.Bits.blocks_for, proofs.{ChangeLemmas.div_le, VectorLemmas.numbers_below}}
 use Rattle.bit_words.specs.Summary.{short_count}
-use Rattle.bit_blocks.proofs.{ChangeLemmas.div_le, VectorLemmas.numbers_below}
 use Rattle.bit_words.proofs.{SummaryLemmas.{keeps_all, keeps_none, stored_each, stored_enough, summary_of_digits}, SummarySpanLemmas.anew_use}
 use Rattle.bit_words.proofs.summary.spans.negate_span.{Given.Over, Goals.After-block_index-last}
 use Rattle.bit_words.proofs.summary.spans.negate_span.Goals as goal
@@ -31,38 +30,11 @@ summarize_span-requires-clause-in_summary g c =
     (stored_enough g.B.BitBlock.width _ _ _ _ g.met.B.BitBlock.width_law.positive c.requires.summary (many g at)) in
     omega (arith, enough, in_list g at)
 
-pub returns-clause-summary : goal.returns-clause-summary
-returns-clause-summary g c =
-    let w = g.B.BitBlock.width in
-    let f = g.B.BitBlock.number in
-    let P = g.B.BitBlock.is_block in
-    let long = many g (goal.at.returns-clause-summary g c).After-block_index-last in
-    let said = c.requires.summary.long long in
-    let olds = c.args.blocks.now.items in
-    let news = c.merge_span.new.blocks.items in
-    let size : length olds ≡ length news = omega (arith, c.merge_span.ensures.in_place.len) in
-    let made = c.summarize_span.ensures in
-    keeps_all w f P news _ (omega (arith, long, c.merge_span.ensures.in_place.len)) (
-    summary_of_digits w f P news _ made.in_place.each
-    (omega (arith, said.packed.count ∙ ap (blocks_for w) size, made.in_place.len))
-    (omega (arith, said.packed.fits, c.merge_span.ensures.in_place.len))
-    (anew_use _ w c.args.start c.args.end _ _ (map f olds) (map f news) (map f c.args.summary.now.items) _ g.met.B.BitBlock.width_law.positive
-    (numbers_below w f P olds (λ x is. (g.met.B.BitBlock.number_law x is).0) c.requires.each)
-    (numbers_below w f P news (λ x is. (g.met.B.BitBlock.number_law x is).0) c.merge_span.ensures.in_place.each)
-    c.block_index-first.ensures c.block_index-last.ensures
-    c.merge_span.ensures.span said.digit (rw c.deref.ensures.value at made.made) made.before made.after))
-
 pub returns-then-is_short-clause-span : goal.returns-then-is_short-clause-span
 returns-then-is_short-clause-span g c = c.merge_span.ensures.span
 
 pub returns-then-is_short-clause-in_place : goal.returns-then-is_short-clause-in_place
 returns-then-is_short-clause-in_place g c = c.merge_span.ensures.in_place
-
-pub returns-clause-span : goal.returns-clause-span
-returns-clause-span g c = c.merge_span.ensures.span
-
-pub returns-clause-in_place : goal.returns-clause-in_place
-returns-clause-in_place g c = c.merge_span.ensures.in_place
 
 pub returns-then-is_short-clause-summary : goal.returns-then-is_short-clause-summary
 returns-then-is_short-clause-summary g c =
@@ -75,5 +47,28 @@ summarize_span-requires-clause-each g c = stored_each _ _ _ _ _ c.requires.summa
 pub summarize_span-requires-clause-blocks : goal.summarize_span-requires-clause-blocks
 summarize_span-requires-clause-blocks g c = rw c.deref.ensures.value c.merge_span.ensures.in_place.each
 
-pub returns-clause-capacity : goal.returns-clause-capacity
-returns-clause-capacity g c = c.summarize_span.ensures.in_place.capacity
+pub returns : goal.returns
+returns g c = record {
+  span = c.merge_span.ensures.span;
+  in_place = c.merge_span.ensures.in_place;
+  summary =
+      let w = g.B.BitBlock.width in
+      let f = g.B.BitBlock.number in
+      let P = g.B.BitBlock.is_block in
+      let long = many g (goal.at.returns g c).After-block_index-last in
+      let said = c.requires.summary.long long in
+      let olds = c.args.blocks.now.items in
+      let news = c.merge_span.new.blocks.items in
+      let size : length olds ≡ length news = omega (arith, c.merge_span.ensures.in_place.len) in
+      let made = c.summarize_span.ensures in
+      keeps_all w f P news _ (omega (arith, long, c.merge_span.ensures.in_place.len)) (
+      summary_of_digits w f P news _ made.in_place.each
+      (omega (arith, said.packed.count ∙ ap (blocks_for w) size, made.in_place.len))
+      (omega (arith, said.packed.fits, c.merge_span.ensures.in_place.len))
+      (anew_use _ w c.args.start c.args.end _ _ (map f olds) (map f news) (map f c.args.summary.now.items) _ g.met.B.BitBlock.width_law.positive
+      (numbers_below w f P olds (λ x is. (g.met.B.BitBlock.number_law x is).0) c.requires.each)
+      (numbers_below w f P news (λ x is. (g.met.B.BitBlock.number_law x is).0) c.merge_span.ensures.in_place.each)
+      c.block_index-first.ensures c.block_index-last.ensures
+      c.merge_span.ensures.span said.digit (rw c.deref.ensures.value at made.made) made.before made.after));
+  capacity = c.summarize_span.ensures.in_place.capacity;
+}

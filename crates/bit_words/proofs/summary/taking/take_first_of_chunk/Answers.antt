@@ -39,20 +39,16 @@ inside g c =
     let k : ℕ = c.args.chunk * c.bits.result + c.take_lowest_one.result in
     grind (arith, (block g c).passes, used_past (map g.B.BitBlock.number c.args.blocks.now.items) k, length-map)
 
-pub take_first_of_block-i-requires-clause-in_bounds : goal.take_first_of_block-i-requires-clause-in_bounds
-take_first_of_block-i-requires-clause-in_bounds g c = let here = inside g (goal.at.take_first_of_block-i-requires-clause-in_bounds g c).After-take_lowest_one in omega (arith, here)
-
 pub overflow_add-k : goal.overflow_add-k
 overflow_add-k g c = omega (arith, inside g (goal.at.overflow_add-k g c).After-take_lowest_one, c.requires.summary.packed.fits)
 
-pub take_first_of_block-i-requires-clause-each : goal.take_first_of_block-i-requires-clause-each
-take_first_of_block-i-requires-clause-each g c = c.requires.each
-
-pub take_first_of_block-i-requires-clause-fits : goal.take_first_of_block-i-requires-clause-fits
-take_first_of_block-i-requires-clause-fits g c = c.requires.fits
-
-pub take_first_of_block-i-requires-clause-used : goal.take_first_of_block-i-requires-clause-used
-take_first_of_block-i-requires-clause-used g c = (block g (goal.at.take_first_of_block-i-requires-clause-used g c).After-take_lowest_one).passes
+pub take_first_of_block-i-requires : goal.take_first_of_block-i-requires
+take_first_of_block-i-requires g c = record {
+  in_bounds = let here = inside g (goal.at.take_first_of_block-i-requires g c).After-take_lowest_one in omega (arith, here);
+  each = c.requires.each;
+  used = (block g (goal.at.take_first_of_block-i-requires g c).After-take_lowest_one).passes;
+  fits = c.requires.fits;
+}
 
 pub put_block-requires-clause-in_bounds : goal.put_block-requires-clause-in_bounds
 put_block-requires-clause-in_bounds g c = omega (arith, there g.B.BitBlock.number c.args.summary.now.items c.args.chunk c.requires.first.here, c.args.summary.now.ok.0)
@@ -63,20 +59,6 @@ put_block-requires-clause-each g c = c.requires.summary.packed.each
 pub put_block-requires-clause-of_block : goal.put_block-requires-clause-of_block
 put_block-requires-clause-of_block g c =
     elim c.if-is_nonzero.branch [ then-is_nonzero w ↦ rw w.left-is c.block_at-used.ensures.of_block | else-is_nonzero w ↦ rw w.left-is c.take_lowest_one.ensures.of_block ]
-
-pub returns-clause-value : goal.returns-clause-value
-returns-clause-value g c = c.take_first_of_block-i.ensures.value
-
-pub returns-clause-in_place : goal.returns-clause-in_place
-returns-clause-in_place g c = c.take_first_of_block-i.ensures.in_place
-
-pub returns-clause-capacity : goal.returns-clause-capacity
-returns-clause-capacity g c = c.put_block.ensures.in_place.capacity
-
-pub returns-clause-first : goal.returns-clause-first
-returns-clause-first g c =
-    first_of_first g.B.BitBlock.width _ _ (map g.B.BitBlock.number c.args.blocks.now.items) g.met.B.BitBlock.width_law.positive
-    (block g (goal.at.returns-clause-first g c).After-take_lowest_one) c.take_first_of_block-i.ensures.first
 
 -- the bit of that block in the summary is left where the block is not 0 now
 left : (g : Over) (c : After-put_block g)
@@ -92,13 +74,21 @@ left g c =
     (elim c.if-is_nonzero.branch [ then-is_nonzero w ↦ λ one. ap f w.left-is | else-is_nonzero w ↦ λ one. absurd (true≢false (sym one ∙ w.if-is_nonzero.false)) ])
     (elim c.if-is_nonzero.branch [ then-is_nonzero w ↦ λ none. absurd (true≢false (sym w.if-is_nonzero.true ∙ none)) | else-is_nonzero w ↦ λ none. ap f w.left-is ])
 
-pub returns-clause-summary : goal.returns-clause-summary
-returns-clause-summary g c =
-    let at = goal.at.returns-clause-summary g c in
-    let taken = c.take_first_of_block-i.ensures in
-    let number = taken.of_number in
-    changed_summary g.B.BitBlock.width c.take_first_of_block-i.result.0 _ false c.is_nonzero.result g.B.BitBlock.number
-    g.B.BitBlock.is_block c.args.blocks.now c.take_first_of_block-i.new.blocks c.args.summary.now c.put_block.new.blocks
-    g.met.B.BitBlock.width_law.positive (λ x is. (g.met.B.BitBlock.number_law x is).0)
-    c.requires.each (sym taken.in_its_block) (inside g at.After-take_lowest_one) taken.value taken.in_place c.requires.summary (c.is_nonzero.ensures ∙ ap (λ m. not (m == 0)) number)
-    (left g at.After-put_block) c.put_block.ensures.in_place
+pub returns : goal.returns
+returns g c = record {
+  first =
+      first_of_first g.B.BitBlock.width _ _ (map g.B.BitBlock.number c.args.blocks.now.items) g.met.B.BitBlock.width_law.positive
+      (block g (goal.at.returns g c).After-take_lowest_one) c.take_first_of_block-i.ensures.first;
+  value = c.take_first_of_block-i.ensures.value;
+  in_place = c.take_first_of_block-i.ensures.in_place;
+  summary =
+      let at = goal.at.returns g c in
+      let taken = c.take_first_of_block-i.ensures in
+      let number = taken.of_number in
+      changed_summary g.B.BitBlock.width c.take_first_of_block-i.result.0 _ false c.is_nonzero.result g.B.BitBlock.number
+      g.B.BitBlock.is_block c.args.blocks.now c.take_first_of_block-i.new.blocks c.args.summary.now c.put_block.new.blocks
+      g.met.B.BitBlock.width_law.positive (λ x is. (g.met.B.BitBlock.number_law x is).0)
+      c.requires.each (sym taken.in_its_block) (inside g at.After-take_lowest_one) taken.value taken.in_place c.requires.summary (c.is_nonzero.ensures ∙ ap (λ m. not (m == 0)) number)
+      (left g at.After-put_block) c.put_block.ensures.in_place;
+  capacity = c.put_block.ensures.in_place.capacity;
+}

@@ -1,5 +1,4 @@
-use Rattle.std.proofs.Common.{◌≡◌, ◌+◌, ◌*◌, min, take}
-use Rattle.std.specs.List.{sum_by}
+use Rattle.std.{proofs.Common.{◌≡◌, ◌+◌, ◌*◌, min, take}, specs.List.sum_by}
 use Rattle.bit_blocks.specs.Storage.{ones_in}
 use Rattle.bit_words.proofs.bit_vec.nonzero.skipping.pull_chunk.Given as goal
 

@@ -1,5 +1,4 @@
-use Rattle.std.proofs.Common.{arith}
-use Rattle.std.proofs.lemmas.Bool.Decides.{nat_tests}
+use Rattle.std.proofs.{Common.arith, lemmas.Bool.Decides.nat_tests}
 use Rattle.bit_words.proofs.{LastLemmas.last_in_hand, NextAtLemmas.{first_most, next_at-zero}}
 use Rattle.bit_blocks.specs.Digits.{is_one}
 use Rattle.bit_words.proofs.bit_vec.pending.Pending.find_last.Goals as goal

@@ -1,5 +1,4 @@
-use Rattle.std.proofs.Common.{◌≡◌, ◌-◌, true, arith}
-use Rattle.std.proofs.lemmas.Bool.Decides.{nat_tests}
+use Rattle.std.proofs.{Common.{◌≡◌, ◌-◌, true, arith}, lemmas.Bool.Decides.nat_tests}
 use Rattle.bit_blocks.specs.Digits.{is_one}
 use Rattle.bit_words.proofs.{LastLemmas.first_reached, NextAtLemmas.first_most}
 use Rattle.bit_words.proofs.bit_vec.pending.Pending.may_have.Goals as goal

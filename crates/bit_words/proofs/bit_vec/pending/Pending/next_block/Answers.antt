@@ -1,8 +1,7 @@
 use Rattle.std.proofs.{Common.{◌≡◌, ℕ, ◌+◌, ◌-◌, ◌*◌, ◌<◌, ◌≤◌, ◌==◌, ◌∷◌, if◌then◌else◌, None, Some, refl, sym, ap, ◌∙◌, arith, ⊎_elim, mul-le-mul_right}, lemmas.Bool.cases_lt}
 use Rattle.std.proofs.lemmas.Bool.Decides.{nat_tests}
 use Rattle.bit_blocks.{specs.Bits.blocks_for, proofs.Masks.is_one-bit}
-use Rattle.bit_words.{specs.Pending.{IsPending, left_from, next_at}, proofs.NextAtLemmas.next_at-lowest}
-use Rattle.bit_words.proofs.NextAtLemmas.{next_at-zero}
+use Rattle.bit_words.{specs.Pending.{IsPending, left_from, next_at}, proofs.NextAtLemmas.{next_at-lowest, next_at-zero}}
 use Rattle.bit_words.proofs.PendingLemmas.{IsInHand-taken, IsInHand-zero, count_by, count_past, left-covered, left-ended, left-here, left-taken, stored_past, stored_some, zeros_passed}
 use Rattle.bit_words.proofs.bit_vec.pending.Pending.next_block.{Given.Over, Goals.After-bits}
 use Rattle.bit_words.proofs.bit_vec.pending.Pending.next_block.Goals as goal

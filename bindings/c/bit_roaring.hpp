@@ -1,0 +1,238 @@
+// Sets of 32-bit numbers for C++17, over bit_roaring.h: a class that owns its set and frees it. If memory runs out, a call
+// throws std::bad_alloc; bytes that are not those of a set throw std::invalid_argument, and a bit set with a member above
+// UINT32_MAX throws std::out_of_range. Nothing has changed then, except that `optimize` and `remove_runs` may have converted
+// some containers. If the compiler has no exceptions, these end the process. A call that has no method here is made as in C,
+// with `get()`.
+#ifndef BIT_ROARING_HPP
+#define BIT_ROARING_HPP
+
+#include "bit_roaring.h"
+#include "bit_set.hpp"
+
+#include <cstddef>
+#include <cstdint>
+#include <cstdlib>
+#include <initializer_list>
+#include <iterator>
+#include <new>
+#include <optional>
+#include <stdexcept>
+#include <utility>
+#include <vector>
+
+#ifdef __cpp_exceptions
+#define BIT_ROARING_THROW(exception) throw exception
+#else
+#define BIT_ROARING_THROW(exception) std::abort()
+#endif
+
+class BitRoaring {
+    bit_roaring *set_ = nullptr;
+
+    explicit BitRoaring(bit_roaring *set) : set_(set) {}
+
+    static void require(bool done) {
+        if (!done)
+            BIT_ROARING_THROW(std::bad_alloc());
+    }
+
+    // Whether the result of a call that fails only for memory is yes.
+    static bool answer(std::int32_t answer) {
+        require(answer >= 0);
+        return answer == BIT_ROARING_YES;
+    }
+
+    static std::uint64_t count(std::int64_t count) {
+        require(count >= 0);
+        return static_cast<std::uint64_t>(count);
+    }
+
+    static std::optional<std::uint32_t> found(std::uint64_t member) {
+        if (member == BIT_ROARING_NONE)
+            return std::nullopt;
+        return static_cast<std::uint32_t>(member);
+    }
+
+    template <typename Call> static BitRoaring made(Call call, const BitRoaring &a, const BitRoaring &b) {
+        bit_roaring *set = nullptr;
+        require(call(&set, a.set_, b.set_));
+        return BitRoaring(set);
+    }
+
+public:
+    // An iterator over the members in ascending order, from either end. It reads the set at each step, and the set may be
+    // changed meanwhile. It gives each member by value.
+    class const_iterator {
+        const bit_roaring *set_ = nullptr;
+        std::uint64_t member_ = BIT_ROARING_NONE;
+
+    public:
+        using iterator_category = std::bidirectional_iterator_tag;
+        using value_type = std::uint32_t;
+        using difference_type = std::ptrdiff_t;
+        using pointer = const std::uint32_t *;
+        using reference = std::uint32_t;
+
+        const_iterator() = default;
+        const_iterator(const bit_roaring *set, std::uint64_t member) : set_(set), member_(member) {}
+        std::uint32_t operator*() const { return static_cast<std::uint32_t>(member_); }
+        const_iterator &operator++() {
+            member_ = bit_roaring_next(set_, member_ + 1);
+            return *this;
+        }
+        const_iterator operator++(int) {
+            const_iterator before = *this;
+            ++*this;
+            return before;
+        }
+        const_iterator &operator--() {
+            member_ = bit_roaring_previous(set_, member_);
+            return *this;
+        }
+        const_iterator operator--(int) {
+            const_iterator before = *this;
+            --*this;
+            return before;
+        }
+        bool operator==(const const_iterator &other) const { return member_ == other.member_; }
+        bool operator!=(const const_iterator &other) const { return member_ != other.member_; }
+    };
+
+    using iterator = const_iterator;
+    using const_reverse_iterator = std::reverse_iterator<const_iterator>;
+    using reverse_iterator = const_reverse_iterator;
+    using value_type = std::uint32_t;
+
+    BitRoaring() { require(bit_roaring_new(&set_)); }
+    BitRoaring(std::initializer_list<std::uint32_t> members) : BitRoaring(members.begin(), members.end()) {}
+    template <typename Iterator> BitRoaring(Iterator first, Iterator last) : BitRoaring() {
+        for (; first != last; ++first)
+            insert(*first);
+    }
+    // The set of the members of a bit set.
+    explicit BitRoaring(const BitSet &bits) {
+        std::int32_t made = bit_set_to_roaring(&set_, bits.get());
+        if (made == BIT_SET_NO_ELEMENT)
+            BIT_ROARING_THROW(std::out_of_range("a member is above UINT32_MAX"));
+        require(made == BIT_SET_YES);
+    }
+    BitRoaring(const BitRoaring &other) { require(bit_roaring_clone(&set_, other.set_)); }
+    // A moved-from object may only be assigned to or destroyed.
+    BitRoaring(BitRoaring &&other) noexcept : set_(std::exchange(other.set_, nullptr)) {}
+    BitRoaring &operator=(BitRoaring other) noexcept {
+        std::swap(set_, other.set_);
+        return *this;
+    }
+    ~BitRoaring() { bit_roaring_free(set_); }
+
+    bit_roaring *get() { return set_; }
+    const bit_roaring *get() const { return set_; }
+
+    const_iterator begin() const { return {set_, bit_roaring_min(set_)}; }
+    const_iterator end() const { return {set_, BIT_ROARING_NONE}; }
+    const_reverse_iterator rbegin() const { return const_reverse_iterator(end()); }
+    const_reverse_iterator rend() const { return const_reverse_iterator(begin()); }
+
+    // Each returns whether that changed the set. `push` inserts only a number that is above each member.
+    bool insert(std::uint32_t value) { return answer(bit_roaring_insert(set_, value)); }
+    bool push(std::uint32_t value) { return answer(bit_roaring_push(set_, value)); }
+    bool erase(std::uint32_t value) { return answer(bit_roaring_remove(set_, value)); }
+
+    // Each returns how many numbers of the range were new, or present.
+    std::uint64_t insert_range(std::uint64_t start, std::uint64_t end) {
+        return count(bit_roaring_insert_range(set_, start, end));
+    }
+    std::uint64_t erase_range(std::uint64_t start, std::uint64_t end) {
+        return count(bit_roaring_remove_range(set_, start, end));
+    }
+    void clear() { bit_roaring_clear(set_); }
+
+    // Convert containers: to the form with the fewest bytes, or from runs. Each returns whether one changed.
+    bool optimize() { return answer(bit_roaring_optimize(set_)); }
+    bool remove_runs() { return answer(bit_roaring_remove_runs(set_)); }
+
+    bool contains(std::uint32_t value) const { return bit_roaring_contains(set_, value); }
+    bool contains_range(std::uint64_t start, std::uint64_t end) const {
+        return bit_roaring_contains_range(set_, start, end);
+    }
+    std::uint64_t range_cardinality(std::uint64_t start, std::uint64_t end) const {
+        return bit_roaring_range_cardinality(set_, start, end);
+    }
+    std::uint64_t size() const { return bit_roaring_len(set_); }
+    bool empty() const { return bit_roaring_is_empty(set_); }
+    std::optional<std::uint32_t> min() const { return found(bit_roaring_min(set_)); }
+    std::optional<std::uint32_t> max() const { return found(bit_roaring_max(set_)); }
+    // How many members are at most the value; and the member with exactly `n` others below it.
+    std::uint64_t rank(std::uint32_t value) const { return bit_roaring_rank(set_, value); }
+    std::optional<std::uint32_t> select(std::uint32_t n) const { return found(bit_roaring_select(set_, n)); }
+    bool is_subset(const BitRoaring &other) const { return bit_roaring_is_subset(set_, other.set_); }
+    bool is_disjoint(const BitRoaring &other) const { return bit_roaring_is_disjoint(set_, other.set_); }
+
+    // The bytes of the set in the portable form; the set that the first bytes represent, and in `used`, if it is given, how
+    // many bytes that are. The pointer must not be null, even if there are no bytes.
+    std::vector<std::uint8_t> serialize() const {
+        std::vector<std::uint8_t> bytes(bit_roaring_serialized_size(set_));
+        require(bit_roaring_serialize(set_, bytes.data(), bytes.size()) == BIT_ROARING_YES);
+        return bytes;
+    }
+    static BitRoaring deserialize(const std::uint8_t *bytes, std::size_t count, std::size_t *used = nullptr) {
+        bit_roaring *set = nullptr;
+        std::size_t taken = 0;
+        std::int32_t made = bit_roaring_deserialize(&set, bytes, count, &taken);
+        if (made < BIT_ROARING_NO_MEMORY)
+            BIT_ROARING_THROW(std::invalid_argument("the bytes are not those of a set"));
+        require(made == BIT_ROARING_YES);
+        if (used != nullptr)
+            *used = taken;
+        return BitRoaring(set);
+    }
+
+    // A bit set of the same members.
+    BitSet to_bit_set() const {
+        bit_set *bits = nullptr;
+        require(bit_set_from_roaring(&bits, set_));
+        return BitSet(bits);
+    }
+
+    // A call on two sets in place must have two different ones: for a set and itself the result is that set, or the empty
+    // one.
+    BitRoaring &operator|=(const BitRoaring &other) {
+        if (set_ != other.set_)
+            answer(bit_roaring_union_with(set_, other.set_));
+        return *this;
+    }
+    BitRoaring &operator&=(const BitRoaring &other) {
+        if (set_ != other.set_)
+            answer(bit_roaring_intersect_with(set_, other.set_));
+        return *this;
+    }
+    BitRoaring &operator-=(const BitRoaring &other) {
+        if (set_ == other.set_)
+            clear();
+        else
+            answer(bit_roaring_difference_with(set_, other.set_));
+        return *this;
+    }
+    BitRoaring &operator^=(const BitRoaring &other) {
+        if (set_ == other.set_)
+            clear();
+        else
+            answer(bit_roaring_symmetric_difference_with(set_, other.set_));
+        return *this;
+    }
+    friend BitRoaring operator|(const BitRoaring &a, const BitRoaring &b) { return made(bit_roaring_union, a, b); }
+    friend BitRoaring operator&(const BitRoaring &a, const BitRoaring &b) { return made(bit_roaring_intersection, a, b); }
+    friend BitRoaring operator-(const BitRoaring &a, const BitRoaring &b) { return made(bit_roaring_difference, a, b); }
+    friend BitRoaring operator^(const BitRoaring &a, const BitRoaring &b) {
+        return made(bit_roaring_symmetric_difference, a, b);
+    }
+
+    friend bool operator==(const BitRoaring &a, const BitRoaring &b) { return bit_roaring_equals(a.set_, b.set_); }
+    friend bool operator!=(const BitRoaring &a, const BitRoaring &b) { return !(a == b); }
+    // The order of the ascending lists of members.
+    friend bool operator<(const BitRoaring &a, const BitRoaring &b) { return bit_roaring_compare(a.set_, b.set_) < 0; }
+};
+
+#undef BIT_ROARING_THROW
+
+#endif

@@ -1,0 +1,167 @@
+//! Calls that put in many numbers, a chunk of them in each call of the library.
+use crate::{raw, require, RoaringBitmap};
+use std::error::Error;
+use std::fmt;
+
+/// How many numbers a chunk has.
+const ROOM: usize = 256;
+
+/// Numbers do not ascend.
+#[derive(Clone, Copy, Debug, PartialEq, Eq)]
+pub struct NonSortedIntegers {
+    valid_until: u64,
+}
+
+impl NonSortedIntegers {
+    /// How many of the numbers ascend, from the first on. These were put in.
+    pub fn valid_until(&self) -> u64 {
+        self.valid_until
+    }
+}
+
+impl fmt::Display for NonSortedIntegers {
+    fn fmt(&self, fmt: &mut fmt::Formatter<'_>) -> fmt::Result {
+        write!(fmt, "integers are ordered up to the {}th element", self.valid_until)
+    }
+}
+
+impl Error for NonSortedIntegers {}
+
+/// A number is not above each member.
+#[derive(Clone, Copy, Debug, PartialEq, Eq)]
+pub struct IntegerTooSmall;
+
+impl fmt::Display for IntegerTooSmall {
+    fn fmt(&self, fmt: &mut fmt::Formatter<'_>) -> fmt::Result {
+        fmt.write_str("inserted integer is smaller than the largest integer")
+    }
+}
+
+impl Error for IntegerTooSmall {}
+
+// Calls `take` with each chunk of the numbers, up to the first that it refuses.
+fn by_chunks<E>(
+    numbers: impl IntoIterator<Item = u32>,
+    mut take: impl FnMut(&[u32]) -> Result<(), E>,
+) -> Result<(), E> {
+    let mut numbers = numbers.into_iter();
+    let mut chunk = [0; ROOM];
+    loop {
+        let mut count = 0;
+        for (place, number) in chunk.iter_mut().zip(&mut numbers) {
+            *place = number;
+            count += 1;
+        }
+        if count == 0 {
+            return Ok(());
+        }
+        take(&chunk[..count])?;
+    }
+}
+
+impl RoaringBitmap {
+    /// Creates the set of numbers that ascend.
+    ///
+    /// # Errors
+    ///
+    /// If a number is not above the one before it.
+    pub fn from_sorted_iter<I: IntoIterator<Item = u32>>(iterator: I) -> Result<Self, NonSortedIntegers> {
+        let mut set = Self::new();
+        set.append(iterator)?;
+        Ok(set)
+    }
+
+    /// Inserts `value` if it is above each member, and returns whether it is.
+    pub fn push(&mut self, value: u32) -> bool {
+        // SAFETY: the set is borrowed for the call.
+        Self::changed(unsafe { raw::bit_roaring_push(self.write(), value) })
+    }
+
+    /// Inserts `value` if it is above each member.
+    ///
+    /// # Errors
+    ///
+    /// If it is not.
+    pub fn try_push(&mut self, value: u32) -> Result<(), IntegerTooSmall> {
+        if self.push(value) {
+            Ok(())
+        } else {
+            Err(IntegerTooSmall)
+        }
+    }
+
+    /// Inserts numbers that ascend from above each member, and returns how many.
+    ///
+    /// # Errors
+    ///
+    /// If a number is not above each member before it. Those before it stay in the set; up to 256 were read from the
+    /// iterator.
+    pub fn append<I: IntoIterator<Item = u32>>(&mut self, iterator: I) -> Result<u64, NonSortedIntegers> {
+        let mut appended = 0;
+        by_chunks(iterator, |chunk| {
+            let (count, ascend) = self.append_chunk(chunk);
+            appended += count as u64;
+            if ascend {
+                Ok(())
+            } else {
+                Err(NonSortedIntegers { valid_until: appended })
+            }
+        })?;
+        Ok(appended)
+    }
+
+    // Appends numbers up to the first that is not above each member. Returns how many, and whether those are all.
+    fn append_chunk(&mut self, chunk: &[u32]) -> (usize, bool) {
+        let mut appended = 0;
+        // SAFETY: the set, the numbers and the count are borrowed for the call.
+        let answer =
+            unsafe { raw::bit_roaring_append_members(self.write(), chunk.as_ptr(), chunk.len(), &mut appended) };
+        require(answer != raw::NO_MEMORY);
+        (appended, answer == raw::YES)
+    }
+
+    // Inserts numbers in any order. Appending, which the first that does not ascend ends, is the faster way.
+    fn insert_chunk(&mut self, chunk: &[u32]) {
+        let rest = &chunk[self.append_chunk(chunk).0..];
+        // SAFETY: the set and the numbers are borrowed for the call.
+        let inserted = unsafe { raw::bit_roaring_insert_members(self.write(), rest.as_ptr(), rest.len()) };
+        require(inserted == rest.len());
+    }
+}
+
+impl Extend<u32> for RoaringBitmap {
+    fn extend<I: IntoIterator<Item = u32>>(&mut self, iterator: I) {
+        let inserted: Result<(), std::convert::Infallible> = by_chunks(iterator, |chunk| {
+            self.insert_chunk(chunk);
+            Ok(())
+        });
+        inserted.unwrap_or_else(|never| match never {});
+    }
+}
+
+impl<'a> Extend<&'a u32> for RoaringBitmap {
+    fn extend<I: IntoIterator<Item = &'a u32>>(&mut self, iterator: I) {
+        self.extend(iterator.into_iter().copied());
+    }
+}
+
+impl FromIterator<u32> for RoaringBitmap {
+    fn from_iter<I: IntoIterator<Item = u32>>(iterator: I) -> Self {
+        let mut set = Self::new();
+        set.extend(iterator);
+        set
+    }
+}
+
+impl<'a> FromIterator<&'a u32> for RoaringBitmap {
+    fn from_iter<I: IntoIterator<Item = &'a u32>>(iterator: I) -> Self {
+        iterator.into_iter().copied().collect()
+    }
+}
+
+impl<const N: usize> From<[u32; N]> for RoaringBitmap {
+    fn from(numbers: [u32; N]) -> Self {
+        // SAFETY: `out` is null, and the numbers are borrowed for the call.
+        Self::made(|out| unsafe { raw::bit_roaring_from_members(out, numbers.as_ptr(), N) })
+    }
+}

@@ -1,0 +1,10 @@
+pub mod AsBox
+pub mod BitmapLaws
+pub mod Calls
+pub mod Lent
+pub mod Loans
+pub mod Names
+pub mod Nulls
+pub mod Owned
+pub mod Outcomes
+pub mod Values
