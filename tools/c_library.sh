@@ -19,14 +19,9 @@ use_sources() {
 use_sources "$(dirname "$(dirname "$(readlink -f "${BASH_SOURCE[0]}")")")"
 kit="$(dirname "$(rt doc | head -n 1)")"
 
-# The crates of exports, and the files of assembly that are made of them.
+# The crates of exports, and the files of assembly that are made of them: bit_set32 of bit_set_c.
 exporting=(bit_set_c bit_roaring_c)
 assemblies=(bit_set bit_set32 bit_roaring)
-
-# The crate of exports that a file of assembly is made of.
-crate_of() {
-    echo "${1%32}_c"
-}
 
 # The libraries that a crate of exports stands on, or all of these.
 #   libraries_below [CRATE]
@@ -49,7 +44,7 @@ prove_below() {
 #   copy_crate ASSEMBLY FOLDER
 copy_crate() {
     mkdir -p "$2/out"
-    (cd "$crates/$(crate_of "$1")" && cp -r src specs proofs "$2")
+    (cd "$crates/${1%32}_c" && cp -r src specs proofs "$2")
     if [ "$1" = bit_set32 ]; then
         (cd "$2" && sed -i 's/u64/u32/g; s/U64/U32/g; s/64/32/g' src/block.rt specs/Block.antt proofs/Sets.antt)
     fi
@@ -160,7 +155,10 @@ assemble_all() {
     mkdir -p "$source/src/$processor"
     for name in "${assemblies[@]}"; do
         [ -d "$copies/$name" ] || copy_crate "$name" "$copies/$name"
-        start_group assemble "$(crate_of "$name")" "$copies/$name" "$processor" "$copies/$name/$processor.s" \
+    done
+    # Nothing else runs from the first of these on, since bash may lose a signal that comes in a substitution of a command.
+    for name in "${assemblies[@]}"; do
+        start_group assemble "${name%32}_c" "$copies/$name" "$processor" "$copies/$name/$processor.s" \
             ${4:+"$4/$name"} < /dev/null
         beside+=("$!")
     done
