@@ -7,13 +7,13 @@ use Rattle.std.proofs.Math.Nat.{add-mod_right}
 use Rattle.std.proofs.lemmas.{Bool.{cases_Bool, Decides.nat_tests}, Grind.take_at_read, Nat.mod-mul-add}
 use Rattle.std.proofs.lemmas.{List.{append-nil, reverse-append}, List.Folds.list_any-append, List.Sums.{length-filter, count_by-le-length, sum_by-append}}
 use Rattle.bit_blocks.specs.Ranges.{in_range}
-use Rattle.set_algebra.specs.{Members.IsSameSet, Order.same_sets, Ranges.{span, those_in_range}, Sets.{AscendsFrom, IsAscending, difference, elements, has, intersection, is_subset, those_below, those_from, union}}
+use Rattle.set_algebra.specs.{Members.IsSameSet, Order.same_sets, Ranges.{span, those_in_range}, Sets.{AscendsFrom, IsAscending, difference, elements, has, intersection, is_subset, put, those_below, those_from, union, without}}
 use Rattle.set_algebra.proofs.{AlgebraLemmas.{has-difference, has-intersection, has-union, members_of_merged_sets}, SetLaws.IsAscending-put_all}
 use Rattle.set_algebra.proofs.TestLemmas.{below_all, below_none, filter_all, filter_none, from_all, from_none}
 use Rattle.set_algebra.proofs.PlaceLemmas.{all_by_places, any_by_places, at_place, has_place, in_order}
 use Rattle.set_algebra.proofs.RangeLemmas.{IsAscending-span, filtered_apart, has-span, length-span}
 use Rattle.set_algebra.proofs.SubsetLemmas.{is_subset-members}
-use Rattle.set_algebra.proofs.SetLemmas.{AscendsFrom-filter, IsAscending-elements, has-below, has-filter, has-first, same_members}
+use Rattle.set_algebra.proofs.SetLemmas.{AscendsFrom-filter, AscendsFrom-put, IsAscending-elements, has-below, has-filter, has-first, has-put, has-without, same_members}
 
 -- a test keeps no more than there is
 pub length-filter-le : (p : ℕ → Bool) (s : List ℕ) → length (filter p s) ≤ length s
@@ -97,6 +97,38 @@ counted_in_range (y ∷ ys) a b = (
   ],
 )
 
+first_from : (low : ℕ) (s : List ℕ) (a b : ℕ) → AscendsFrom low s → (those_in_range s a b ≡ [])
+    ⊎ ((x : ℕ) × (rest : List ℕ) × (those_in_range s a b ≡ x ∷ rest) × IsTrue (has s x) × (a ≤ x) × (x < b)
+    × ((y : ℕ) → a ≤ y → y < x → has s y ≡ false))
+first_from low [] a b up = inl refl
+first_from low (z ∷ zs) a b up =
+    let earlier = λ (y : ℕ). has-below (z + 1) zs y up.1 in
+    elim (cases_Bool (in_range a b z)) [
+      | inl inside ↦ inr (
+          z, filter (in_range a b) zs, grind (arith, inside), has-first z zs, grind (arith, nat_tests, inside), grind (arith, nat_tests, inside),
+          λ y from to. grind (arith, nat_tests, from, to, earlier y),
+      )
+      | inr outside ↦
+          elim (first_from (z + 1) zs a b up.1) [
+            | inl none ↦ inl (grind (arith, outside, none))
+            | inr some ↦ inr (
+                some.0, some.1, grind (arith, outside, some.2), grind (arith, some.3), some.4, some.5,
+                λ y from to. let rest = some.6 y from to in grind (arith, nat_tests, outside, from, to, rest, some.5),
+            )
+          ]
+    ]
+
+-- the first member in a range, with none before it
+pub first_in_range : (s : List ℕ) (a b : ℕ) → (those_in_range s a b ≡ those_in_range s a b) × (IsAscending s → (those_in_range s a b ≡ [])
+    ⊎ ((x : ℕ) × (rest : List ℕ) × (those_in_range s a b ≡ x ∷ rest) × IsTrue (has s x) × (a ≤ x) × (x < b)
+    × ((y : ℕ) → a ≤ y → y < x → has s y ≡ false)))
+first_in_range s a b = (refl, first_from 0 s a b)
+
+-- those in a range from 0 on
+pub from_zero : (s : List ℕ) (n : ℕ) → those_in_range s 0 n ≡ those_below s n
+from_zero [] n = refl
+from_zero (x ∷ xs) n = let rest = from_zero xs n in grind (arith, nat_tests)
+
 pub spanned : (s : List ℕ) (a b : ℕ) → (is_subset (span a b) s ≡ is_subset (span a b) s)
     × (IsTrue (is_subset (span a b) s) ↔ ((x : ℕ) → a ≤ x → x < b → IsTrue (has s x)))
 spanned s a b = let each = is_subset-members (span a b) s in (refl, grind (arith, nat_tests, has-span))
@@ -108,6 +140,21 @@ same_by_members s t up_s up_t = let same = bytes_decides s t in let members = sa
 -- the same members are the same list
 pub same_elements : (a b : List Bool) → IsSameSet (elements a) (elements b) → elements a ≡ elements b
 same_elements a b same = same_members (elements a) (elements b) (IsAscending-elements a) (IsAscending-elements b) same
+
+-- a number that is taken and put back, or put in and taken
+pub put_back : (s : List ℕ) (x : ℕ) → (put (without s x) x ≡ put (without s x) x) × (IsAscending s → IsTrue (has s x) → put (without s x) x ≡ s)
+put_back s x = (
+  refl,
+  λ up is. same_members (put (without s x) x) s (AscendsFrom-put 0 (without s x) x (omega arith) (AscendsFrom-filter 0 _ s up)) up
+      (λ y. let in_put = has-put (without s x) x y in let in_rest = has-without s x y in grind (arith, nat_tests, is)),
+)
+
+pub taken_again : (s : List ℕ) (x : ℕ) → (without (put s x) x ≡ without (put s x) x) × (IsAscending s → has s x ≡ false → without (put s x) x ≡ s)
+taken_again s x = (
+  refl,
+  λ up is. same_members (without (put s x) x) s (AscendsFrom-filter 0 _ (put s x) (AscendsFrom-put 0 s x (omega arith) up)) up
+      (λ y. let in_put = has-put s x y in let in_rest = has-without (put s x) x y in grind (arith, nat_tests, is)),
+)
 
 -- a set of two parts has as many members as they have
 
@@ -168,6 +215,21 @@ fewer_within s t up_s up_t within =
     (λ x. let kept = has-filter (has s) t x in let is = within x in grind (arith, nat_tests)) in
     omega (arith, ap length same, length-filter-le (has s) t)
 
+-- what two sets have in common is no more than either has
+pub fewer_in_common : (s t : List ℕ) → (intersection s t ≡ intersection s t)
+    × (length (intersection s t) ≤ length s) × (IsAscending s → IsAscending t → length (intersection s t) ≤ length t)
+fewer_in_common s t = (
+  refl,
+  length-filter-le (has t) s,
+  λ up_s up_t. fewer_within (intersection s t) t (AscendsFrom-filter 0 (has t) s up_s) up_t
+      (λ x is. let both = has-intersection s t x in grind (arith, nat_tests, is)),
+)
+
+-- the two parts of a set that is split at n
+pub count_parted : (s : List ℕ) (n : ℕ) → (those_below s n ≡ those_below s n) × (length (those_below s n) + length (those_from s n) ≡ length s)
+count_parted [] n = (refl, refl)
+count_parted (x ∷ xs) n = (refl, let rest = (count_parted xs n).1 in grind (arith, nat_tests))
+
 -- steps of k from a multiple: there is no other before the next one, which is one
 between_multiples : (m k x : ℕ) → m % k ≡ 0 → m ≤ x → x < m + k → x % k ≡ x - m
 between_multiples m k x at from below =
@@ -182,16 +244,16 @@ multiples m k = (refl, between_multiples m k, λ x is. ap (λ n. n % k) is ∙ a
 pub ruleset set_steps = (nat_tests, has-filter, below_none, below_all, from_none, from_all, length-filter-le, take-first, append_assoc, append-nil)
 
 -- all that callers use, for `grind`: a crate names it once, at its root
-pub ruleset calls = (set_steps, members_of_merged_sets, has-reverse, at_place, has_place, in_order, IsAscending-elements, ascends_pushed, list_any-append, take_at_read, sum_by-append)
+pub ruleset calls = (set_steps, members_of_merged_sets, has-reverse, at_place, has_place, in_order, IsAscending-elements, ascends_pushed, has-put, put_back, taken_again, list_any-append, take_at_read, sum_by-append)
 
 -- for a function whose clause says that a test which is no bound keeps none, or all
 pub ruleset kept_by_tests = (calls, filter_none, filter_all)
 
 -- for a function that asks of ranges by `span` and `those_in_range`
-pub ruleset ranges = (calls, has-span, counted_in_range, spanned)
+pub ruleset ranges = (calls, has-span, counted_in_range, first_in_range, from_zero, spanned)
 
 -- for a clause that counts what merges have
-pub ruleset counts = (calls, count_difference, count_union)
+pub ruleset counts = (calls, count_difference, count_union, fewer_in_common, count_parted)
 
 -- for a page that goes on where another ended
 pub ruleset pages = (calls, ranked)
