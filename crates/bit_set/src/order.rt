@@ -5,9 +5,7 @@ ghost use Rattle.std.{specs.{Cmp.Lexicographic.{nat_list_eq_equiv, texts_po, tex
 ghost use Rattle.bit_blocks.specs.{Bits.blocks_of, Mismatches.IsFirstBlockMismatch};
 ghost use Rattle.set_algebra.specs.{Members.IsSameSet, Sets.{elements, has}, Order.{same_sets, order_of_sets}};
 
-use crate::bit_vec::{
-    GROUP, block_or_zero, first_nonzero_block, has_one_from, lowest_mismatch, mismatch_between,
-};
+use crate::bit_vec::{GROUP, block_or_zero, lowest_mismatch, mismatch_between};
 use crate::{BitBlock, BitSet};
 use std::cmp::Ordering;
 
@@ -119,13 +117,7 @@ fn order_of_holder<B: BitBlock>(other: &BitSet<B>, number: usize) -> Ordering
         ((k : ℕ) × (number ≤ k) × (has (elements other.now.values) k ≡ true)) ⊥
         ((k : ℕ) → number ≤ k → has (elements other.now.values) k ≡ false) }
 {
-    let blocks = other.get_ref().storage();
-    let width = B::bits();
-    let at = number / width;
-    if has_one_from(block_or_zero(blocks, at), number % width) {
-        return Ordering::Less;
-    }
-    match first_nonzero_block(blocks, at + 1) {
+    match other.next(number) {
         Some(_) => Ordering::Less,
         None => Ordering::Greater,
     }

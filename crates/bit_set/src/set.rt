@@ -21,6 +21,7 @@ mod in_place;
 mod new_sets;
 mod of_many;
 mod proper_subset;
+mod range_relations;
 mod ranges;
 mod relations;
 mod reporting;

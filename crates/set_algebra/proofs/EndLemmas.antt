@@ -1,8 +1,7 @@
 -- The first and the last of a set, and of its members from a number on or below it.
-use Rattle.std.proofs.Common.{◌≡◌, ℕ, ◌+◌, ◌-◌, ◌<◌, ◌≤◌, Bool, true, false, not, ◌||◌, eqb, ltb, nat_le, List, [], ◌∷◌, ◌++◌, length, take, drop, slice_get, get_or, length-append, Option, Some, None}
-use Rattle.std.proofs.Common.{refl, sym, ap, ◌∙◌, arith}
-use Rattle.std.proofs.{Math.Seq.take-append_seam}
-use Rattle.std.proofs.lemmas.{Bool.Decides.nat_tests, List.{get_or-append_right, Folds.list_any-append}, Option.slice_get-get_or}
+use Rattle.std.proofs.Common.{◌≡◌, ℕ, ◌+◌, ◌<◌, ◌≤◌, Bool, true, false, not, ◌||◌, eqb, ltb, nat_le, List, [], ◌∷◌, ◌++◌, length, get_or, Option, Some, None}
+use Rattle.std.proofs.Common.{sym, ap, ◌∙◌, arith}
+use Rattle.std.proofs.lemmas.{Bool.Decides.nat_tests, List.{Folds.list_any-append}}
 use Rattle.std.specs.{Prelude.{IfSome, MatchOption, if◌then◌else◌, is_some, slice_set}, Iterator.{YieldsFirst}}
 use Rattle.bit_blocks.{specs.Searches.{FindsBefore, FindsFrom, IsFirstFrom}, proofs.SearchLemmas.{finds_before_same, finds_from_same}}
 use Rattle.bit_blocks.specs.Bounds.{greatest}

@@ -1,10 +1,10 @@
 -- Whether two sets are the same, part by part.
-use Rattle.std.proofs.Common.{◌≡◌, inl, inr, ℕ, zero, suc, ◌+◌, ◌*◌, ◌<◌, ◌≤◌, ◌↔◌, Bool, true, false, ◌&&◌, eqb, List, [], ◌∷◌, ◌++◌, length, get_or, refl, sym, ap, ap₂, subst, ◌∙◌, arith}
+use Rattle.std.proofs.Common.{◌≡◌, inl, inr, ℕ, ◌+◌, ◌*◌, ◌<◌, ◌≤◌, Bool, true, false, eqb, List, [], ◌∷◌, ◌++◌, length, get_or, refl, sym, ap, ap₂, subst, ◌∙◌, arith}
 use Rattle.std.specs.Cmp.Lexicographic.{bytes_decides}
 use Rattle.std.proofs.lemmas.Bool.{and_parts, cases_lt, eq-eqb, eqb-true, ne_eqb, true≢false, Decides.nat_tests}
-use Rattle.set_algebra.specs.{Order.same_sets, Parts.{AreParts, IsPart, PartView, PartsFrom, lifted, lows_at, members_of}, Sets.{bound_of, has}}
+use Rattle.set_algebra.specs.{Order.same_sets, Parts.{AreParts, PartView, lifted, lows_at, members_of}, Sets.{bound_of, has}}
 use Rattle.set_algebra.proofs.PartMembers.{has-members, length-members, split_is}
-use Rattle.set_algebra.proofs.{SetLaws.bound_of-above, SetLemmas.{has-first, same_members}}
+use Rattle.set_algebra.proofs.{SetLaws.bound_of-above, SetLemmas.{same_members}}
 
 pub same-append : (l s t : List ℕ) → same_sets (l ++ s) (l ++ t) ≡ same_sets s t
 same-append [] s t = refl

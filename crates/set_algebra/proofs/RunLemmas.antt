@@ -1,9 +1,9 @@
 -- What the runs of a set are, and how one after another is found.
-use Rattle.std.proofs.Common.{◌≡◌, ℕ, zero, suc, ◌+◌, ◌-◌, ◌<◌, ◌≤◌, Bool, true, false, not, ◌*◌, ◌/◌, ◌&&◌, ◌||◌, eqb, nat_le, List, [], ◌∷◌, ◌++◌, Option, Some, None, length, refl, sym, ap, ap₂}
+use Rattle.std.proofs.Common.{◌≡◌, ℕ, zero, suc, ◌+◌, ◌-◌, ◌<◌, ◌≤◌, Bool, true, false, not, ◌*◌, ◌/◌, ◌&&◌, ◌||◌, eqb, nat_le, List, [], ◌∷◌, ◌++◌, Some, None, length, refl, sym, ap, ap₂}
 use Rattle.std.proofs.Common.{◌∙◌, arith}
 use Rattle.std.{proofs.iter.runs.Sources.{from_front, as_is}, specs.Iterator.Runs.YieldsInOrder}
 use Rattle.std.proofs.lemmas.{Bool.{Decides.nat_tests}, List.Folds.list_any-append}
-use Rattle.std.specs.{Option.unwrap_or, List.range_with_len, declared.ops.Range.Range}
+use Rattle.std.specs.{List.range_with_len, declared.ops.Range.Range}
 use Rattle.bit_blocks.specs.Ranges.{in_range}
 use Rattle.set_algebra.specs.{Members.TakesLeast, Ranges.{span, those_in_range}}
 use Rattle.set_algebra.specs.{Runs.{AreApartFrom, AreRuns, IsFirstRun, PassesRun, RunsWalk, in_ranges, put_before, runs_of}, Sets.{AscendsFrom, IsAscending, elements, has, those_from}}

@@ -1,9 +1,8 @@
 // Calls that relate the elements of two sets.
-ghost use Rattle.std.specs.Prelude.{◌≡◌, ℕ, ◌<◌, ◌≤◌, ◌↔◌, IsTrue};
-ghost use Rattle.set_algebra.specs.{Members.{IsDisjoint, IsSubset}, Sets.{elements, has, is_subset, is_disjoint}};
+ghost use Rattle.std.specs.Prelude.{◌≡◌, ◌↔◌, IsTrue};
+ghost use Rattle.set_algebra.specs.{Members.{IsDisjoint, IsSubset}, Sets.{elements, is_subset, is_disjoint}};
 
 use crate::{BitBlock, BitSet};
-use std::ops::Range;
 
 impl<B: BitBlock> BitSet<B> {
     /// Whether every element is in `other`, whichever set is longer. Reads each block at most once, and stops at
@@ -33,19 +32,5 @@ impl<B: BitBlock> BitSet<B> {
         ensures members { IsTrue result ↔ IsDisjoint (elements self.now.values) (elements other.now.values) }
     {
         self.bits.is_disjoint(&other.bits)
-    }
-
-    /// Whether the sets have the same elements in the range; true if it is empty. Walks over these up to the first
-    /// that differs.
-    ///
-    /// ```
-    /// // The sets are {1, 4} and {4, 6}.
-    /// assert!(set.same_in_range(other, 2..6));
-    /// ```
-    pub fn same_in_range(&self, other: &Self, range: Range<usize>) -> bool
-        ensures { IsTrue result ↔ ((n : ℕ) → range.start ≤ n → n < range.end
-            → has (elements self.now.values) n ≡ has (elements other.now.values) n) }
-    {
-        self.range(range.start..range.end).eq(other.range(range))
     }
 }
