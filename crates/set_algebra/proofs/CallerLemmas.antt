@@ -105,15 +105,25 @@ first_from low (z ∷ zs) a b up =
     let earlier = λ (y : ℕ). has-below (z + 1) zs y up.1 in
     elim (cases_Bool (in_range a b z)) [
       | inl inside ↦ inr (
-          z, filter (in_range a b) zs, grind (arith, inside), has-first z zs, grind (arith, nat_tests, inside), grind (arith, nat_tests, inside),
-          λ y from to. grind (arith, nat_tests, from, to, earlier y),
+        z,
+        filter (in_range a b) zs,
+        grind (arith, inside),
+        has-first z zs,
+        grind (arith, nat_tests, inside),
+        grind (arith, nat_tests, inside),
+        λ y from to. grind (arith, nat_tests, from, to, earlier y),
       )
       | inr outside ↦
           elim (first_from (z + 1) zs a b up.1) [
             | inl none ↦ inl (grind (arith, outside, none))
             | inr some ↦ inr (
-                some.0, some.1, grind (arith, outside, some.2), grind (arith, some.3), some.4, some.5,
-                λ y from to. let rest = some.6 y from to in grind (arith, nat_tests, outside, from, to, rest, some.5),
+              some.0,
+              some.1,
+              grind (arith, outside, some.2),
+              grind (arith, some.3),
+              some.4,
+              some.5,
+              λ y from to. let rest = some.6 y from to in grind (arith, nat_tests, outside, from, to, rest, some.5),
             )
           ]
     ]
