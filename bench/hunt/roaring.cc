@@ -2,21 +2,10 @@
 // compared. Prints a row for each call, the worst first, and with the argument `all` every row.
 #include "bit_roaring.h"
 #include "table.h"
-#include <cstring>
 #include <malloc.h>
-#include <random>
 #include <roaring/roaring.h>
 
-using hunt::Table;
-using std::string;
-using std::vector;
-
-static void check(bool done) {
-    if (!done) {
-        fprintf(stderr, "hunt: memory ran out\n");
-        exit(1);
-    }
-}
+using namespace hunt;
 
 // The same set on both sides.
 struct Side {

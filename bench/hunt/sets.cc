@@ -2,19 +2,8 @@
 // shapes. The results are compared. Prints a row for each call, the worst first, and with the argument `all` every row.
 #include "bit_set.h"
 #include "table.h"
-#include <cstring>
-#include <random>
 
-using hunt::Table;
-using std::string;
-using std::vector;
-
-static void check(bool done) {
-    if (!done) {
-        fprintf(stderr, "hunt: memory ran out\n");
-        exit(1);
-    }
-}
+using namespace hunt;
 
 // A plain array of words.
 struct Words {

@@ -5,11 +5,23 @@
 #include <cstdint>
 #include <cstdio>
 #include <cstdlib>
+#include <cstring>
 #include <map>
+#include <random>
 #include <string>
 #include <vector>
 
 namespace hunt {
+
+using std::string;
+using std::vector;
+
+inline void check(bool done) {
+    if (!done) {
+        fprintf(stderr, "hunt: memory ran out\n");
+        exit(1);
+    }
+}
 
 // What a call returns goes here, so that no compiler leaves it out.
 inline volatile uint64_t kept;
@@ -46,14 +58,14 @@ template <class Ours, class Theirs> Times times_of(const Ours &ours, const Their
 }
 
 struct Row {
-    std::string where;
+    string where;
     Times times;
     double ratio() const { return times.ours / times.theirs; }
 };
 
 // The rows of each call. Those that take at most 50 ns on both sides count for no bar: the loop is most of it.
 class Table {
-    std::map<std::string, std::vector<Row>> rows;
+    std::map<string, vector<Row>> rows;
     // Whether each row is printed once it is known.
     bool prints_all;
     int differing = 0;
@@ -67,7 +79,7 @@ class Table {
     }
 
   public:
-    std::string where;
+    string where;
 
     explicit Table(bool all) : prints_all(all) {}
 
@@ -87,14 +99,14 @@ class Table {
 
     // Prints a row for each call, the worst first: the median and the worst ratio, and where that was.
     int print(const char *peer) {
-        std::vector<std::pair<double, std::string>> lines;
+        vector<std::pair<double, string>> lines;
         for (auto &[call, found] : rows) {
             std::sort(found.begin(), found.end(), [](const Row &a, const Row &b) { return a.ratio() < b.ratio(); });
-            std::vector<Row> long_ones;
+            vector<Row> long_ones;
             for (const Row &row : found)
                 if (row.times.ours > 50 || row.times.theirs > 50)
                     long_ones.push_back(row);
-            const std::vector<Row> &counted = long_ones.empty() ? found : long_ones;
+            const vector<Row> &counted = long_ones.empty() ? found : long_ones;
             const Row &worst = counted.back();
             char line[400];
             snprintf(line, sizeof line, "| `%s` | %zu | %.2f | %.2f | %.0f | %.0f | %s%s |", call.c_str(), found.size(),
