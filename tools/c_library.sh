@@ -156,7 +156,7 @@ assemble_all() {
     for name in "${assemblies[@]}"; do
         [ -d "$copies/$name" ] || copy_crate "$name" "$copies/$name"
     done
-    # Nothing else runs from the first of these on, since bash may lose a signal that comes in a substitution of a command.
+    # Nothing else runs from the first of these on, since bash may lose a SIGINT that comes while it takes in what $(..) gives.
     for name in "${assemblies[@]}"; do
         start_group assemble "${name%32}_c" "$copies/$name" "$processor" "$copies/$name/$processor.s" \
             ${4:+"$4/$name"} < /dev/null

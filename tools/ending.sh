@@ -44,7 +44,9 @@ start_group() {
 # which that leaves where it is ended. rt runs tests and programs as nobody, who has to get there.
 make_room() {
     hold_signals
-    room="$(trap '' HUP INT QUIT TERM TSTP && mktemp -d)"
+    # Bash may lose a SIGINT that comes while it takes in what $(..) gives, and none while it reads.
+    IFS= read -r -d '' room < <(trap '' HUP INT QUIT TERM TSTP && mktemp -d) || true
+    room="${room%$'\n'}"
     # TMPDIR may be relative to the current folder, which will be another one.
     [[ "$room" != [!/]* ]] || room="$PWD/$room"
     [ -z "$room" ] || passing+=("$room")
