@@ -52,6 +52,7 @@ static void ranges(bit_set *set, bool *table) {
     CHECK(bit_set_count_in_range(set, start, end) == count);
     CHECK(bit_set_contains_all_in_range(set, start, end) == (count == size));
     CHECK(bit_set_contains_any_in_range(set, start, end) == (count > 0));
+    CHECK(bit_set_same_in_range(set, set, start, end));
     if (call == 0)
         CHECK(bit_set_insert_range(set, start, end));
     else if (call == 1)

@@ -74,6 +74,7 @@ static void change_range(bit_roaring *set, bool *table) {
         to = 0;
     k = count_in(table, start, end);
     CHECK(bit_roaring_range_cardinality(set, from, to) == k);
+    CHECK(bit_roaring_intersects_range(set, from, to) == (k > 0));
     CHECK(bit_roaring_contains_range(set, from, to) == (end <= start || k == end - start));
     if (in)
         CHECK(bit_roaring_insert_range(set, from, to) == (end <= start ? 0 : (int64_t)(end - start - k)));

@@ -7,7 +7,7 @@
  *   Making and freeing      new, from_members, clone, union, intersection, difference, symmetric_difference, free
  *   Single numbers          insert, insert_members, push, append_members, remove, contains
  *   Ends and searches       min, max, next, previous, rank, select; BIT_ROARING_FOR_EACH
- *   Ranges                  insert_range, remove_range, contains_range, range_cardinality
+ *   Ranges                  insert_range, remove_range, contains_range, intersects_range, range_cardinality
  *   Copies                  copy_members, copy_members_back
  *   Reading a set           len, is_empty, hash, statistics
  *   Two sets, read          is_subset, is_superset, is_disjoint, equals, compare, union_len, intersection_len,
@@ -161,6 +161,9 @@ int64_t bit_roaring_remove_range(bit_roaring *set, uint64_t start, uint64_t end)
 
 /* Whether every number of the range is a member, which is true of an empty range. */
 bool bit_roaring_contains_range(const bit_roaring *set, uint64_t start, uint64_t end) BIT_SET_CALL;
+
+/* Whether any number of the range is a member. */
+bool bit_roaring_intersects_range(const bit_roaring *set, uint64_t start, uint64_t end) BIT_SET_CALL;
 
 /* How many numbers of the range are members. */
 uint64_t bit_roaring_range_cardinality(const bit_roaring *set, uint64_t start, uint64_t end) BIT_SET_CALL;

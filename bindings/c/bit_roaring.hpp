@@ -155,6 +155,9 @@ public:
     bool contains_range(std::uint64_t start, std::uint64_t end) const {
         return bit_roaring_contains_range(set_, start, end);
     }
+    bool intersects_range(std::uint64_t start, std::uint64_t end) const {
+        return bit_roaring_intersects_range(set_, start, end);
+    }
     std::uint64_t range_cardinality(std::uint64_t start, std::uint64_t end) const {
         return bit_roaring_range_cardinality(set_, start, end);
     }

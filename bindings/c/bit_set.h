@@ -12,8 +12,8 @@
  *   Copies                  copy_members, copy_members_back, copy_bytes, copy_bytes_lsb, copy_blocks, put_blocks
  *   Blocks in place         lend_blocks
  *   Reading a set           count, is_empty, length, capacity, hash
- *   Two sets, read          is_subset, is_proper_subset, is_superset, is_disjoint, equals, compare, union_count,
- *                           intersection_count, difference_count, symmetric_difference_count, copy_union,
+ *   Two sets, read          is_subset, is_proper_subset, is_superset, is_disjoint, same_in_range, equals, compare,
+ *                           union_count, intersection_count, difference_count, symmetric_difference_count, copy_union,
  *                           copy_intersection, copy_difference, copy_symmetric_difference
  *   Two sets, in place      union_with, intersect_with, difference_with, symmetric_difference_with, union_changes,
  *                           intersection_changes, difference_changes, symmetric_difference_changes,
@@ -26,8 +26,8 @@
  *
  *   Making and freeing      new, from_set, clone, transpose, row_to_set, free
  *   Rows and columns        rows, columns, contains, insert, remove, count, count_all, next; BIT_MATRIX_FOR_EACH
- *   Whole rows              copy_members, copy_blocks, is_subset_row, is_disjoint_row, union_rows, intersect_rows,
- *                           difference_rows, union_row_with, insert_range, fill_row, clear_row
+ *   Whole rows              copy_members, copy_blocks, is_subset_row, is_disjoint_row, row_equals, union_rows,
+ *                           intersect_rows, difference_rows, union_row_with, insert_range, fill_row, clear_row
  *   Whole matrices          equals, transitive_closure, reflexive_transitive_closure, dominators
  *
  * What the caller must ensure, in Rust's terms:
@@ -288,6 +288,10 @@ bool bit_set_is_proper_subset(const bit_set *set, const bit_set *other) BIT_SET_
 /* Whether no member is in the other set. */
 bool bit_set_is_disjoint(const bit_set *set, const bit_set *other) BIT_SET_CALL;
 
+/* Whether the members in the range are the same, which is true of an empty range. One step for each of them up to the first
+ * that differs; finding the next one uses the summaries. */
+bool bit_set_same_in_range(const bit_set *set, const bit_set *other, size_t start, size_t end) BIT_SET_CALL;
+
 /* Whether the members are the same. Lengths and capacities do not matter. */
 bool bit_set_equals(const bit_set *set, const bit_set *other) BIT_SET_CALL;
 
@@ -457,6 +461,9 @@ size_t bit_matrix_copy_blocks(const bit_matrix *matrix, size_t row, size_t from,
 bool bit_matrix_is_subset_row(const bit_matrix *matrix, size_t row, size_t other) BIT_SET_CALL;
 bool bit_matrix_is_disjoint_row(const bit_matrix *matrix, size_t row, size_t other) BIT_SET_CALL;
 
+/* Whether the columns of the row are the members of the set. One step for each of them up to the first that differs. */
+bool bit_matrix_row_equals(const bit_matrix *matrix, size_t row, const bit_set *set) BIT_SET_CALL;
+
 /* Set the row `write` to the columns in it or in the row `read`, in both, or only in it. Each returns whether that changed
  * it. */
 bool bit_matrix_union_rows(bit_matrix *matrix, size_t read, size_t write) BIT_SET_CALL;
@@ -597,6 +604,11 @@ static inline bool bit_matrix_checked_row_to_set(bit_set **out, const bit_matrix
     return bit_matrix_row_to_set(out, matrix, row);
 }
 
+static inline bool bit_matrix_checked_row_equals(const bit_matrix *matrix, size_t row, const bit_set *set) {
+    bit_matrix_stop_past_row(matrix, row, "row_equals");
+    return bit_matrix_row_equals(matrix, row, set);
+}
+
 static inline size_t bit_matrix_checked_count(const bit_matrix *matrix, size_t row) {
     bit_matrix_stop_past_row(matrix, row, "count");
     return bit_matrix_count(matrix, row);
@@ -649,6 +661,7 @@ static inline void bit_matrix_checked_insert_range(bit_matrix *matrix, size_t ro
 #define bit_matrix_insert bit_matrix_checked_insert
 #define bit_matrix_remove bit_matrix_checked_remove
 #define bit_matrix_row_to_set bit_matrix_checked_row_to_set
+#define bit_matrix_row_equals bit_matrix_checked_row_equals
 #define bit_matrix_next bit_matrix_checked_next
 #define bit_matrix_copy_members bit_matrix_checked_copy_members
 #define bit_matrix_copy_blocks bit_matrix_checked_copy_blocks

@@ -22,7 +22,7 @@ static void need(bool found_memory) {
 static uint64_t counts(const bit_set *set, const bit_set *other) {
     uint64_t sum = bit_set_hash(set) + bit_set_count(set) + bit_set_length(set) + bit_set_capacity(set);
     sum += bit_set_is_empty(set) + bit_set_is_subset(set, other) + bit_set_is_superset(set, other);
-    sum += bit_set_is_disjoint(set, other) + bit_set_is_proper_subset(set, other);
+    sum += bit_set_is_disjoint(set, other) + bit_set_is_proper_subset(set, other) + bit_set_same_in_range(set, other, 1, 3);
     sum += bit_set_equals(set, other) + (uint64_t)bit_set_compare(set, other);
     sum += bit_set_union_count(set, other) + bit_set_intersection_count(set, other);
     return sum + bit_set_difference_count(set, other) + bit_set_symmetric_difference_count(set, other);

@@ -130,6 +130,7 @@ calls! {
         is_subset(set: *const Set, other: *const Set) -> bool;
         is_proper_subset(set: *const Set, other: *const Set) -> bool;
         is_disjoint(set: *const Set, other: *const Set) -> bool;
+        same_in_range(set: *const Set, other: *const Set, start: usize, end: usize) -> bool;
         equals(set: *const Set, other: *const Set) -> bool;
         compare(set: *const Set, other: *const Set) -> i32;
         union_count(set: *const Set, other: *const Set) -> usize;
@@ -183,6 +184,7 @@ calls! {
         next(matrix: *const Matrix, row: usize, from: usize) -> usize;
         is_subset_row(matrix: *const Matrix, row: usize, other: usize) -> bool;
         is_disjoint_row(matrix: *const Matrix, row: usize, other: usize) -> bool;
+        row_equals(matrix: *const Matrix, row: usize, set: *const Set) -> bool;
         union_rows(matrix: *mut Matrix, read: usize, write: usize) -> bool;
         intersect_rows(matrix: *mut Matrix, read: usize, write: usize) -> bool;
         difference_rows(matrix: *mut Matrix, read: usize, write: usize) -> bool;

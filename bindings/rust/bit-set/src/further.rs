@@ -118,6 +118,11 @@ impl<B: BitBlock> BitSet<B> {
         unsafe { B::is_proper_subset(self.read(), other.read()) }
     }
 
+    /// Whether the elements in the range are the same as those of `other`.
+    pub fn same_in_range(&self, other: &Self, range: Range<usize>) -> bool {
+        unsafe { B::same_in_range(self.read(), other.read(), range.start, range.end) }
+    }
+
     /// Inserts each number of the range, which is empty if its end is not above its start.
     pub fn insert_range(&mut self, range: Range<usize>) {
         require(unsafe { B::insert_range(self.write(), range.start, range.end) });

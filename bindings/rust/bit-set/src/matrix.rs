@@ -135,6 +135,12 @@ impl<B: BitBlock> BitMatrix<B> {
         unsafe { B::Rows::is_disjoint_row(self.matrix, row, other) }
     }
 
+    /// Whether the columns of the row are the elements of the set.
+    pub fn row_equals(&self, row: usize, set: &BitSet<B>) -> bool {
+        self.assert_row(row);
+        unsafe { B::Rows::row_equals(self.matrix, row, set.read()) }
+    }
+
     /// Inserts the columns of the row `read` into the row `write`, and returns whether that changed it.
     pub fn union_rows(&mut self, read: usize, write: usize) -> bool {
         self.assert_row(read);

@@ -143,6 +143,7 @@ fn calls_on_ranges<B: BitBlock>() {
         assert_eq!(set.count_in_range(range.clone()), inside.len());
         assert_eq!(set.contains_all_in_range(range.clone()), inside.len() == range.len());
         assert_eq!(set.contains_any_in_range(range.clone()), !inside.is_empty());
+        assert_eq!(set.same_in_range(&BitSet::default(), range.clone()), inside.is_empty());
         match draws.below(4) {
             0 => {
                 set.insert_range(range.clone());

@@ -1,12 +1,12 @@
 // Calls that read a matrix and its rows, and compare rows and matrices.
 ghost use Rattle.std.specs.{Prelude.{◌≡◌, ◌<◌, ◌≤◌, ◌↔◌, IfSome, IsTrue, length, min}, List.sum_by};
 ghost use Rattle.bit_blocks.specs.Searches.{FindsFrom};
-ghost use Rattle.bit_set.specs.{Choices.IsFirstOf, Members.{IsDisjoint, IsSubset}, Sets.{is_disjoint, is_subset, those_from}};
+ghost use Rattle.bit_set.specs.{Choices.IsFirstOf, Members.{IsDisjoint, IsSameSet, IsSubset}, Order.same_sets, Sets.{elements, is_disjoint, is_subset, those_from}};
 ghost use Rattle.bit_matrix.specs.{Compared.same_matrices, Matrices.{IsMatrix, has_at, row_of}};
 ghost use Rattle.c_handles.specs.{Answers.found, Handed.{AreAt, BothStay, IsAt}};
 
 use crate::block::Block;
-use crate::handed::SharedMatrix;
+use crate::handed::{Shared, SharedMatrix};
 use crate::searching::or_max;
 use bit_matrix::BitMatrix;
 
@@ -110,6 +110,22 @@ pub extern "C" fn bit_matrix_is_disjoint_row(
     ensures kept { matrix.new ≡ matrix.old }
 {
     matrix.get().is_disjoint_row(row, other)
+}
+
+/// Whether the columns of the row are the members of the set.
+#[unsafe(no_mangle)]
+pub extern "C" fn bit_matrix_row_equals(
+    matrix: &mut SharedMatrix,
+    row: usize,
+    set: &mut Shared,
+) -> bool
+    requires here { AreAt matrix.ref_ptr matrix.old.at set.ref_ptr set.old.at }
+    requires row { row < length matrix.old.cells.rows }
+    ensures returned { result ≡ same_sets (row_of matrix.old.cells row) (elements set.old.bits.values) }
+    ensures members { IsTrue result ↔ IsSameSet (row_of matrix.old.cells row) (elements set.old.bits.values) }
+    ensures kept { BothStay matrix.old matrix.new set.old set.new }
+{
+    matrix.get().row_equals(row, set.get())
 }
 
 /// Whether both matrices have equally many columns and the same rows.
