@@ -119,6 +119,27 @@ static void change_in_place(bit_roaring *set, bool *table, const bit_roaring *ot
     CHECK(calls[call](set, other) == changed);
 }
 
+/* A range that is flipped as a new set and back, the numbers that are missing, and all members taken out. */
+static void flips_and_gaps(const bit_roaring *set) {
+    bit_roaring *flipped = NULL;
+    uint64_t from = draw(2000), to = from + 3000, count = bit_roaring_range_cardinality(set, from, to);
+    uint64_t missing = bit_roaring_next_missing(set, (uint32_t)from);
+    size_t room;
+    CHECK(bit_roaring_flipped(&flipped, set, from, to));
+    CHECK(bit_roaring_range_cardinality(flipped, from, to) == 3000 - count);
+    CHECK(bit_roaring_flip(flipped, from, to) && bit_roaring_equals(set, flipped));
+    CHECK(!bit_roaring_is_proper_subset(set, flipped));
+    CHECK(missing == bit_roaring_first_gap(set, (uint32_t)from, 1) && !bit_roaring_contains(set, (uint32_t)missing));
+    CHECK(missing == from || bit_roaring_contains_range(set, from, missing));
+    CHECK(bit_roaring_first_gap(set, 0, ((uint64_t)1 << 32) + 1) == BIT_ROARING_NONE);
+    room = bit_roaring_copy_members(flipped, 0, members, 1000);
+    CHECK(bit_roaring_remove_members(flipped, members, room) == (int64_t)room);
+    CHECK(bit_roaring_remove_members(flipped, members, room) == 0);
+    CHECK(bit_roaring_is_proper_subset(flipped, set) == (room > 0));
+    bit_roaring_shrink_to_fit(flipped);
+    bit_roaring_free(flipped);
+}
+
 /* The members, forwards and backwards, by a buffer that is often too small. */
 static void copies(const bit_roaring *set, const bool *table) {
     size_t place = 0, room = 1 + draw(9000), count, k;
@@ -269,6 +290,7 @@ int main(int argc, char **argv) {
             whole_sets(which);
         searches(sets[which], tables[which]);
         copies(sets[which], tables[which]);
+        flips_and_gaps(sets[which]);
         two_sets();
     }
     bit_roaring_free(sets[0]);

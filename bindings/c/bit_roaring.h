@@ -4,16 +4,16 @@
  * write. bit_set.h has the calls that make a set of bits of such a set, and the other way round: bit_set_from_roaring and
  * bit_set_to_roaring.
  *
- *   Making and freeing      new, from_members, clone, union, intersection, difference, symmetric_difference, free
- *   Single numbers          insert, insert_members, push, append_members, remove, contains
- *   Ends and searches       min, max, next, previous, rank, select; BIT_ROARING_FOR_EACH
- *   Ranges                  insert_range, remove_range, contains_range, intersects_range, range_cardinality
+ *   Making and freeing      new, from_members, clone, union, intersection, difference, symmetric_difference, flipped, free
+ *   Single numbers          insert, insert_members, push, append_members, remove, remove_members, contains
+ *   Ends and searches       min, max, next, previous, next_missing, first_gap, rank, select; BIT_ROARING_FOR_EACH
+ *   Ranges                  insert_range, remove_range, flip, contains_range, intersects_range, range_cardinality
  *   Copies                  copy_members, copy_members_back
  *   Reading a set           len, is_empty, hash, statistics
- *   Two sets, read          is_subset, is_superset, is_disjoint, equals, compare, union_len, intersection_len,
- *                           difference_len, symmetric_difference_len
+ *   Two sets, read          is_subset, is_proper_subset, is_superset, is_disjoint, equals, compare, union_len,
+ *                           intersection_len, difference_len, symmetric_difference_len
  *   Two sets, in place      union_with, intersect_with, difference_with, symmetric_difference_with
- *   A whole set             clear, optimize, remove_runs
+ *   A whole set             clear, optimize, remove_runs, shrink_to_fit
  *   Bytes                   serialized_size, serialize, deserialize
  *
  * What the caller must ensure, in Rust's terms:
@@ -120,6 +120,10 @@ int32_t bit_roaring_append_members(bit_roaring *set, const uint32_t *members, si
  * if the number is present. */
 int32_t bit_roaring_remove(bit_roaring *set, uint32_t value) BIT_SET_MAY_FAIL;
 
+/* Removes numbers, in any order. Returns how many were present, or BIT_ROARING_NO_MEMORY: those before the one for which
+ * memory ran out are removed then. */
+int64_t bit_roaring_remove_members(bit_roaring *set, const uint32_t *members, size_t count) BIT_SET_MAY_FAIL;
+
 /* Whether the number is a member. */
 bool bit_roaring_contains(const bit_roaring *set, uint32_t value) BIT_SET_CALL;
 
@@ -134,6 +138,14 @@ uint64_t bit_roaring_max(const bit_roaring *set) BIT_SET_CALL;
  * by key, and one in each container. To iterate over many members, `bit_roaring_copy_members` is faster. */
 uint64_t bit_roaring_next(const bit_roaring *set, uint64_t from) BIT_SET_CALL;
 uint64_t bit_roaring_previous(const bit_roaring *set, uint64_t end) BIT_SET_CALL;
+
+/* The least number below 2^32 that is `from` or above and no member, or BIT_ROARING_NONE if there is none. Goes from run to
+ * run of members. */
+uint64_t bit_roaring_next_missing(const bit_roaring *set, uint32_t from) BIT_SET_CALL;
+
+/* The least number that is `from` or above and begins `count` numbers below 2^32 in a row that are no members, or
+ * BIT_ROARING_NONE if there is none. Goes from gap to gap. */
+uint64_t bit_roaring_first_gap(const bit_roaring *set, uint32_t from, uint64_t count) BIT_SET_CALL;
 
 /* How many members are at most `value`. A search by key and one in the container; adds up the counts of the containers
  * before it. */
@@ -158,6 +170,11 @@ int64_t bit_roaring_insert_range(bit_roaring *set, uint64_t start, uint64_t end)
 /* Removes each number of the range. Returns how many were present, or BIT_ROARING_NO_MEMORY. Fails only if a number is
  * present. */
 int64_t bit_roaring_remove_range(bit_roaring *set, uint64_t start, uint64_t end) BIT_SET_MAY_FAIL;
+
+/* Removes each member in the range, and inserts each other number of it that is below 2^32. Returns whether it could: if
+ * memory runs out, nothing changes. Makes the containers of the range anew. `flipped` makes a new set instead. */
+bool bit_roaring_flip(bit_roaring *set, uint64_t start, uint64_t end) BIT_SET_MAY_FAIL;
+bool bit_roaring_flipped(bit_roaring **out, const bit_roaring *set, uint64_t start, uint64_t end) BIT_SET_MAY_FAIL;
 
 /* Whether every number of the range is a member, which is true of an empty range. */
 bool bit_roaring_contains_range(const bit_roaring *set, uint64_t start, uint64_t end) BIT_SET_CALL;
@@ -216,6 +233,9 @@ void bit_roaring_statistics(const bit_roaring *set, bit_roaring_kinds *kinds) BI
 bool bit_roaring_is_subset(const bit_roaring *set, const bit_roaring *other) BIT_SET_CALL;
 bool bit_roaring_is_superset(const bit_roaring *set, const bit_roaring *other) BIT_SET_CALL;
 
+/* Whether each member is in the other set, which has at least one more. */
+bool bit_roaring_is_proper_subset(const bit_roaring *set, const bit_roaring *other) BIT_SET_CALL;
+
 /* Whether no member is in the other set. */
 bool bit_roaring_is_disjoint(const bit_roaring *set, const bit_roaring *other) BIT_SET_CALL;
 
@@ -256,6 +276,9 @@ int32_t bit_roaring_optimize(bit_roaring *set) BIT_SET_CALL;
 /* Converts each container of runs to a list or blocks, and returns the same. If memory runs out, the containers before the
  * failure are converted. Writes each member of runs once. */
 int32_t bit_roaring_remove_runs(bit_roaring *set) BIT_SET_CALL;
+
+/* Gives back the memory that is held and not used. One pass over the containers. */
+void bit_roaring_shrink_to_fit(bit_roaring *set) BIT_SET_CALL;
 
 /* ---- Bytes, in the portable form of Roaring bitmaps. */
 

@@ -145,6 +145,8 @@ public:
     std::uint64_t erase_range(std::uint64_t start, std::uint64_t end) {
         return count(bit_roaring_remove_range(set_, start, end));
     }
+    // Erases each member in the range, and inserts each other number of it.
+    void flip_range(std::uint64_t start, std::uint64_t end) { require(bit_roaring_flip(set_, start, end)); }
     void clear() { bit_roaring_clear(set_); }
 
     // Convert containers: to the form with the fewest bytes, or from runs. Each returns whether one changed.

@@ -153,8 +153,8 @@ static int compare_bitmaps(const bit_roaring *set, const bit_roaring *with, int 
     case Py_NE: return !bit_roaring_equals(set, with);
     case Py_LE: return bit_roaring_is_subset(set, with);
     case Py_GE: return bit_roaring_is_superset(set, with);
-    case Py_LT: return bit_roaring_is_subset(set, with) && !bit_roaring_equals(set, with);
-    default: return bit_roaring_is_superset(set, with) && !bit_roaring_equals(set, with);
+    case Py_LT: return bit_roaring_is_proper_subset(set, with);
+    default: return bit_roaring_is_proper_subset(with, set);
     }
 }
 

@@ -201,10 +201,7 @@ static inline uint64_t roaring_bitmap_range_cardinality(const roaring_bitmap_t *
 }
 
 static inline void roaring_bitmap_flip_inplace(roaring_bitmap_t *x1, uint64_t range_start, uint64_t range_end) {
-    bit_roaring *range = NULL;
-    roaring_require(bit_roaring_new(&range) && bit_roaring_insert_range(range, range_start, range_end) >= 0
-                    && bit_roaring_symmetric_difference_with(x1->set, range) >= 0);
-    bit_roaring_free(range);
+    roaring_require(bit_roaring_flip(x1->set, range_start, range_end));
 }
 
 static inline roaring_bitmap_t *roaring_bitmap_flip(const roaring_bitmap_t *x1, uint64_t range_start, uint64_t range_end) {
@@ -334,9 +331,9 @@ static inline bool roaring_bitmap_remove_run_compression(roaring_bitmap_t *r) {
     return answer == BIT_ROARING_YES;
 }
 
-/* Nothing is given back. */
+/* How many bytes were given back is not counted. */
 static inline size_t roaring_bitmap_shrink_to_fit(roaring_bitmap_t *r) {
-    (void)r;
+    bit_roaring_shrink_to_fit(r->set);
     return 0;
 }
 
@@ -351,7 +348,7 @@ static inline bool roaring_bitmap_is_subset(const roaring_bitmap_t *ra1, const r
 }
 
 static inline bool roaring_bitmap_is_strict_subset(const roaring_bitmap_t *ra1, const roaring_bitmap_t *ra2) {
-    return bit_roaring_is_subset(ra1->set, ra2->set) && !bit_roaring_equals(ra1->set, ra2->set);
+    return bit_roaring_is_proper_subset(ra1->set, ra2->set);
 }
 
 static inline bool roaring_bitmap_intersect(const roaring_bitmap_t *x1, const roaring_bitmap_t *x2) {
