@@ -111,11 +111,14 @@ impl<B: BitBlock> Slots<B> {
     /// ```
     pub fn take(&mut self) -> Option<usize>
         ensures full { (result ≡ None) ↔ (self.old.free ≡ []) }
+        ensures none { result ≡ None → self.new ≡ self.old }
         ensures lowest { IfSome result (λ slot. IsLowestFree self.old 0 slot) }
         ensures taken { IfSome result (λ slot. self.new.free ≡ without self.old.free slot) }
+        ensures ascending { IsAscending self.old.free × IsAscending self.new.free }
         ensures len { self.new.len ≡ self.old.len }
         ensures happens { Happens self.old (Take 0 result) self.new }
     {
+        sets_ascend();
         let slot = self.lowest_free()?;
         self.free.remove(slot);
         self.searched = self.searched.max(slot.saturating_add(1));
@@ -144,8 +147,10 @@ impl<B: BitBlock> Slots<B> {
     /// ```
     pub fn take_at_or_above(&mut self, slot: usize) -> Option<usize>
         ensures full { (result ≡ None) ↔ (those_from self.old.free slot ≡ []) }
+        ensures none { result ≡ None → self.new ≡ self.old }
         ensures lowest { IfSome result (λ taken. IsLowestFree self.old slot taken) }
         ensures taken { IfSome result (λ taken. self.new.free ≡ without self.old.free taken) }
+        ensures ascending { IsAscending self.old.free × IsAscending self.new.free }
         ensures len { self.new.len ≡ self.old.len }
         ensures happens { Happens self.old (Take slot result) self.new }
     {

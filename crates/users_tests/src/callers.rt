@@ -1,11 +1,12 @@
 //! What a caller may conclude of the libraries that use sets by their contracts alone, where no test can see it. These are
 //! proved, and not run.
-ghost use Rattle.std.specs.Prelude.{◌≡◌, All, IfOk, length};
-ghost use Rattle.bit_set.specs.Sets.{elements};
+ghost use Rattle.std.specs.Prelude.{◌≡◌, ℕ, ◌<◌, ◌==◌, ◌&&◌, not, All, IfNone, IfOk, IfSome, length};
+ghost use Rattle.bit_set.specs.Sets.{elements, has};
 
 use automata::{Nfa, accepts};
 use bit_set::{BitBlock, BitSet, SetError};
 use dataflow::{Block, solve};
+use free_slots::Slots;
 use graph_walks::{Effort, Graph, close, reachable_counted};
 use std::alloc::Global;
 
@@ -48,4 +49,22 @@ pub(crate) fn reach_and_count<B: BitBlock, G: Graph>(
     let mut effort = Effort::new();
     let reached = reachable_counted(alloc, graph, start, &mut effort)?;
     Ok((reached, effort))
+}
+
+/// Takes the two lowest free slots, or none if there are not two.
+#[tactic(auto, using(bit_set::proofs::CallerLemmas::calls))]
+pub fn take_pair<B: BitBlock>(slots: &mut Slots<B>) -> Option<(usize, usize)>
+    ensures none { IfNone result (slots.new.free ≡ slots.old.free) }
+    ensures in_order { IfSome result (λ pair. pair.0 < pair.1) }
+    ensures free { IfSome result (λ pair. (x : ℕ) → has slots.new.free x
+        ≡ (not (pair.0 == x) && not (pair.1 == x) && has slots.old.free x)) }
+{
+    let first = slots.take()?;
+    match slots.take() {
+        Some(second) => Some((first, second)),
+        None => {
+            slots.give_back(first);
+            None
+        }
+    }
 }
