@@ -249,7 +249,7 @@ try_calls() {
 
 # The names that are declared are those that are exported.
 compare_names() {
-    LC_ALL=C sed -n '/^static/d; s/^[a-z].*\(bit_\(set\|matrix\|roaring\)\(32\)\?_[a-z_]*\)(.*/\1/p' \
+    LC_ALL=C sed -n '/^static/d; s/^[a-z].*\(bit_\(set\|matrix\|roaring\)\(32\|64\)\?_[a-z_]*\)(.*/\1/p' \
         "$library"/bit_{set,set32,roaring}.h | sort > declared
     nm -D --defined-only "$library/libbit_set.so" | sed -n 's/.* T //p' | sort > exported
     if [ -s declared ] && cmp declared exported; then
