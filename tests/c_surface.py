@@ -85,18 +85,20 @@ def made_in_python(top):
 
 
 # The functions of each package, by the types that they are of. One name may stand for several.
-def functions_in_rust(folder, own):
-    """Those that are public or of a trait, and those that macros make for the package's own type from a line."""
+def functions_in_rust(folder, own, owners={}):
+    """Those that are public or of a trait, and those that macros make from a line for the package's own type, or in a folder
+    with an owner of its own for that."""
     found = {}
-    for text in texts_in(folder / "src", "*.rs"):
+    for path in sorted((folder / "src").rglob("*.rs")):
         name = trait = None
-        for line in text.splitlines():
+        of_macros = owners.get(path.parent.name, own)
+        for line in path.read_text().splitlines():
             if head := re.match(r"(?:unsafe )?impl(?:<[^>]*>)? (?:([\w:]+)(?:<&?(?:'\w+ )?\w+>)? for )?&?(?:'\w+ )?(\w+)", line):
                 trait, name = head.groups()
             elif made := re.match(r"    [A-Z]\w+(?: over .*)?, (\w+)(?: of other)?[:;]", line):
-                found.setdefault(own, Counter())[made.group(1)] += 1
+                found.setdefault(of_macros, Counter())[made.group(1)] += 1
             elif made := re.match(r"    [A-Z]\w+ (\w+), [A-Z]\w+ (\w+):(?: |$)", line):
-                found.setdefault(own, Counter()).update(made.groups())
+                found.setdefault(of_macros, Counter()).update(made.groups())
             elif (it := re.match(r"    (pub )?(?:const |unsafe )*fn (\w+)", line)) and name and (it.group(1) or trait):
                 found.setdefault(name, Counter())[it.group(2)] += 1
             elif line.startswith("}"):
@@ -143,7 +145,7 @@ def functions_in_stub(top):
 FUNCTIONS = {
     "bit-set": lambda top: functions_in_rust(top / "bindings/rust/bit-set", "BitSet"),
     "fixedbitset": lambda top: functions_in_rust(top / "bindings/rust/fixedbitset", "FixedBitSet"),
-    "roaring": lambda top: functions_in_rust(top / "bindings/rust/roaring", "RoaringBitmap"),
+    "roaring": lambda top: functions_in_rust(top / "bindings/rust/roaring", "RoaringBitmap", {"treemap": "RoaringTreemap"}),
     "C++": functions_in_cpp,
     "Python": functions_in_python,
     "Python's types": functions_in_stub,

@@ -102,7 +102,8 @@ static void sets_of_64() {
     BitRoaring64 c = a;
     CHECK(same(c ^= b, {1, far, UINT64_MAX}) && same(c -= b, {1, UINT64_MAX}) && same(c &= a, {1, UINT64_MAX}));
     CHECK(same(c |= b, {1, 2, far, UINT64_MAX}) && same(c &= c, {1, 2, far, UINT64_MAX}));
-    CHECK(c.is_subset(a | b) && !c.is_disjoint(a) && c != a && c == (b | a) && same(c ^= c, {}) && c.lower_bound(0) == c.end());
+    CHECK(c.is_subset(a | b) && !c.is_disjoint(a) && c != a && c == (b | a) && same(c ^= c, {}));
+    CHECK(c.lower_bound(0) == c.end());
     c.clear();
     CHECK(c.empty() && c.max() == std::nullopt);
 }
