@@ -226,7 +226,7 @@ try_requests() {
 try_calls() {
     local by calls wrapped='-Wl,--wrap=malloc,--wrap=realloc,--wrap=free'
     for by in bit_set bit_set32; do
-        for calls in calls matrix roaring; do
+        for calls in calls matrix roaring roaring64; do
             over_blocks "${by#bit_set}" "$here/c_$calls.c" > "c_$calls.c"
             if cc -std=c99 "${warnings[@]}" -O2 -I"$library" -I"$here" "c_$calls.c" "$library/libbit_set.a" -o calls 2> said; then
                 run ./calls

@@ -1,18 +1,15 @@
-/* Random calls for C on Roaring bitmaps of 32 bits and of 64, each compared with a plain table of which numbers are in.
- * Ends with status 1 at the first difference, and writes where that is.
+/* Random calls for C on Roaring bitmaps, each compared with a plain table of which numbers are in. Ends with status 1 at the
+ * first difference, and writes where that is.
  *   c_roaring [ROUNDS]      of one change and some twenty reads each; 500 where it is not said */
 #include "bit_roaring.h"
 #include "bit_set.h"
 #include "c_draws.h"
+#include "c_places.h"
 
 #include <string.h>
 
 /* The table has the numbers with four keys: place i stands for i, and in the last quarter for the number as far from 2^32 as
  * i is from the end. */
-#define KEY 65536
-#define LIMIT (4 * KEY)
-#define PAST ((uint64_t)1 << 32)
-
 static bit_roaring *sets[2];
 static bool tables[2][LIMIT];
 static uint32_t members[LIMIT + 1];
@@ -27,22 +24,6 @@ static size_t place_of(uint64_t number) {
         return LIMIT;
     return number < PAST - KEY ? 3 * KEY : (size_t)(LIMIT - (PAST - number));
 }
-
-static size_t next_place(const bool *table, size_t place) {
-    while (place < LIMIT && !table[place])
-        place++;
-    return place;
-}
-
-static size_t count_in(const bool *table, size_t start, size_t end) {
-    size_t count = 0;
-    for (; start < end; start++)
-        count += table[start];
-    return count;
-}
-
-/* A place near others: many are in one quarter, and so their container has blocks. */
-static size_t draw_place(void) { return draw(3) == 0 ? draw(LIMIT) : KEY + draw(KEY); }
 
 static void change_one(bit_roaring *set, bool *table) {
     size_t count = draw(400), k;
@@ -251,193 +232,8 @@ static void whole_sets(size_t which) {
     }
 }
 
-/* ---- Sets of 64-bit numbers. */
-
-/* The quarters of the table are then the least numbers, those around 2^32, some from 5 * 2^32 on, and the greatest. */
-static bit_roaring64 *sets64[2];
-static uint64_t members64[LIMIT + 1];
-
-static uint64_t number64_at(size_t place) {
-    if (place < KEY)
-        return place;
-    if (place < 2 * KEY)
-        return PAST - KEY / 2 + (place - KEY);
-    if (place < 3 * KEY)
-        return 5 * PAST + (place - 2 * KEY);
-    return UINT64_MAX - (LIMIT - 1 - place);
-}
-
-/* The place before this one of a number that is in, or LIMIT where there is none. */
-static size_t place_before(const bool *table, size_t place) {
-    while (place > 0)
-        if (table[--place])
-            return place;
-    return LIMIT;
-}
-
-/* What a call found and wrote is the number at the place, and nothing was written where that is LIMIT. */
-static bool is_at(bool found, uint64_t member, size_t place) {
-    return place < LIMIT ? found && member == number64_at(place) : !found && member == 7;
-}
-
-static void change64(bit_roaring64 *set, bool *table) {
-    size_t count = draw(400), k;
-    for (k = 0; k < count; k++) {
-        size_t place = draw_place();
-        uint64_t number = number64_at(place);
-        bool in = draw(3) > 0;
-        CHECK(bit_roaring64_contains(set, number) == table[place]);
-        if (in)
-            CHECK(bit_roaring64_insert(set, number) == !table[place]);
-        else
-            CHECK(bit_roaring64_remove(set, number) == table[place]);
-        table[place] = in;
-    }
-    count = draw(5000);
-    for (k = 0; k < count; k++) {
-        size_t place = draw(LIMIT);
-        members64[k] = number64_at(place);
-        table[place] = true;
-    }
-    CHECK(bit_roaring64_insert_members(set, members64, count) == count);
-    if (draw(40) == 0) {
-        bit_roaring64_clear(set);
-        memset(table, 0, LIMIT);
-    }
-}
-
-static void searches64(const bit_roaring64 *set, const bool *table) {
-    size_t place = draw(LIMIT), count = count_in(table, 0, LIMIT), below = count_in(table, 0, place), steps = 0;
-    size_t next = next_place(table, place), last = table[place] ? place : place_before(table, place);
-    uint64_t number = number64_at(place), member = 7;
-    bool found;
-    CHECK(bit_roaring64_len(set) == count && bit_roaring64_is_empty(set) == (count == 0));
-    CHECK(bit_roaring64_rank(set, number) == below + table[place]);
-    found = bit_roaring64_next(set, number, &member);
-    CHECK(is_at(found, member, next));
-    member = 7;
-    found = bit_roaring64_select(set, below, &member);
-    CHECK(is_at(found, member, next));
-    member = 7;
-    found = bit_roaring64_previous(set, number, &member);
-    CHECK(is_at(found, member, last));
-    member = 7;
-    found = bit_roaring64_min(set, &member);
-    CHECK(is_at(found, member, next_place(table, 0)));
-    member = 7;
-    found = bit_roaring64_max(set, &member);
-    CHECK(is_at(found, member, place_before(table, LIMIT)));
-    place = 0;
-    BIT_ROARING64_FOR_EACH(each, set) {
-        place = next_place(table, place);
-        CHECK(place < LIMIT && each == number64_at(place++));
-        if (++steps == 1000)
-            break;
-    }
-    CHECK(steps == (count < 1000 ? count : 1000));
-}
-
-static void copies64(const bit_roaring64 *set, const bool *table) {
-    size_t place = draw(LIMIT), room = 1 + draw(9000), count, k;
-    uint64_t number = number64_at(place);
-    members64[room] = 7;
-    count = bit_roaring64_copy_members(set, number, members64, room);
-    for (k = 0; k < count; k++) {
-        place = next_place(table, place);
-        CHECK(place < LIMIT && members64[k] == number64_at(place++));
-    }
-    CHECK(members64[room] == 7 && (count == room || next_place(table, place) == LIMIT));
-    place = draw(LIMIT);
-    count = bit_roaring64_copy_members_back(set, number64_at(place), members64, room);
-    for (k = 0, place++; k < count; k++) {
-        place = place_before(table, place);
-        CHECK(place < LIMIT && members64[k] == number64_at(place));
-    }
-    CHECK(members64[room] == 7 && (count == room || place_before(table, place) == LIMIT));
-}
-
-static void two_sets64(void) {
-    bool (*makes[])(bit_roaring64 **, const bit_roaring64 *, const bit_roaring64 *) = {
-        bit_roaring64_union, bit_roaring64_intersection, bit_roaring64_difference, bit_roaring64_symmetric_difference};
-    uint64_t (*counts[])(const bit_roaring64 *, const bit_roaring64 *) = {
-        bit_roaring64_union_len, bit_roaring64_intersection_len, bit_roaring64_difference_len,
-        bit_roaring64_symmetric_difference_len};
-    size_t call, place, common = 0, first = count_in(tables[0], 0, LIMIT), second = count_in(tables[1], 0, LIMIT);
-    bool same = true;
-    for (place = 0; place < LIMIT; place++) {
-        common += tables[0][place] && tables[1][place];
-        same = same && tables[0][place] == tables[1][place];
-    }
-    for (call = 0; call < 4; call++) {
-        size_t sizes[] = {first + second - common, common, first - common, first + second - 2 * common};
-        bit_roaring64 *made = NULL;
-        CHECK(makes[call](&made, sets64[0], sets64[1]));
-        CHECK(bit_roaring64_len(made) == sizes[call] && counts[call](sets64[0], sets64[1]) == sizes[call]);
-        CHECK(call != 1 || (bit_roaring64_is_subset(made, sets64[0]) && bit_roaring64_is_superset(sets64[1], made)));
-        CHECK(call != 2 || bit_roaring64_is_disjoint(made, sets64[1]));
-        bit_roaring64_free(made);
-    }
-    CHECK(bit_roaring64_is_subset(sets64[0], sets64[1]) == (common == first));
-    CHECK(bit_roaring64_is_superset(sets64[0], sets64[1]) == (common == second));
-    CHECK(bit_roaring64_is_disjoint(sets64[0], sets64[1]) == (common == 0));
-    CHECK(bit_roaring64_equals(sets64[0], sets64[1]) == same);
-}
-
-/* A set with the least and the greatest number, and some around 2^32. */
-static void ends64(void) {
-    uint64_t numbers[] = {UINT64_MAX, PAST, 5, 0, PAST - 1, 5}, out[4] = {7, 7, 7, 7}, member = 7, sum = 0;
-    bit_roaring64 *set = NULL, *copy = NULL;
-    CHECK(bit_roaring64_from_members(&set, numbers, 6) && bit_roaring64_len(set) == 5);
-    CHECK(bit_roaring64_rank(set, 4) == 1 && bit_roaring64_rank(set, PAST) == 4 && bit_roaring64_rank(set, UINT64_MAX) == 5);
-    CHECK(bit_roaring64_select(set, 3, &member) && member == PAST);
-    CHECK(bit_roaring64_select(set, 4, &member) && member == UINT64_MAX && !bit_roaring64_select(set, 5, &member));
-    CHECK(bit_roaring64_next(set, 6, &member) && member == PAST - 1);
-    CHECK(bit_roaring64_next(set, PAST + 1, &member) && member == UINT64_MAX);
-    CHECK(bit_roaring64_previous(set, PAST - 2, &member) && member == 5);
-    CHECK(bit_roaring64_previous(set, UINT64_MAX - 1, &member) && member == PAST);
-    CHECK(bit_roaring64_copy_members(set, 1, out, 3) == 3 && out[0] == 5 && out[1] == PAST - 1 && out[2] == PAST);
-    CHECK(bit_roaring64_copy_members_back(set, PAST, out, 2) == 2 && out[0] == PAST && out[1] == PAST - 1 && out[3] == 7);
-    /* The loop ends behind the greatest number, though no number is above it: 0 + 5 + (2^32 - 1) + 2^32 - 1. */
-    BIT_ROARING64_FOR_EACH(each, set) sum += each;
-    CHECK(sum == 8589934595);
-    CHECK(bit_roaring64_clone(&copy, set) && bit_roaring64_remove(set, UINT64_MAX) == BIT_ROARING_YES);
-    CHECK(bit_roaring64_max(set, &member) && member == PAST && bit_roaring64_is_subset(set, copy));
-    CHECK(!bit_roaring64_next(set, PAST + 1, &member) && member == PAST && !bit_roaring64_equals(set, copy));
-    CHECK(bit_roaring64_difference_len(copy, set) == 1 && bit_roaring64_union_len(set, set) == 4);
-    bit_roaring64_free(set);
-    bit_roaring64_free(copy);
-    bit_roaring64_free(NULL);
-}
-
-/* The hash of the members does not depend on the type. */
-static void hashes(void) {
-    uint64_t number;
-    bit_roaring *small = NULL;
-    bit_roaring64 *large = NULL;
-    CHECK(bit_roaring_new(&small) && bit_roaring64_new(&large));
-    for (number = 3; number < 100000; number += 1000)
-        CHECK(bit_roaring_insert(small, (uint32_t)number) == 1 && bit_roaring64_insert(large, number) == 1);
-    CHECK(bit_roaring_hash(small) == bit_roaring64_hash(large));
-    bit_roaring_free(small);
-    bit_roaring64_free(large);
-}
-
-static void rounds64(long rounds) {
-    memset(tables, 0, sizeof tables);
-    CHECK(bit_roaring64_new(&sets64[0]) && bit_roaring64_from_members(&sets64[1], members64, 0));
-    while (rounds-- > 0) {
-        size_t which = draw(2);
-        change64(sets64[which], tables[which]);
-        searches64(sets64[which], tables[which]);
-        copies64(sets64[which], tables[which]);
-        two_sets64();
-    }
-    bit_roaring64_free(sets64[0]);
-    bit_roaring64_free(sets64[1]);
-}
-
 int main(int argc, char **argv) {
-    long rounds = argc > 1 ? atol(argv[1]) : 500, rounds_of_64 = rounds / 5;
+    long rounds = argc > 1 ? atol(argv[1]) : 500;
     CHECK(bit_roaring_new(&sets[0]) && bit_roaring_from_members(&sets[1], members, 0));
     while (rounds-- > 0) {
         size_t which = draw(2), call = draw(7);
@@ -457,8 +253,5 @@ int main(int argc, char **argv) {
     }
     bit_roaring_free(sets[0]);
     bit_roaring_free(sets[1]);
-    ends64();
-    hashes();
-    rounds64(rounds_of_64);
     return 0;
 }

@@ -104,6 +104,11 @@ static void sets_of_64() {
     CHECK(same(c |= b, {1, 2, far, UINT64_MAX}) && same(c &= c, {1, 2, far, UINT64_MAX}));
     CHECK(c.is_subset(a | b) && !c.is_disjoint(a) && c != a && c == (b | a) && same(c ^= c, {}));
     CHECK(c.lower_bound(0) == c.end());
+    std::vector<std::uint8_t> bytes = set.serialize();
+    std::size_t used = 0, size = bytes.size();
+    bytes.push_back(7);
+    CHECK(BitRoaring64::deserialize(bytes.data(), bytes.size(), &used) == set && used == size);
+    CHECK(throws<std::invalid_argument>([&] { BitRoaring64::deserialize(bytes.data(), size - 1); }));
     c.clear();
     CHECK(c.empty() && c.max() == std::nullopt);
 }

@@ -26,6 +26,7 @@
  *   Two sets, read          is_subset, is_superset, is_disjoint, equals, union_len, intersection_len, difference_len,
  *                           symmetric_difference_len
  *   A whole set             clear
+ *   Bytes                   serialize, deserialize
  *
  * What the caller must ensure, in Rust's terms:
  *
@@ -284,11 +285,18 @@ int32_t bit_roaring_serialize(const bit_roaring *set, uint8_t *bytes, size_t roo
 int32_t bit_roaring_deserialize(bit_roaring **out, const uint8_t *bytes, size_t count, size_t *used) BIT_SET_MAY_FAIL;
 
 /* ---- Sets of 64-bit numbers. The numbers with the same upper 32 bits are in one bitmap, a `bit_roaring` of their lower 32
- * bits. A call on a number finds its bitmap by a binary search among all bitmaps of the set. Each number may be a member, so a
- * call that finds one returns whether there is one, and writes it only then. */
+ * bits. A call on a number finds its bitmap by a binary search among all bitmaps of the set. Each number may be a member, so
+ * a call that finds one returns whether there is one, and writes it only then. */
 
 /* A set of numbers below 2^64. */
 typedef struct bit_roaring64 bit_roaring64;
+
+/* Further results of `bit_roaring64_deserialize`. */
+enum bit_roaring64_answer {
+    BIT_ROARING64_EMPTY_BITMAP = -14,  /* a bitmap has no members */
+    BIT_ROARING64_BAD_KEYS = -13,      /* a key of a bitmap is not above the one before it */
+    BIT_ROARING64_SHORT = -12          /* the number of bitmaps or a key extends past the end of the bytes */
+};
 
 /* ---- Making and freeing. */
 
@@ -407,6 +415,21 @@ uint64_t bit_roaring64_symmetric_difference_len(const bit_roaring64 *set, const 
 
 /* Removes every member, and gives the memory of the bitmaps back. */
 void bit_roaring64_clear(bit_roaring64 *set) BIT_SET_CALL;
+
+/* ---- Bytes, in the portable form of Roaring bitmaps for 64 bits: how many bitmaps there are, as a uint64_t, and for each
+ * the upper 32 bits, as a uint32_t, and what `bit_roaring_serialize` writes. Numbers are little endian. */
+
+/* Writes the set to the front of the bytes; later ones are unchanged. `*size` is how many bytes it takes. BIT_ROARING_YES if
+ * it did, BIT_ROARING_NO if `room` is less, or BIT_ROARING_NO_MEMORY. The bytes are unchanged unless it did; `*size` is, if
+ * memory runs out. Makes the bytes first, in memory of their own. */
+int32_t bit_roaring64_serialize(const bit_roaring64 *set, uint8_t *bytes, size_t room, size_t *size) BIT_SET_MAY_FAIL;
+
+/* The set that the first bytes represent, and in `*used` how many bytes that are: what follows is the caller's. No more than
+ * `count` bytes are read, whatever they are. BIT_ROARING_YES, BIT_ROARING_NO_MEMORY, or the first fault of the bytes: in a
+ * bitmap, from BIT_ROARING_SHORT to BIT_ROARING_BAD_RUNS, or between, from BIT_ROARING64_SHORT to
+ * BIT_ROARING64_EMPTY_BITMAP. `*used` is unchanged if it fails. Reads each byte once. */
+int32_t bit_roaring64_deserialize(bit_roaring64 **out, const uint8_t *bytes, size_t count, size_t *used)
+    BIT_SET_MAY_FAIL;
 
 /* ---- The calls that require two different sets, if BIT_ROARING_CHECKED is defined: each checks first. */
 

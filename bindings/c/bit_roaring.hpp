@@ -1,8 +1,8 @@
 // Sets of 32-bit numbers for C++17, and of 64-bit numbers, over bit_roaring.h: classes that own their sets and free them. If
-// memory runs out, a call throws std::bad_alloc; bytes that are not those of a set throw std::invalid_argument, and a bit set
-// with a member above UINT32_MAX throws std::out_of_range. Nothing has changed then, except that `optimize` and `remove_runs`
-// may have converted some containers. If the compiler has no exceptions, these end the process. A call that has no method
-// here is made as in C, with `get()`.
+// memory runs out, a call throws std::bad_alloc; bytes that are not those of a set throw std::invalid_argument, and a bit
+// set with a member above UINT32_MAX throws std::out_of_range. Nothing has changed then, except that `optimize` and
+// `remove_runs` may have converted some containers. If the compiler has no exceptions, these end the process. A call that
+// has no method here is made as in C, with `get()`.
 #ifndef BIT_ROARING_HPP
 #define BIT_ROARING_HPP
 
@@ -362,6 +362,30 @@ public:
     }
     bool is_subset(const BitRoaring64 &other) const { return bit_roaring64_is_subset(set_, other.set_); }
     bool is_disjoint(const BitRoaring64 &other) const { return bit_roaring64_is_disjoint(set_, other.set_); }
+
+    // The bytes of the set in the portable form for 64 bits; the set that the first bytes represent, and in `used`, if it is
+    // given, how many bytes that are. The pointer must not be null, even if there are no bytes.
+    std::vector<std::uint8_t> serialize() const {
+        std::vector<std::uint8_t> bytes(64);
+        std::size_t size = 0;
+        std::int32_t written;
+        while ((written = bit_roaring64_serialize(set_, bytes.data(), bytes.size(), &size)) == BIT_ROARING_NO)
+            bytes.resize(size);
+        require(written == BIT_ROARING_YES);
+        bytes.resize(size);
+        return bytes;
+    }
+    static BitRoaring64 deserialize(const std::uint8_t *bytes, std::size_t count, std::size_t *used = nullptr) {
+        bit_roaring64 *set = nullptr;
+        std::size_t taken = 0;
+        std::int32_t made = bit_roaring64_deserialize(&set, bytes, count, &taken);
+        if (made < BIT_ROARING_NO_MEMORY)
+            BIT_ROARING_THROW(std::invalid_argument("the bytes are not those of a set"));
+        require(made == BIT_ROARING_YES);
+        if (used != nullptr)
+            *used = taken;
+        return BitRoaring64(set);
+    }
 
     // Each makes a new set and puts it in place of this one.
     BitRoaring64 &operator|=(const BitRoaring64 &other) { return *this = *this | other; }

@@ -62,7 +62,7 @@ try_packages() {
         try "$on: the loader takes the object for v3" inside 'ldd ./shared | grep -F x86-64-v3/libbit_set.so'
     fi
     local calls
-    for calls in c_calls c_matrix c_roaring; do
+    for calls in c_calls c_matrix c_roaring c_roaring64; do
         try "$on: random calls of $calls over the shared object" inside "
             gcc -O2 bit_set-\$VERSION/tests/$calls.c \$(pkg-config --cflags --libs bit_set) -o $calls
             ./$calls \$ROUNDS"

@@ -46,6 +46,11 @@ pub const NO_MEMORY: i32 = -1;
 pub const NO: i32 = 0;
 pub const YES: i32 = 1;
 
+/// Further results of `bit_roaring64_deserialize`.
+pub const EMPTY_BITMAP64: i32 = -14;
+pub const BAD_KEYS64: i32 = -13;
+pub const SHORT64: i32 = -12;
+
 /// The result of a search that finds no member.
 pub const NONE: u64 = u64::MAX;
 
@@ -130,4 +135,6 @@ extern "C" {
     pub fn bit_roaring64_difference_len(set: *const Treemap, other: *const Treemap) -> u64;
     pub fn bit_roaring64_symmetric_difference_len(set: *const Treemap, other: *const Treemap) -> u64;
     pub fn bit_roaring64_clear(set: *mut Treemap);
+    pub fn bit_roaring64_serialize(set: *const Treemap, bytes: *mut u8, room: usize, size: *mut usize) -> i32;
+    pub fn bit_roaring64_deserialize(out: *mut *mut Treemap, bytes: *const u8, count: usize, used: *mut usize) -> i32;
 }

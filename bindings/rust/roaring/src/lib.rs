@@ -2,7 +2,7 @@
 //! `RoaringBitmap` and `RoaringTreemap` of the crate `roaring` 0.10, over a C library whose every call is proved.
 //!
 //! Left out are `from_lsb0_bytes`, `from_bitmap_bytes`, `intersection_with_serialized_unchecked`, of `RoaringTreemap`
-//! also its ranges, its bytes, `full`, `is_full`, `bitmaps` and `from_bitmaps`, and the features `serde` and `simd`.
+//! also its ranges, `full`, `is_full`, `bitmaps` and `from_bitmaps`, and the features `serde` and `simd`.
 //! `try_push` is that of 0.11. If memory runs out, a call ends the process, like those of `Vec`.
 //!
 //! ```

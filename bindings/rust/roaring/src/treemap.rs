@@ -5,6 +5,7 @@ use std::sync::OnceLock;
 
 use crate::{raw, require};
 
+mod bytes;
 mod filling;
 mod operators;
 mod walks;

@@ -4,6 +4,7 @@ mod common;
 use common::Draws;
 use roaring::RoaringTreemap;
 use std::collections::{BTreeSet, VecDeque};
+use std::io::{Cursor, ErrorKind, Read};
 
 type Model = BTreeSet<u64>;
 
@@ -152,6 +153,51 @@ fn numbers_that_ascend() {
     assert_eq!(RoaringTreemap::from_sorted_iter(0..1000).unwrap().len(), 1000);
     assert_eq!(set, [u64::MAX, 1 << 41, 1 << 40, 5, 1].into());
     assert!(!set.push(u64::MAX));
+}
+
+fn bytes_of(set: &RoaringTreemap) -> Vec<u8> {
+    let mut bytes = Vec::new();
+    set.serialize_into(&mut bytes).unwrap();
+    assert_eq!(bytes.len(), set.serialized_size());
+    bytes
+}
+
+#[test]
+fn bytes() {
+    // How many bitmaps there are, and for each its key, the form's number, one container, its key and how many members it
+    // has besides one, its place, and its members.
+    let written = [
+        2, 0, 0, 0, 0, 0, 0, 0, //
+        0, 0, 0, 0, 58, 48, 0, 0, 1, 0, 0, 0, 0, 0, 1, 0, 16, 0, 0, 0, 3, 0, 4, 0, //
+        1, 0, 0, 0, 58, 48, 0, 0, 1, 0, 0, 0, 0, 0, 0, 0, 16, 0, 0, 0, 7, 0,
+    ];
+    assert_eq!(bytes_of(&[3, 4, (1 << 32) + 7].into()), written);
+    let mut draws = Draws(5);
+    let (mut all, mut sets) = (Vec::new(), Vec::new());
+    for _ in 0..20 {
+        let (set, _) = draws.treemap();
+        let bytes = bytes_of(&set);
+        let cut = draws.below(bytes.len());
+        assert_eq!(RoaringTreemap::deserialize_from(&bytes[..cut]).unwrap_err().kind(), ErrorKind::UnexpectedEof);
+        all.extend(bytes);
+        all.push(77);
+        sets.push(set);
+    }
+    let mut reader = Cursor::new(all);
+    for set in sets {
+        assert_eq!(RoaringTreemap::deserialize_from(&mut reader).unwrap(), set);
+        let mut next = [0];
+        reader.read_exact(&mut next).unwrap();
+        assert_eq!(next, [77]);
+    }
+    // The second key is not above the first, and the first bitmap is of another form.
+    for (at, byte) in [(32, 0), (12, 1)] {
+        let mut broken = written;
+        broken[at] = byte;
+        assert_eq!(RoaringTreemap::deserialize_from(&broken[..]).unwrap_err().kind(), ErrorKind::InvalidData);
+    }
+    let empty_bitmap = [1, 0, 0, 0, 0, 0, 0, 0, 9, 0, 0, 0, 58, 48, 0, 0, 0, 0, 0, 0];
+    assert_eq!(RoaringTreemap::deserialize_from(&empty_bitmap[..]).unwrap_err().kind(), ErrorKind::InvalidData);
 }
 
 #[test]
