@@ -420,8 +420,8 @@ void bit_roaring64_clear(bit_roaring64 *set) BIT_SET_CALL;
  * the upper 32 bits, as a uint32_t, and what `bit_roaring_serialize` writes. Numbers are little endian. */
 
 /* Writes the set to the front of the bytes; later ones are unchanged. `*size` is how many bytes it takes. BIT_ROARING_YES if
- * it did, BIT_ROARING_NO if `room` is less, or BIT_ROARING_NO_MEMORY. The bytes are unchanged unless it did; `*size` is, if
- * memory runs out. Makes the bytes first, in memory of their own. */
+ * it did, BIT_ROARING_NO if `room` is less, or BIT_ROARING_NO_MEMORY. The bytes are unchanged unless it did, and so is
+ * `*size` if memory runs out. Makes the bytes first, in memory of their own. */
 int32_t bit_roaring64_serialize(const bit_roaring64 *set, uint8_t *bytes, size_t room, size_t *size) BIT_SET_MAY_FAIL;
 
 /* The set that the first bytes represent, and in `*used` how many bytes that are: what follows is the caller's. No more than
