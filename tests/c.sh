@@ -280,7 +280,7 @@ try_python() {
                 cat said
                 fail 'the Python module cannot be loaded where the headers of Python 3.8 built it'
             fi
-            for file in tests roaring_tests faults; do
+            for file in tests roaring_tests roaring64_tests faults; do
                 if PYTHONPATH=module python3 -B "$bindings/python/$file.py" > said 2>&1; then
                     pass
                 else

@@ -124,7 +124,7 @@ def functions_in_cpp(top):
 def functions_in_python(top):
     """The methods and attributes in the tables of the module."""
     text = (top / "bindings/python/src/module.c").read_text()
-    types = {"set": "BitSet", "bitmap": "RoaringBitmap", "matrix": "BitMatrix"}
+    types = {"set": "BitSet", "bitmap": "RoaringBitmap", "wide": "RoaringBitmap64", "matrix": "BitMatrix"}
     found = {name: Counter(re.findall(rf"^    METHOD\({of}, (\w+)", text, re.MULTILINE)) for of, name in types.items()}
     attributes = re.search(r"matrix_attributes\[\] = \{(.*?)\n\};", text, re.DOTALL).group(1)
     found["BitMatrix"].update(re.findall(r'\{"(\w+)"', attributes))
