@@ -61,6 +61,24 @@ static void change(bit_roaring64 *set, bool *table) {
     }
 }
 
+static void change_in_place(bit_roaring64 *set, bool *table, const bit_roaring64 *other, const bool *with) {
+    size_t call = draw(4), place;
+    int32_t (*calls[])(bit_roaring64 *, const bit_roaring64 *) = {
+        bit_roaring64_union_with, bit_roaring64_intersect_with, bit_roaring64_difference_with,
+        bit_roaring64_symmetric_difference_with};
+    bool changed = false;
+    for (place = 0; place < LIMIT; place++) {
+        bool a = table[place], b = with[place];
+        bool in = call == 0 ? a || b : call == 1 ? a && b : call == 2 ? a && !b : a != b;
+        changed |= in != a;
+        table[place] = in;
+    }
+    CHECK(calls[call](set, other) == changed);
+    CHECK(calls[call == 3 ? 0 : call](set, other) == (call == 3 && !bit_roaring64_is_empty(other)));
+    for (place = 0; call == 3 && place < LIMIT; place++)
+        table[place] = table[place] || with[place];
+}
+
 static void searches(const bit_roaring64 *set, const bool *table) {
     size_t place = draw(LIMIT), count = count_in(table, 0, LIMIT), below = count_in(table, 0, place), steps = 0;
     size_t next = next_place(table, place), last = table[place] ? place : place_before(table, place);
@@ -118,10 +136,14 @@ static void two_sets(void) {
         bit_roaring64_union_len, bit_roaring64_intersection_len, bit_roaring64_difference_len,
         bit_roaring64_symmetric_difference_len};
     size_t call, place, common = 0, first = count_in(tables[0], 0, LIMIT), second = count_in(tables[1], 0, LIMIT);
-    bool same = true;
+    int32_t order = 0;
     for (place = 0; place < LIMIT; place++) {
         common += tables[0][place] && tables[1][place];
-        same = same && tables[0][place] == tables[1][place];
+        if (order == 0 && tables[0][place] != tables[1][place]) {
+            const bool *lacks = tables[0][place] ? tables[1] : tables[0];
+            bool ends = next_place(lacks, place) == LIMIT;
+            order = tables[0][place] == ends ? 1 : -1;
+        }
     }
     for (call = 0; call < 4; call++) {
         size_t sizes[] = {first + second - common, common, first - common, first + second - 2 * common};
@@ -135,7 +157,7 @@ static void two_sets(void) {
     CHECK(bit_roaring64_is_subset(sets[0], sets[1]) == (common == first));
     CHECK(bit_roaring64_is_superset(sets[0], sets[1]) == (common == second));
     CHECK(bit_roaring64_is_disjoint(sets[0], sets[1]) == (common == 0));
-    CHECK(bit_roaring64_equals(sets[0], sets[1]) == same);
+    CHECK(bit_roaring64_equals(sets[0], sets[1]) == (order == 0) && bit_roaring64_compare(sets[0], sets[1]) == order);
 }
 
 /* A set with the least and the greatest number, and some around 2^32. */
@@ -245,7 +267,10 @@ int main(int argc, char **argv) {
     CHECK(bit_roaring64_new(&sets[0]) && bit_roaring64_from_members(&sets[1], members, 0));
     while (rounds-- > 0) {
         size_t which = draw(2);
-        change(sets[which], tables[which]);
+        if (draw(3) > 0)
+            change(sets[which], tables[which]);
+        else
+            change_in_place(sets[which], tables[which], sets[1 - which], tables[1 - which]);
         searches(sets[which], tables[which]);
         copies(sets[which], tables[which]);
         two_sets();

@@ -23,8 +23,9 @@
  *   Ends and searches       min, max, next, previous, rank, select; BIT_ROARING64_FOR_EACH
  *   Copies                  copy_members, copy_members_back
  *   Reading a set           len, is_empty, hash
- *   Two sets, read          is_subset, is_superset, is_disjoint, equals, union_len, intersection_len, difference_len,
- *                           symmetric_difference_len
+ *   Two sets, read          is_subset, is_superset, is_disjoint, equals, compare, union_len, intersection_len,
+ *                           difference_len, symmetric_difference_len
+ *   Two sets, in place      union_with, intersect_with, difference_with, symmetric_difference_with
  *   A whole set             clear
  *   Bytes                   serialize, deserialize
  *
@@ -404,12 +405,27 @@ bool bit_roaring64_is_disjoint(const bit_roaring64 *set, const bit_roaring64 *ot
 /* Whether the members are the same. The forms of the containers do not matter. */
 bool bit_roaring64_equals(const bit_roaring64 *set, const bit_roaring64 *other) BIT_SET_CALL;
 
+/* -1, 0 or 1, as the ascending lists of members compare by their first difference. Goes over the members of both up to the
+ * first that differs. */
+int32_t bit_roaring64_compare(const bit_roaring64 *set, const bit_roaring64 *other) BIT_SET_CALL;
+
 /* How many numbers are in either set, in both, only in the first, or in exactly one of the two, or UINT64_MAX if all 2^64
  * are. */
 uint64_t bit_roaring64_union_len(const bit_roaring64 *set, const bit_roaring64 *other) BIT_SET_CALL;
 uint64_t bit_roaring64_intersection_len(const bit_roaring64 *set, const bit_roaring64 *other) BIT_SET_CALL;
 uint64_t bit_roaring64_difference_len(const bit_roaring64 *set, const bit_roaring64 *other) BIT_SET_CALL;
 uint64_t bit_roaring64_symmetric_difference_len(const bit_roaring64 *set, const bit_roaring64 *other) BIT_SET_CALL;
+
+/* ---- In place. In none of these may `set` be the other set of the call. Each sets the members to those that the call of
+ * the same name that makes a set has, and returns BIT_ROARING_YES if that changed them, BIT_ROARING_NO if not, or
+ * BIT_ROARING_NO_MEMORY. The answer takes what `is_subset` or `is_disjoint` does, and the merge a search for each bitmap of
+ * `other`: those that both sets have are merged into new ones, those that only `other` has are copied, and where one is
+ * added or becomes empty those above move. `intersect_with` makes all bitmaps anew. */
+
+int32_t bit_roaring64_union_with(bit_roaring64 *set, const bit_roaring64 *other) BIT_SET_MAY_FAIL;
+int32_t bit_roaring64_intersect_with(bit_roaring64 *set, const bit_roaring64 *other) BIT_SET_MAY_FAIL;
+int32_t bit_roaring64_difference_with(bit_roaring64 *set, const bit_roaring64 *other) BIT_SET_MAY_FAIL;
+int32_t bit_roaring64_symmetric_difference_with(bit_roaring64 *set, const bit_roaring64 *other) BIT_SET_MAY_FAIL;
 
 /* ---- A whole set. */
 
@@ -438,25 +454,33 @@ int32_t bit_roaring64_deserialize(bit_roaring64 **out, const uint8_t *bytes, siz
 #include <stdio.h>
 #include <stdlib.h>
 
-#define BIT_ROARING_CHECK(call)                                                                                        \
-    static inline int32_t bit_roaring_checked_##call(bit_roaring *set, const bit_roaring *other) {                     \
+#define BIT_ROARING_CHECK(type, call)                                                                                  \
+    static inline int32_t type##_checked_##call(type *set, const type *other) {                                        \
         if (set == other) {                                                                                            \
-            fprintf(stderr, "bit_roaring_%s: the call was given one set where it owes two\n", #call);                  \
+            fprintf(stderr, "%s_%s: the call was given one set where it owes two\n", #type, #call);                    \
             abort();                                                                                                   \
         }                                                                                                              \
-        return bit_roaring_##call(set, other);                                                                         \
+        return type##_##call(set, other);                                                                              \
     }
 
-BIT_ROARING_CHECK(union_with)
-BIT_ROARING_CHECK(intersect_with)
-BIT_ROARING_CHECK(difference_with)
-BIT_ROARING_CHECK(symmetric_difference_with)
+BIT_ROARING_CHECK(bit_roaring, union_with)
+BIT_ROARING_CHECK(bit_roaring, intersect_with)
+BIT_ROARING_CHECK(bit_roaring, difference_with)
+BIT_ROARING_CHECK(bit_roaring, symmetric_difference_with)
+BIT_ROARING_CHECK(bit_roaring64, union_with)
+BIT_ROARING_CHECK(bit_roaring64, intersect_with)
+BIT_ROARING_CHECK(bit_roaring64, difference_with)
+BIT_ROARING_CHECK(bit_roaring64, symmetric_difference_with)
 
 #undef BIT_ROARING_CHECK
 #define bit_roaring_union_with bit_roaring_checked_union_with
 #define bit_roaring_intersect_with bit_roaring_checked_intersect_with
 #define bit_roaring_difference_with bit_roaring_checked_difference_with
 #define bit_roaring_symmetric_difference_with bit_roaring_checked_symmetric_difference_with
+#define bit_roaring64_union_with bit_roaring64_checked_union_with
+#define bit_roaring64_intersect_with bit_roaring64_checked_intersect_with
+#define bit_roaring64_difference_with bit_roaring64_checked_difference_with
+#define bit_roaring64_symmetric_difference_with bit_roaring64_checked_symmetric_difference_with
 
 #endif
 

@@ -387,11 +387,32 @@ public:
         return BitRoaring64(set);
     }
 
-    // Each makes a new set and puts it in place of this one.
-    BitRoaring64 &operator|=(const BitRoaring64 &other) { return *this = *this | other; }
-    BitRoaring64 &operator&=(const BitRoaring64 &other) { return *this = *this & other; }
-    BitRoaring64 &operator-=(const BitRoaring64 &other) { return *this = *this - other; }
-    BitRoaring64 &operator^=(const BitRoaring64 &other) { return *this = *this ^ other; }
+    // A call on two sets in place must have two different ones: for a set and itself the result is that set, or the empty
+    // one.
+    BitRoaring64 &operator|=(const BitRoaring64 &other) {
+        if (set_ != other.set_)
+            answer(bit_roaring64_union_with(set_, other.set_));
+        return *this;
+    }
+    BitRoaring64 &operator&=(const BitRoaring64 &other) {
+        if (set_ != other.set_)
+            answer(bit_roaring64_intersect_with(set_, other.set_));
+        return *this;
+    }
+    BitRoaring64 &operator-=(const BitRoaring64 &other) {
+        if (set_ == other.set_)
+            clear();
+        else
+            answer(bit_roaring64_difference_with(set_, other.set_));
+        return *this;
+    }
+    BitRoaring64 &operator^=(const BitRoaring64 &other) {
+        if (set_ == other.set_)
+            clear();
+        else
+            answer(bit_roaring64_symmetric_difference_with(set_, other.set_));
+        return *this;
+    }
     friend BitRoaring64 operator|(const BitRoaring64 &a, const BitRoaring64 &b) { return made(bit_roaring64_union, a, b); }
     friend BitRoaring64 operator&(const BitRoaring64 &a, const BitRoaring64 &b) {
         return made(bit_roaring64_intersection, a, b);
@@ -405,6 +426,10 @@ public:
 
     friend bool operator==(const BitRoaring64 &a, const BitRoaring64 &b) { return bit_roaring64_equals(a.set_, b.set_); }
     friend bool operator!=(const BitRoaring64 &a, const BitRoaring64 &b) { return !(a == b); }
+    // The order of the ascending lists of members.
+    friend bool operator<(const BitRoaring64 &a, const BitRoaring64 &b) {
+        return bit_roaring64_compare(a.set_, b.set_) < 0;
+    }
 };
 
 #undef BIT_ROARING_THROW

@@ -160,6 +160,15 @@ class Exact(unittest.TestCase):
             bitmap.discard(number)
         self.assertEqual((bitmap, list(iter(RoaringBitmap64(range(3000))))), (set(), list(range(3000))))
 
+    def test_a_bitmap_and_itself(self):
+        bitmap = RoaringBitmap64([1, GREATEST])
+        bitmap |= bitmap
+        bitmap &= bitmap
+        bitmap.update(bitmap)
+        self.assertEqual(bitmap, {1, GREATEST})
+        bitmap ^= bitmap
+        self.assertEqual(bitmap, set())
+
     def test_derived_classes(self):
         class Named(RoaringBitmap64):
             pass

@@ -58,6 +58,7 @@ typedef bool merge(bit_set *, const bit_set *);
 typedef bool make(bit_roaring **, const bit_roaring *, const bit_roaring *);
 typedef int32_t change(bit_roaring *, const bit_roaring *);
 typedef bool make64(bit_roaring64 **, const bit_roaring64 *, const bit_roaring64 *);
+typedef int32_t change64(bit_roaring64 *, const bit_roaring64 *);
 typedef int look(void *, PyObject *);
 
 /* The types, `Set` of collections.abc, and the type of arrays. */
@@ -380,7 +381,7 @@ PyObject *wide_serialize(PyObject *self, PyObject *Py_UNUSED(none));
 PyObject *wide_subscript(PyObject *self, PyObject *index);
 PyObject *wide_to_array(PyObject *self, PyObject *Py_UNUSED(none));
 Py_ssize_t wide_length(PyObject *self);
-bool merge_wides(PyObject *self, PyObject *other, make64 *call);
+bool merge_wides(PyObject *self, PyObject *other, change64 *call);
 bool put_all_in_wide(PyObject *self, PyObject *members);
 bool put_wide_group(PyObject *self, const uint64_t *group, size_t count);
 bool read_wide_member(PyObject *object, uint64_t *number);

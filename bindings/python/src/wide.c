@@ -86,19 +86,15 @@ PyObject *wide_copy(PyObject *self, PyObject *Py_UNUSED(none))
     return made ? made_if(bit_roaring64_clone(&((Wide *)made)->bitmap, wide_of(self)), made) : NULL;
 }
 
-static void becomes(PyObject *self, bit_roaring64 *made)
+bool merge_wides(PyObject *self, PyObject *other, change64 *call)
 {
-    bit_roaring64_free(wide_of(self));
-    ((Wide *)self)->bitmap = made;
-}
-
-bool merge_wides(PyObject *self, PyObject *other, make64 *call)
-{
-    bit_roaring64 *made = NULL;
-    if (call(&made, wide_of(self), wide_of(other))) {
-        becomes(self, made);
+    if (self == other) {
+        if (call == bit_roaring64_difference_with || call == bit_roaring64_symmetric_difference_with)
+            bit_roaring64_clear(wide_of(self));
         return true;
     }
+    if (call(wide_of(self), wide_of(other)) >= 0)
+        return true;
     PyErr_NoMemory();
     return false;
 }
@@ -133,7 +129,7 @@ static int gather_wide(void *with, PyObject *item)
 bool put_all_in_wide(PyObject *self, PyObject *members)
 {
     if (is_wide(members))
-        return merge_wides(self, members, bit_roaring64_union);
+        return merge_wides(self, members, bit_roaring64_union_with);
     PyObject *type, *value, *trace;
     struct gathered_wide numbers = {.self = self, .count = 0};
     bool is_good = each_item(PyObject_GetIter(members), gather_wide, &numbers) >= 0;
@@ -361,6 +357,12 @@ static const char *fault_of(int32_t answer)
     case BIT_ROARING64_EMPTY_BITMAP: return "a bitmap has no members";
     default: return "the bytes of a bitmap are not those of one";
     }
+}
+
+static void becomes(PyObject *self, bit_roaring64 *made)
+{
+    bit_roaring64_free(wide_of(self));
+    ((Wide *)self)->bitmap = made;
 }
 
 static PyObject *put_bytes(PyObject *self, PyObject *bytes)

@@ -1,5 +1,5 @@
-/* Merges and comparisons of Roaring bitmaps of 64-bit numbers. As with those of 32 bits, an operator takes a set of any kind,
- * and a method any iterable. */
+/* Merges and comparisons of Roaring bitmaps of 64-bit numbers. As with those of 32 bits, an operator takes a set of any
+ * kind, and a method any iterable. */
 #include "set.h"
 
 /* A bitmap, and another made of items. */
@@ -54,16 +54,16 @@ static PyObject *made_of(PyObject *self, PyObject *iterable, look *look_at)
 }
 
 /* Merges the items of an iterable into the bitmap. If it keeps or removes only members, other items are skipped. */
-static bool merge_iterable(PyObject *self, PyObject *iterable, make64 *call)
+static bool merge_iterable(PyObject *self, PyObject *iterable, change64 *call)
 {
-    bool is_of_members = call == bit_roaring64_intersection || call == bit_roaring64_difference;
+    bool is_of_members = call == bit_roaring64_intersect_with || call == bit_roaring64_difference_with;
     PyObject *other = is_of_members && !is_wide(iterable) ? made_of(self, iterable, put_member) : as_wide(iterable);
     bool is_done = other && merge_wides(self, other, call);
     Py_XDECREF(other);
     return is_done;
 }
 
-static PyObject *merge_each(PyObject *self, PyObject *iterables, make64 *call)
+static PyObject *merge_each(PyObject *self, PyObject *iterables, change64 *call)
 {
     for (Py_ssize_t at = 0; at < PyTuple_Size(iterables); at++)
         if (!merge_iterable(self, PyTuple_GetItem(iterables, at), call))
@@ -71,7 +71,7 @@ static PyObject *merge_each(PyObject *self, PyObject *iterables, make64 *call)
     return reference_to(Py_None);
 }
 
-static PyObject *merged_with_each(PyObject *self, PyObject *iterables, make64 *call)
+static PyObject *merged_with_each(PyObject *self, PyObject *iterables, change64 *call)
 {
     PyObject *made = wide_copy(self, NULL), *done = made ? merge_each(made, iterables, call) : NULL;
     if (!done)
@@ -89,10 +89,10 @@ static PyObject *merged_with_each(PyObject *self, PyObject *iterables, make64 *c
     {                                                                                                                  \
         return merged_with_each(self, others, call);                                                                   \
     }
-METHODS(union, update, bit_roaring64_union)
-METHODS(intersection, intersection_update, bit_roaring64_intersection)
-METHODS(difference, difference_update, bit_roaring64_difference)
-METHODS(symmetric_difference, symmetric_difference_update, bit_roaring64_symmetric_difference)
+METHODS(union, update, bit_roaring64_union_with)
+METHODS(intersection, intersection_update, bit_roaring64_intersect_with)
+METHODS(difference, difference_update, bit_roaring64_difference_with)
+METHODS(symmetric_difference, symmetric_difference_update, bit_roaring64_symmetric_difference_with)
 
 /* The merge of two bitmaps, as a new one. */
 static PyObject *merged(PyTypeObject *type, PyObject *left, PyObject *right, make64 *call)
@@ -102,7 +102,7 @@ static PyObject *merged(PyTypeObject *type, PyObject *left, PyObject *right, mak
 }
 
 /* `left op right`. Either may be the bitmap. */
-static PyObject *operate(PyObject *left, PyObject *right, make64 *call)
+static PyObject *operate(PyObject *left, PyObject *right, make64 *call, change64 *in_place)
 {
     bool are_sets = is_set(left) > 0 && is_set(right) > 0;
     if (PyErr_Occurred())
@@ -111,17 +111,17 @@ static PyObject *operate(PyObject *left, PyObject *right, make64 *call)
         return reference_to(Py_NotImplemented);
     if (is_wide(left) && is_wide(right))
         return merged(Py_TYPE(left), left, right, call);
-    if (!is_wide(left) && call == bit_roaring64_difference)
+    if (!is_wide(left) && in_place == bit_roaring64_difference_with)
         return made_of(right, left, put_other);
     /* The others are the same either way. */
     PyObject *self = is_wide(left) ? left : right, *other = self == left ? right : left;
     PyObject *made = wide_copy(self, NULL);
-    if (made && !merge_iterable(made, other, call))
+    if (made && !merge_iterable(made, other, in_place))
         Py_CLEAR(made);
     return made;
 }
 
-static PyObject *operate_in_place(PyObject *self, PyObject *other, make64 *call)
+static PyObject *operate_in_place(PyObject *self, PyObject *other, change64 *call)
 {
     int takes = is_set(other);
     if (takes < 0)
@@ -131,19 +131,19 @@ static PyObject *operate_in_place(PyObject *self, PyObject *other, make64 *call)
     return merge_iterable(self, other, call) ? reference_to(self) : NULL;
 }
 
-#define OPERATORS(name, call)                                                                                          \
+#define OPERATORS(name, call, in_place)                                                                                \
     PyObject *wide_##name(PyObject *left, PyObject *right)                                                             \
     {                                                                                                                  \
-        return operate(left, right, call);                                                                             \
+        return operate(left, right, call, in_place);                                                                   \
     }                                                                                                                  \
     PyObject *wide_in_place_##name(PyObject *self, PyObject *other)                                                    \
     {                                                                                                                  \
-        return operate_in_place(self, other, call);                                                                    \
+        return operate_in_place(self, other, in_place);                                                                \
     }
-OPERATORS(or, bit_roaring64_union)
-OPERATORS(and, bit_roaring64_intersection)
-OPERATORS(subtract, bit_roaring64_difference)
-OPERATORS(xor, bit_roaring64_symmetric_difference)
+OPERATORS(or, bit_roaring64_union, bit_roaring64_union_with)
+OPERATORS(and, bit_roaring64_intersection, bit_roaring64_intersect_with)
+OPERATORS(subtract, bit_roaring64_difference, bit_roaring64_difference_with)
+OPERATORS(xor, bit_roaring64_symmetric_difference, bit_roaring64_symmetric_difference_with)
 
 /* ---- Comparisons. */
 
