@@ -86,6 +86,8 @@ static void searches(const bit_roaring64 *set, const bool *table) {
     bool found;
     CHECK(bit_roaring64_len(set) == count && bit_roaring64_is_empty(set) == (count == 0));
     CHECK(bit_roaring64_rank(set, number) == below + table[place]);
+    CHECK(bit_roaring64_range_cardinality(set, 0, number) == below);
+    CHECK(bit_roaring64_contains_range(set, number, number + (place < LIMIT - 1)) == (place == LIMIT - 1 || table[place]));
     found = bit_roaring64_next(set, number, &member);
     CHECK(is_at(found, member, next));
     member = 7;
@@ -172,6 +174,10 @@ static void ends(void) {
     CHECK(bit_roaring64_next(set, PAST + 1, &member) && member == UINT64_MAX);
     CHECK(bit_roaring64_previous(set, PAST - 2, &member) && member == 5);
     CHECK(bit_roaring64_previous(set, UINT64_MAX - 1, &member) && member == PAST);
+    CHECK(bit_roaring64_range_cardinality(set, 5, PAST + 1) == 3 && bit_roaring64_range_cardinality(set, 5, 5) == 0);
+    CHECK(bit_roaring64_range_cardinality(set, 0, UINT64_MAX) == 4 && bit_roaring64_contains_range(set, PAST - 1, PAST + 1));
+    CHECK(!bit_roaring64_contains_range(set, PAST - 1, PAST + 2) && bit_roaring64_contains_range(set, 9, 8));
+    CHECK(bit_roaring64_push(set, UINT64_MAX) == BIT_ROARING_NO);
     CHECK(bit_roaring64_copy_members(set, 1, out, 3) == 3 && out[0] == 5 && out[1] == PAST - 1 && out[2] == PAST);
     CHECK(bit_roaring64_copy_members_back(set, PAST, out, 2) == 2 && out[0] == PAST && out[1] == PAST - 1 && out[3] == 7);
     /* The loop ends behind the greatest number, though no number is above it: 0 + 5 + (2^32 - 1) + 2^32 - 1. */
@@ -181,6 +187,8 @@ static void ends(void) {
     CHECK(bit_roaring64_max(set, &member) && member == PAST && bit_roaring64_is_subset(set, copy));
     CHECK(!bit_roaring64_next(set, PAST + 1, &member) && member == PAST && !bit_roaring64_equals(set, copy));
     CHECK(bit_roaring64_difference_len(copy, set) == 1 && bit_roaring64_union_len(set, set) == 4);
+    CHECK(bit_roaring64_push(set, PAST) == BIT_ROARING_NO && bit_roaring64_push(set, PAST + 1) == BIT_ROARING_YES);
+    CHECK(bit_roaring64_max(set, &member) && member == PAST + 1);
     bit_roaring64_free(set);
     bit_roaring64_free(copy);
     bit_roaring64_free(NULL);

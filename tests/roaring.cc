@@ -110,7 +110,8 @@ static void sets_of_64() {
     CHECK(BitRoaring64::deserialize(bytes.data(), bytes.size(), &used) == set && used == size);
     CHECK(throws<std::invalid_argument>([&] { BitRoaring64::deserialize(bytes.data(), size - 1); }));
     c.clear();
-    CHECK(c.empty() && c.max() == std::nullopt);
+    CHECK(c.empty() && c.max() == std::nullopt && c.push(far) && !c.push(far) && c.push(far + 1));
+    CHECK(c.range_cardinality(0, far + 1) == 1 && c.contains_range(far, far + 2) && !c.contains_range(far, far + 3));
 }
 
 int main() {

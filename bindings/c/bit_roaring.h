@@ -19,8 +19,9 @@
  * Sets of 64-bit numbers are of the type `bit_roaring64`, and their calls begin with bit_roaring64_:
  *
  *   Making and freeing      new, from_members, clone, union, intersection, difference, symmetric_difference, free
- *   Single numbers          insert, insert_members, remove, contains
+ *   Single numbers          insert, insert_members, push, remove, contains
  *   Ends and searches       min, max, next, previous, rank, select; BIT_ROARING64_FOR_EACH
+ *   Ranges                  contains_range, range_cardinality
  *   Copies                  copy_members, copy_members_back
  *   Reading a set           len, is_empty, hash
  *   Two sets, read          is_subset, is_superset, is_disjoint, equals, compare, union_len, intersection_len,
@@ -335,6 +336,10 @@ int32_t bit_roaring64_insert(bit_roaring64 *set, uint64_t value) BIT_SET_MAY_FAI
  * were. */
 size_t bit_roaring64_insert_members(bit_roaring64 *set, const uint64_t *members, size_t count) BIT_SET_MAY_FAIL;
 
+/* Inserts a number if it is above each member, of which it reads the greatest. BIT_ROARING_YES if it is, BIT_ROARING_NO if
+ * not, or BIT_ROARING_NO_MEMORY. */
+int32_t bit_roaring64_push(bit_roaring64 *set, uint64_t value) BIT_SET_MAY_FAIL;
+
 /* Removes a number. BIT_ROARING_YES if it was present, BIT_ROARING_NO if not, or BIT_ROARING_NO_MEMORY, for what
  * `bit_roaring_remove` takes memory. Fails only if the number is present. */
 int32_t bit_roaring64_remove(bit_roaring64 *set, uint64_t value) BIT_SET_MAY_FAIL;
@@ -366,6 +371,15 @@ bool bit_roaring64_select(const bit_roaring64 *set, uint64_t n, uint64_t *member
 #define BIT_ROARING64_FOR_EACH(member, set)                                                                            \
     for (uint64_t member = 0, member##_is_one = bit_roaring64_next(set, 0, &member); member##_is_one;                  \
          member##_is_one = member < UINT64_MAX && bit_roaring64_next(set, member + 1, &member))
+
+/* ---- Ranges: the numbers that are at least `start` and below `end`, and none if `end` is `start` or below. So no range has
+ * UINT64_MAX. Each takes two ranks. */
+
+/* Whether every number of the range is a member, which is true of an empty range. */
+bool bit_roaring64_contains_range(const bit_roaring64 *set, uint64_t start, uint64_t end) BIT_SET_CALL;
+
+/* How many numbers of the range are members. */
+uint64_t bit_roaring64_range_cardinality(const bit_roaring64 *set, uint64_t start, uint64_t end) BIT_SET_CALL;
 
 /* ---- Copies. A search for the bitmap, two by key in it, and then one step for each value that is copied and for each
  * bitmap, container and block. */

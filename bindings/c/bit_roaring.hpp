@@ -340,12 +340,19 @@ public:
     const_reverse_iterator rbegin() const { return const_reverse_iterator(end()); }
     const_reverse_iterator rend() const { return const_reverse_iterator(begin()); }
 
-    // Each returns whether that changed the set.
+    // Each returns whether that changed the set. `push` inserts only a number that is above each member.
     bool insert(std::uint64_t value) { return answer(bit_roaring64_insert(set_, value)); }
+    bool push(std::uint64_t value) { return answer(bit_roaring64_push(set_, value)); }
     bool erase(std::uint64_t value) { return answer(bit_roaring64_remove(set_, value)); }
     void clear() { bit_roaring64_clear(set_); }
 
     bool contains(std::uint64_t value) const { return bit_roaring64_contains(set_, value); }
+    bool contains_range(std::uint64_t start, std::uint64_t end) const {
+        return bit_roaring64_contains_range(set_, start, end);
+    }
+    std::uint64_t range_cardinality(std::uint64_t start, std::uint64_t end) const {
+        return bit_roaring64_range_cardinality(set_, start, end);
+    }
     // UINT64_MAX for the set of all 2^64 numbers.
     std::uint64_t size() const { return bit_roaring64_len(set_); }
     bool empty() const { return bit_roaring64_is_empty(set_); }

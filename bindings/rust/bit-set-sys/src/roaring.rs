@@ -117,6 +117,7 @@ extern "C" {
     pub fn bit_roaring64_free(set: *mut Treemap);
     pub fn bit_roaring64_insert(set: *mut Treemap, value: u64) -> i32;
     pub fn bit_roaring64_insert_members(set: *mut Treemap, members: *const u64, count: usize) -> usize;
+    pub fn bit_roaring64_push(set: *mut Treemap, value: u64) -> i32;
     pub fn bit_roaring64_remove(set: *mut Treemap, value: u64) -> i32;
     pub fn bit_roaring64_contains(set: *const Treemap, value: u64) -> bool;
     pub fn bit_roaring64_min(set: *const Treemap, member: *mut u64) -> bool;

@@ -17,7 +17,8 @@ impl RoaringTreemap {
 
     /// Inserts `value` if it is above each member, and returns whether it is.
     pub fn push(&mut self, value: u64) -> bool {
-        !self.max().is_some_and(|max| max >= value) && self.insert(value)
+        // SAFETY: the set is borrowed for the call.
+        Self::changed(unsafe { raw::bit_roaring64_push(self.write(), value) })
     }
 
     /// Inserts numbers that ascend from above each member, and returns how many.
