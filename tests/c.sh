@@ -226,7 +226,7 @@ try_requests() {
 try_calls() {
     local by calls wrapped='-Wl,--wrap=malloc,--wrap=realloc,--wrap=free'
     for by in bit_set bit_set32; do
-        for calls in calls matrix roaring; do
+        for calls in calls matrix roaring roaring64; do
             over_blocks "${by#bit_set}" "$here/c_$calls.c" > "c_$calls.c"
             if cc -std=c99 "${warnings[@]}" -O2 -I"$library" -I"$here" "c_$calls.c" "$library/libbit_set.a" -o calls 2> said; then
                 run ./calls
@@ -249,7 +249,7 @@ try_calls() {
 
 # The names that are declared are those that are exported.
 compare_names() {
-    LC_ALL=C sed -n '/^static/d; s/^[a-z].*\(bit_\(set\|matrix\|roaring\)\(32\)\?_[a-z_]*\)(.*/\1/p' \
+    LC_ALL=C sed -n '/^static/d; s/^[a-z].*\(bit_\(set\|matrix\|roaring\)\(32\|64\)\?_[a-z_]*\)(.*/\1/p' \
         "$library"/bit_{set,set32,roaring}.h | sort > declared
     nm -D --defined-only "$library/libbit_set.so" | sed -n 's/.* T //p' | sort > exported
     if [ -s declared ] && cmp declared exported; then
@@ -280,7 +280,7 @@ try_python() {
                 cat said
                 fail 'the Python module cannot be loaded where the headers of Python 3.8 built it'
             fi
-            for file in tests roaring_tests faults; do
+            for file in tests roaring_tests roaring64_tests faults; do
                 if PYTHONPATH=module python3 -B "$bindings/python/$file.py" > said 2>&1; then
                     pass
                 else

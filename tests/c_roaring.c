@@ -4,15 +4,12 @@
 #include "bit_roaring.h"
 #include "bit_set.h"
 #include "c_draws.h"
+#include "c_places.h"
 
 #include <string.h>
 
 /* The table has the numbers with four keys: place i stands for i, and in the last quarter for the number as far from 2^32 as
  * i is from the end. */
-#define KEY 65536
-#define LIMIT (4 * KEY)
-#define PAST ((uint64_t)1 << 32)
-
 static bit_roaring *sets[2];
 static bool tables[2][LIMIT];
 static uint32_t members[LIMIT + 1];
@@ -27,22 +24,6 @@ static size_t place_of(uint64_t number) {
         return LIMIT;
     return number < PAST - KEY ? 3 * KEY : (size_t)(LIMIT - (PAST - number));
 }
-
-static size_t next_place(const bool *table, size_t place) {
-    while (place < LIMIT && !table[place])
-        place++;
-    return place;
-}
-
-static size_t count_in(const bool *table, size_t start, size_t end) {
-    size_t count = 0;
-    for (; start < end; start++)
-        count += table[start];
-    return count;
-}
-
-/* A place near others: many are in one quarter, and so their container has blocks. */
-static size_t draw_place(void) { return draw(3) == 0 ? draw(LIMIT) : KEY + draw(KEY); }
 
 static void change_one(bit_roaring *set, bool *table) {
     size_t count = draw(400), k;

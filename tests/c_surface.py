@@ -1,6 +1,6 @@
-"""Compares the public calls of BitSet, BitMatrix and RoaringBitmap with tests/c_surface.txt, the calls of the libraries for C
-with their headers, and the packages for Rust, C++ and Python with both: which calls for C each makes, and which functions it
-has itself.
+"""Compares the public calls of BitSet, BitMatrix, RoaringBitmap and RoaringTreemap with tests/c_surface.txt, the calls of the
+libraries for C with their headers, and the packages for Rust, C++ and Python with both: which calls for C each makes, and
+which functions it has itself.
 
 python3 c_surface.py TOP       writes a line for each difference, and ends with status 1 where there is one
 """
@@ -18,6 +18,7 @@ TYPES = [
     ("BitSet", "bit_set", "bit_set.h", "bit_set_", ""),
     ("BitMatrix", "bit_matrix", "bit_set.h", "bit_matrix_", "BitMatrix::"),
     ("RoaringBitmap", "roaring", "bit_roaring.h", "bit_roaring_", "RoaringBitmap::"),
+    ("RoaringTreemap", "roaring_treemap", "bit_roaring.h", "bit_roaring64_", "RoaringTreemap::"),
 ]
 
 # Each header, and the crate that exports its calls.
@@ -50,7 +51,7 @@ def exported(top, crate):
 
 def declared(top, header):
     lines = (top / "bindings/c" / header).read_text().splitlines()
-    names = r"[a-z].*\b(bit_(?:set|matrix|roaring)_[a-z_]+)\("
+    names = r"[a-z].*\b(bit_(?:set|matrix|roaring|roaring64)_[a-z_]+)\("
     found = [re.match(names, line) for line in lines if not line.startswith("static")]
     return {it.group(1) for it in found if it}
 
@@ -61,7 +62,7 @@ def made_in_bit_set_sys(top):
     lines = [(prefix, line) for part, prefix in parts for line in part.splitlines()]
     found = {prefix + name for prefix, line in lines for name in re.findall(r"^        \[?(\w+)(?:\(| of)", line)}
     roaring = (top / "bindings/rust/bit-set-sys/src/roaring.rs").read_text()
-    return found | set(re.findall(r"^    pub fn (bit_roaring_\w+)", roaring, re.MULTILINE))
+    return found | set(re.findall(r"^    pub fn (bit_roaring(?:64)?_\w+)", roaring, re.MULTILINE))
 
 
 def made_in_bit_set(top):
@@ -75,27 +76,29 @@ def made_in_bit_set(top):
 
 def made_in_roaring(top):
     texts = texts_in(top / "bindings/rust/roaring/src", "*.rs")
-    return {name for text in texts for name in re.findall(r"\bbit_roaring_\w+", text)}
+    return {name for text in texts for name in re.findall(r"\bbit_roaring(?:64)?_\w+", text)}
 
 
 def made_in_python(top):
     texts = texts_in(top / "bindings/python/src", "*.c")
-    return {name for text in texts for name in re.findall(r"\bbit_(?:set|matrix|roaring)_\w+", text)}
+    return {name for text in texts for name in re.findall(r"\bbit_(?:set|matrix|roaring|roaring64)_\w+", text)}
 
 
 # The functions of each package, by the types that they are of. One name may stand for several.
-def functions_in_rust(folder, own):
-    """Those that are public or of a trait, and those that macros make for the package's own type from a line."""
+def functions_in_rust(folder, own, owners={}):
+    """Those that are public or of a trait, and those that macros make from a line for the package's own type, or in a folder
+    with an owner of its own for that."""
     found = {}
-    for text in texts_in(folder / "src", "*.rs"):
+    for path in sorted((folder / "src").rglob("*.rs")):
         name = trait = None
-        for line in text.splitlines():
+        of_macros = owners.get(path.parent.name, own)
+        for line in path.read_text().splitlines():
             if head := re.match(r"(?:unsafe )?impl(?:<[^>]*>)? (?:([\w:]+)(?:<&?(?:'\w+ )?\w+>)? for )?&?(?:'\w+ )?(\w+)", line):
                 trait, name = head.groups()
             elif made := re.match(r"    [A-Z]\w+(?: over .*)?, (\w+)(?: of other)?[:;]", line):
-                found.setdefault(own, Counter())[made.group(1)] += 1
+                found.setdefault(of_macros, Counter())[made.group(1)] += 1
             elif made := re.match(r"    [A-Z]\w+ (\w+), [A-Z]\w+ (\w+):(?: |$)", line):
-                found.setdefault(own, Counter()).update(made.groups())
+                found.setdefault(of_macros, Counter()).update(made.groups())
             elif (it := re.match(r"    (pub )?(?:const |unsafe )*fn (\w+)", line)) and name and (it.group(1) or trait):
                 found.setdefault(name, Counter())[it.group(2)] += 1
             elif line.startswith("}"):
@@ -121,7 +124,7 @@ def functions_in_cpp(top):
 def functions_in_python(top):
     """The methods and attributes in the tables of the module."""
     text = (top / "bindings/python/src/module.c").read_text()
-    types = {"set": "BitSet", "bitmap": "RoaringBitmap", "matrix": "BitMatrix"}
+    types = {"set": "BitSet", "bitmap": "RoaringBitmap", "wide": "RoaringBitmap64", "matrix": "BitMatrix"}
     found = {name: Counter(re.findall(rf"^    METHOD\({of}, (\w+)", text, re.MULTILINE)) for of, name in types.items()}
     attributes = re.search(r"matrix_attributes\[\] = \{(.*?)\n\};", text, re.DOTALL).group(1)
     found["BitMatrix"].update(re.findall(r'\{"(\w+)"', attributes))
@@ -142,7 +145,7 @@ def functions_in_stub(top):
 FUNCTIONS = {
     "bit-set": lambda top: functions_in_rust(top / "bindings/rust/bit-set", "BitSet"),
     "fixedbitset": lambda top: functions_in_rust(top / "bindings/rust/fixedbitset", "FixedBitSet"),
-    "roaring": lambda top: functions_in_rust(top / "bindings/rust/roaring", "RoaringBitmap"),
+    "roaring": lambda top: functions_in_rust(top / "bindings/rust/roaring", "RoaringBitmap", {"treemap": "RoaringTreemap"}),
     "C++": functions_in_cpp,
     "Python": functions_in_python,
     "Python's types": functions_in_stub,

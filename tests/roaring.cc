@@ -1,5 +1,5 @@
-// Calls of the class BitRoaring, each compared with what std::set or the C header says. Ends with status 1 at the first
-// difference, and writes where that is.
+// Calls of the classes BitRoaring and BitRoaring64, each compared with what std::set or the C header says. Ends with status
+// 1 at the first difference, and writes where that is.
 #include "bit_roaring.hpp"
 #include "c_draws.h"
 
@@ -73,9 +73,51 @@ static void bytes_and_bits() {
     CHECK(throws<std::out_of_range>([&] { BitRoaring again(bits); }));
 }
 
+using Numbers64 = std::set<std::uint64_t>;
+
+static bool same(const BitRoaring64 &set, const Numbers64 &numbers) {
+    return std::equal(set.begin(), set.end(), numbers.begin(), numbers.end())
+           && std::equal(set.rbegin(), set.rend(), numbers.rbegin(), numbers.rend());
+}
+
+static void sets_of_64() {
+    BitRoaring64 set;
+    Numbers64 numbers;
+    for (int k = 0; k < 3000; k++) {
+        std::uint64_t number = draw(3) == 0 ? UINT64_MAX - draw(9) : (std::uint64_t{draw(3)} << 32) + draw(3000);
+        if (draw(3) > 0)
+            CHECK(set.insert(number) == numbers.insert(number).second);
+        else
+            CHECK(set.erase(number) == (numbers.erase(number) > 0));
+        CHECK(set.contains(number) == (numbers.count(number) > 0));
+    }
+    CHECK(same(set, numbers) && set.size() == numbers.size() && !set.empty());
+    CHECK(set.min() == *numbers.begin() && set.max() == *numbers.rbegin());
+    CHECK(set.rank(5000) == static_cast<std::uint64_t>(std::distance(numbers.begin(), numbers.upper_bound(5000))));
+    CHECK(set.select(0) == set.min() && set.select(set.size()) == std::nullopt);
+    CHECK(*set.lower_bound(5000) == *numbers.lower_bound(5000));
+    constexpr std::uint64_t far = 1099511627776;
+    BitRoaring64 a{1, 2, UINT64_MAX}, b{2, far};
+    CHECK(same(a | b, {1, 2, far, UINT64_MAX}) && same(a & b, {2}) && same(a - b, {1, UINT64_MAX}));
+    BitRoaring64 c = a;
+    CHECK(same(c ^= b, {1, far, UINT64_MAX}) && same(c -= b, {1, UINT64_MAX}) && same(c &= a, {1, UINT64_MAX}));
+    CHECK(same(c |= b, {1, 2, far, UINT64_MAX}) && same(c &= c, {1, 2, far, UINT64_MAX}));
+    CHECK(c.is_subset(a | b) && !c.is_disjoint(a) && c != a && c == (b | a) && a < b && same(c ^= c, {}));
+    CHECK(c.lower_bound(0) == c.end());
+    std::vector<std::uint8_t> bytes = set.serialize();
+    std::size_t used = 0, size = bytes.size();
+    bytes.push_back(7);
+    CHECK(BitRoaring64::deserialize(bytes.data(), bytes.size(), &used) == set && used == size);
+    CHECK(throws<std::invalid_argument>([&] { BitRoaring64::deserialize(bytes.data(), size - 1); }));
+    c.clear();
+    CHECK(c.empty() && c.max() == std::nullopt && c.push(far) && !c.push(far) && c.push(far + 1));
+    CHECK(c.range_cardinality(0, far + 1) == 1 && c.contains_range(far, far + 2) && !c.contains_range(far, far + 3));
+}
+
 int main() {
     single_numbers();
     operators();
     ranges_and_forms();
     bytes_and_bits();
+    sets_of_64();
 }

@@ -16,6 +16,20 @@
  *   A whole set             clear, optimize, remove_runs, shrink_to_fit
  *   Bytes                   serialized_size, serialize, deserialize
  *
+ * Sets of 64-bit numbers are of the type `bit_roaring64`, and their calls begin with bit_roaring64_:
+ *
+ *   Making and freeing      new, from_members, clone, union, intersection, difference, symmetric_difference, free
+ *   Single numbers          insert, insert_members, push, remove, contains
+ *   Ends and searches       min, max, next, previous, rank, select; BIT_ROARING64_FOR_EACH
+ *   Ranges                  contains_range, range_cardinality
+ *   Copies                  copy_members, copy_members_back
+ *   Reading a set           len, is_empty, hash
+ *   Two sets, read          is_subset, is_superset, is_disjoint, equals, compare, union_len, intersection_len,
+ *                           difference_len, symmetric_difference_len
+ *   Two sets, in place      union_with, intersect_with, difference_with, symmetric_difference_with
+ *   A whole set             clear
+ *   Bytes                   serialize, deserialize
+ *
  * What the caller must ensure, in Rust's terms:
  *
  *   bit_roaring *          a Box if it is given to `bit_roaring_free`, and otherwise a &mut: it comes from a call that made
@@ -27,6 +41,8 @@
  *   T *, size_t            this many values one after another, none of them part of a set, which only this call writes, or
  *                          with `const` no call. The pointer is never NULL, even if there are no values.
  *   another pointer        a place that holds a value, or with `bit_roaring_kinds *` three, which only this call writes.
+ *
+ * The same holds of `bit_roaring64`.
  *
  * So the sets of a call must differ if one of them is not `const`; if both are `const`, they may be the same set. Each
  * group of calls below says which it is. If BIT_ROARING_CHECKED is defined before this header, a call that is given the
@@ -296,6 +312,181 @@ int32_t bit_roaring_serialize(const bit_roaring *set, uint8_t *bytes, size_t roo
  * written as runs are stored as runs, if they have at most 2,047 of them. */
 int32_t bit_roaring_deserialize(bit_roaring **out, const uint8_t *bytes, size_t count, size_t *used) BIT_SET_MAY_FAIL;
 
+/* ---- Sets of 64-bit numbers. The numbers with the same upper 32 bits are in one bitmap, a `bit_roaring` of their lower 32
+ * bits. A call on a number finds its bitmap by a binary search among all bitmaps of the set. Each number may be a member, so
+ * a call that finds one returns whether there is one, and writes it only then. */
+
+/* A set of numbers below 2^64. */
+typedef struct bit_roaring64 bit_roaring64;
+
+/* Further results of `bit_roaring64_deserialize`. */
+enum bit_roaring64_answer {
+    BIT_ROARING64_EMPTY_BITMAP = -14,  /* a bitmap has no members */
+    BIT_ROARING64_BAD_KEYS = -13,      /* a key of a bitmap is not above the one before it */
+    BIT_ROARING64_SHORT = -12          /* the number of bitmaps or a key extends past the end of the bytes */
+};
+
+/* ---- Making and freeing. */
+
+/* An empty set. It has no bitmaps. */
+bool bit_roaring64_new(bit_roaring64 **out) BIT_SET_MAY_FAIL;
+
+/* The set of these numbers, which may be in any order. One insertion for each. */
+bool bit_roaring64_from_members(bit_roaring64 **out, const uint64_t *members, size_t count) BIT_SET_MAY_FAIL;
+
+/* A set with the same members, in containers of the same form. Copies each container once. */
+bool bit_roaring64_clone(bit_roaring64 **out, const bit_roaring64 *set) BIT_SET_MAY_FAIL;
+
+/* The set of what is in either set, in both, only in the first, or in exactly one of the two. Both may be the same set. One
+ * pass over the bitmaps of both: those with the same upper 32 bits are merged as two `bit_roaring` are, and the others are
+ * copied or left out. */
+bool bit_roaring64_union(bit_roaring64 **out, const bit_roaring64 *set, const bit_roaring64 *other) BIT_SET_MAY_FAIL;
+bool bit_roaring64_intersection(bit_roaring64 **out, const bit_roaring64 *set, const bit_roaring64 *other)
+    BIT_SET_MAY_FAIL;
+bool bit_roaring64_difference(bit_roaring64 **out, const bit_roaring64 *set, const bit_roaring64 *other)
+    BIT_SET_MAY_FAIL;
+bool bit_roaring64_symmetric_difference(bit_roaring64 **out, const bit_roaring64 *set, const bit_roaring64 *other)
+    BIT_SET_MAY_FAIL;
+
+/* Gives the memory back. Does nothing for NULL. */
+void bit_roaring64_free(bit_roaring64 *set);
+
+/* ---- Single numbers. Each takes a search for the bitmap, and there what the call of `bit_roaring` takes. If a bitmap is
+ * added or becomes empty, those above it move. */
+
+/* Inserts a number. BIT_ROARING_YES if it is new, BIT_ROARING_NO if it was present, or BIT_ROARING_NO_MEMORY. Fails only if
+ * it is new. */
+int32_t bit_roaring64_insert(bit_roaring64 *set, uint64_t value) BIT_SET_MAY_FAIL;
+
+/* Inserts numbers, one by one, up to the first for which memory runs out. Returns how many were inserted: `count` if all
+ * were. */
+size_t bit_roaring64_insert_members(bit_roaring64 *set, const uint64_t *members, size_t count) BIT_SET_MAY_FAIL;
+
+/* Inserts a number if it is above each member, of which it reads the greatest. BIT_ROARING_YES if it is, BIT_ROARING_NO if
+ * not, or BIT_ROARING_NO_MEMORY. */
+int32_t bit_roaring64_push(bit_roaring64 *set, uint64_t value) BIT_SET_MAY_FAIL;
+
+/* Removes a number. BIT_ROARING_YES if it was present, BIT_ROARING_NO if not, or BIT_ROARING_NO_MEMORY, for what
+ * `bit_roaring_remove` takes memory. Fails only if the number is present. */
+int32_t bit_roaring64_remove(bit_roaring64 *set, uint64_t value) BIT_SET_MAY_FAIL;
+
+/* Whether the number is a member. */
+bool bit_roaring64_contains(const bit_roaring64 *set, uint64_t value) BIT_SET_CALL;
+
+/* ---- Ends and searches. Each that finds a member writes it to `*member`, and returns whether there is one; if not,
+ * `*member` is unchanged. None of these allocates. Any number may be given. */
+
+/* The least and the greatest member. Read the first or the last container up to it. */
+bool bit_roaring64_min(const bit_roaring64 *set, uint64_t *member) BIT_SET_CALL;
+bool bit_roaring64_max(const bit_roaring64 *set, uint64_t *member) BIT_SET_CALL;
+
+/* The least member that is `from` or above, and the greatest that is `last` or below. A search for the bitmap, and there two
+ * by key, and one in each container. To iterate over many members, `bit_roaring64_copy_members` is faster. */
+bool bit_roaring64_next(const bit_roaring64 *set, uint64_t from, uint64_t *member) BIT_SET_CALL;
+bool bit_roaring64_previous(const bit_roaring64 *set, uint64_t last, uint64_t *member) BIT_SET_CALL;
+
+/* How many members are at most `value`, or UINT64_MAX if all 2^64 numbers are. Adds up the counts of the containers before
+ * it. */
+uint64_t bit_roaring64_rank(const bit_roaring64 *set, uint64_t value) BIT_SET_CALL;
+
+/* The member with exactly `n` others below it. Skips bitmaps and containers by their counts. */
+bool bit_roaring64_select(const bit_roaring64 *set, uint64_t n, uint64_t *member) BIT_SET_CALL;
+
+/* A loop over the members in ascending order, which declares the name `member`, a uint64_t, and another that begins with it.
+ * The set may be changed in it: the loop continues at the next member of the changed set. */
+#define BIT_ROARING64_FOR_EACH(member, set)                                                                            \
+    for (uint64_t member = 0, member##_is_one = bit_roaring64_next(set, 0, &member); member##_is_one;                  \
+         member##_is_one = member < UINT64_MAX && bit_roaring64_next(set, member + 1, &member))
+
+/* ---- Ranges: the numbers that are at least `start` and below `end`, and none if `end` is `start` or below. So no range has
+ * UINT64_MAX. Each takes two ranks. */
+
+/* Whether every number of the range is a member, which is true of an empty range. */
+bool bit_roaring64_contains_range(const bit_roaring64 *set, uint64_t start, uint64_t end) BIT_SET_CALL;
+
+/* How many numbers of the range are members. */
+uint64_t bit_roaring64_range_cardinality(const bit_roaring64 *set, uint64_t start, uint64_t end) BIT_SET_CALL;
+
+/* ---- Copies. A search for the bitmap, two by key in it, and then one step for each value that is copied and for each
+ * bitmap, container and block. */
+
+/* Copies the members at or above `from`, in ascending order, at most `room` of them. Returns how many; later values are
+ * unchanged. To continue, pass the last one plus 1, unless that was UINT64_MAX. */
+size_t bit_roaring64_copy_members(const bit_roaring64 *set, uint64_t from, uint64_t *members, size_t room) BIT_SET_CALL;
+
+/* Copies the members at or below `last`, in descending order, at most `room` of them. Returns how many; later values are
+ * unchanged. To continue, pass the last one minus 1, unless that was 0. With UINT64_MAX it begins at the greatest member. */
+size_t bit_roaring64_copy_members_back(const bit_roaring64 *set, uint64_t last, uint64_t *members, size_t room)
+    BIT_SET_CALL;
+
+/* ---- Reading a set. None of these allocates. */
+
+/* How many members there are, or UINT64_MAX for the set of all 2^64 numbers. Adds up the counts of the containers. */
+uint64_t bit_roaring64_len(const bit_roaring64 *set) BIT_SET_CALL;
+
+/* Whether there is no member. Constant time. */
+bool bit_roaring64_is_empty(const bit_roaring64 *set) BIT_SET_CALL;
+
+/* A hash of only the members: equal sets have the same, which is also what `bit_set_hash` returns for these members. It has
+ * no secret key: whoever chooses the members can make hashes collide. One step for each member. */
+uint64_t bit_roaring64_hash(const bit_roaring64 *set) BIT_SET_CALL;
+
+/* ---- Two sets, which are read. In each of these both may be the same set. One pass over the bitmaps of both, and over each
+ * pair with the same upper 32 bits as the call of `bit_roaring` takes. The relations end at the first bitmap that decides.
+ * None of these allocates. */
+
+/* Whether each member is in the other set, and the other way round. */
+bool bit_roaring64_is_subset(const bit_roaring64 *set, const bit_roaring64 *other) BIT_SET_CALL;
+bool bit_roaring64_is_superset(const bit_roaring64 *set, const bit_roaring64 *other) BIT_SET_CALL;
+
+/* Whether no member is in the other set. */
+bool bit_roaring64_is_disjoint(const bit_roaring64 *set, const bit_roaring64 *other) BIT_SET_CALL;
+
+/* Whether the members are the same. The forms of the containers do not matter. */
+bool bit_roaring64_equals(const bit_roaring64 *set, const bit_roaring64 *other) BIT_SET_CALL;
+
+/* -1, 0 or 1, as the ascending lists of members compare by their first difference. Goes over the members of both up to the
+ * first that differs. */
+int32_t bit_roaring64_compare(const bit_roaring64 *set, const bit_roaring64 *other) BIT_SET_CALL;
+
+/* How many numbers are in either set, in both, only in the first, or in exactly one of the two, or UINT64_MAX if all 2^64
+ * are. */
+uint64_t bit_roaring64_union_len(const bit_roaring64 *set, const bit_roaring64 *other) BIT_SET_CALL;
+uint64_t bit_roaring64_intersection_len(const bit_roaring64 *set, const bit_roaring64 *other) BIT_SET_CALL;
+uint64_t bit_roaring64_difference_len(const bit_roaring64 *set, const bit_roaring64 *other) BIT_SET_CALL;
+uint64_t bit_roaring64_symmetric_difference_len(const bit_roaring64 *set, const bit_roaring64 *other) BIT_SET_CALL;
+
+/* ---- In place. In none of these may `set` be the other set of the call. Each sets the members to those that the call of
+ * the same name that makes a set has, and returns BIT_ROARING_YES if that changed them, BIT_ROARING_NO if not, or
+ * BIT_ROARING_NO_MEMORY. The answer takes what `is_subset` or `is_disjoint` does, and the merge a search for each bitmap of
+ * `other`: those that both sets have are merged into new ones, those that only `other` has are copied, and where one is
+ * added or becomes empty those above move. `intersect_with` makes all bitmaps anew. */
+
+int32_t bit_roaring64_union_with(bit_roaring64 *set, const bit_roaring64 *other) BIT_SET_MAY_FAIL;
+int32_t bit_roaring64_intersect_with(bit_roaring64 *set, const bit_roaring64 *other) BIT_SET_MAY_FAIL;
+int32_t bit_roaring64_difference_with(bit_roaring64 *set, const bit_roaring64 *other) BIT_SET_MAY_FAIL;
+int32_t bit_roaring64_symmetric_difference_with(bit_roaring64 *set, const bit_roaring64 *other) BIT_SET_MAY_FAIL;
+
+/* ---- A whole set. */
+
+/* Removes every member, and gives the memory of the bitmaps back. */
+void bit_roaring64_clear(bit_roaring64 *set) BIT_SET_CALL;
+
+/* ---- Bytes, in the portable form of Roaring bitmaps for 64 bits: how many bitmaps there are, as a uint64_t, and for each
+ * the upper 32 bits, as a uint32_t, and what `bit_roaring_serialize` writes. Numbers are little endian. */
+
+/* Writes the set to the front of the bytes; later ones are unchanged. `*size` is how many bytes it takes. BIT_ROARING_YES if
+ * it did, BIT_ROARING_NO if `room` is less, or BIT_ROARING_NO_MEMORY. The bytes are unchanged unless it did, and so is
+ * `*size` if memory runs out. Makes the bytes first, in memory of their own. */
+int32_t bit_roaring64_serialize(const bit_roaring64 *set, uint8_t *bytes, size_t room, size_t *size) BIT_SET_MAY_FAIL;
+
+/* The set that the first bytes represent, and in `*used` how many bytes that are: what follows is the caller's. No more than
+ * `count` bytes are read, whatever they are. BIT_ROARING_YES, BIT_ROARING_NO_MEMORY, or the first fault of the bytes: in a
+ * bitmap, from BIT_ROARING_SHORT to BIT_ROARING_BAD_RUNS, or between, from BIT_ROARING64_SHORT to
+ * BIT_ROARING64_EMPTY_BITMAP. `*used` is unchanged if it fails. Reads each byte once. */
+int32_t bit_roaring64_deserialize(bit_roaring64 **out, const uint8_t *bytes, size_t count, size_t *used)
+    BIT_SET_MAY_FAIL;
+
 /* ---- The calls that require two different sets, if BIT_ROARING_CHECKED is defined: each checks first. */
 
 #ifdef BIT_ROARING_CHECKED
@@ -303,25 +494,33 @@ int32_t bit_roaring_deserialize(bit_roaring **out, const uint8_t *bytes, size_t 
 #include <stdio.h>
 #include <stdlib.h>
 
-#define BIT_ROARING_CHECK(call)                                                                                        \
-    static inline int32_t bit_roaring_checked_##call(bit_roaring *set, const bit_roaring *other) {                     \
+#define BIT_ROARING_CHECK(type, call)                                                                                  \
+    static inline int32_t type##_checked_##call(type *set, const type *other) {                                        \
         if (set == other) {                                                                                            \
-            fprintf(stderr, "bit_roaring_%s: the call was given one set where it owes two\n", #call);                  \
+            fprintf(stderr, "%s_%s: the call was given one set where it owes two\n", #type, #call);                    \
             abort();                                                                                                   \
         }                                                                                                              \
-        return bit_roaring_##call(set, other);                                                                         \
+        return type##_##call(set, other);                                                                              \
     }
 
-BIT_ROARING_CHECK(union_with)
-BIT_ROARING_CHECK(intersect_with)
-BIT_ROARING_CHECK(difference_with)
-BIT_ROARING_CHECK(symmetric_difference_with)
+BIT_ROARING_CHECK(bit_roaring, union_with)
+BIT_ROARING_CHECK(bit_roaring, intersect_with)
+BIT_ROARING_CHECK(bit_roaring, difference_with)
+BIT_ROARING_CHECK(bit_roaring, symmetric_difference_with)
+BIT_ROARING_CHECK(bit_roaring64, union_with)
+BIT_ROARING_CHECK(bit_roaring64, intersect_with)
+BIT_ROARING_CHECK(bit_roaring64, difference_with)
+BIT_ROARING_CHECK(bit_roaring64, symmetric_difference_with)
 
 #undef BIT_ROARING_CHECK
 #define bit_roaring_union_with bit_roaring_checked_union_with
 #define bit_roaring_intersect_with bit_roaring_checked_intersect_with
 #define bit_roaring_difference_with bit_roaring_checked_difference_with
 #define bit_roaring_symmetric_difference_with bit_roaring_checked_symmetric_difference_with
+#define bit_roaring64_union_with bit_roaring64_checked_union_with
+#define bit_roaring64_intersect_with bit_roaring64_checked_intersect_with
+#define bit_roaring64_difference_with bit_roaring64_checked_difference_with
+#define bit_roaring64_symmetric_difference_with bit_roaring64_checked_symmetric_difference_with
 
 #endif
 

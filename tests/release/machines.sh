@@ -31,6 +31,7 @@ try_here() {
         cd '$room/packages' && make -s && bindings/python/build include MODULE build/x86-64/libbit_set.a
         export PYTHONPATH=\$PWD/MODULE
         python3 bindings/python/tests.py && python3 bindings/python/roaring_tests.py
+        python3 bindings/python/roaring64_tests.py
         cd bindings/rust && BIT_SET_LIBRARY_DIR=\$PWD/../../build/x86-64 cargo test --offline"
     for flags in '' -Ctarget-cpu=x86-64-v3; do
         try "the tests of Cargo's packages, with RUSTFLAGS=$flags" bare sh -ec "
@@ -161,12 +162,12 @@ try_arm_module() {
     mkdir -p "$room/arm-wheel"
     python3 -m zipfile -e "$release/bit_set-$version"-cp38-abi3-*_aarch64.whl "$room/arm-wheel"
     local tests
-    for tests in tests roaring_tests; do
+    for tests in tests roaring_tests roaring64_tests; do
         try "aarch64: Python's $tests over the wheel" on_arm -E PYTHONHOME="$sysroot/usr" -E PYTHONPATH="$room/arm-wheel" \
             "$sysroot/usr/bin/python3" "$source/bindings/python/$tests.py"
     done
     dpkg-deb -x "$release/python3-bit-set_$version-1_arm64.deb" "$room/arm-packages"
-    for tests in tests roaring_tests; do
+    for tests in tests roaring_tests roaring64_tests; do
         try "aarch64: Python's $tests over the packages" on_arm -E PYTHONHOME="$sysroot/usr" \
             -E PYTHONPATH="$room/arm-packages/usr/lib/python3/dist-packages" \
             -E LD_LIBRARY_PATH="$room/arm-packages/usr/lib/aarch64-linux-gnu" \

@@ -62,13 +62,14 @@ try_packages() {
         try "$on: the loader takes the object for v3" inside 'ldd ./shared | grep -F x86-64-v3/libbit_set.so'
     fi
     local calls
-    for calls in c_calls c_matrix c_roaring; do
+    for calls in c_calls c_matrix c_roaring c_roaring64; do
         try "$on: random calls of $calls over the shared object" inside "
             gcc -O2 bit_set-\$VERSION/tests/$calls.c \$(pkg-config --cflags --libs bit_set) -o $calls
             ./$calls \$ROUNDS"
     done
     try "$on: the tests of Python over the package" inside 'python3 bit_set-$VERSION/bindings/python/tests.py
         python3 bit_set-$VERSION/bindings/python/roaring_tests.py
+        python3 bit_set-$VERSION/bindings/python/roaring64_tests.py
         [ "$(python3 -c "from importlib import metadata; print(metadata.version(\"bit-set\"))")" = "$VERSION" ]
         python3 -m pip list | grep "^bit[-_]set "'
     try "$on: the packages are removed" inside '
@@ -100,7 +101,8 @@ try_module() {
         "/en v/bin/python" -m pip check'
     try "$on: the tests of Python over the wheel" inside '
         "/en v/bin/python" bit_set-$VERSION/bindings/python/tests.py
-        "/en v/bin/python" bit_set-$VERSION/bindings/python/roaring_tests.py'
+        "/en v/bin/python" bit_set-$VERSION/bindings/python/roaring_tests.py
+        "/en v/bin/python" bit_set-$VERSION/bindings/python/roaring64_tests.py'
     try "$on: pip removes it" inside '
         "/en v/bin/python" -m pip uninstall -y bit_set && ! find "/en v" -iname "*bit_set*" | grep .'
 }

@@ -109,6 +109,59 @@ static void read_roaring(const uint8_t *bytes, size_t size) {
     bit_roaring_free(set);
 }
 
+/* The same of a set of 64-bit numbers. */
+static void read_members64(const bit_roaring64 *set) {
+    guarded room = guard(MEMBERS * sizeof(uint64_t));
+    uint64_t *members = (uint64_t *)(void *)room.bytes, len = bit_roaring64_len(set), member = 0;
+    size_t count = bit_roaring64_copy_members(set, 0, members, MEMBERS);
+    MUST(count == (len < MEMBERS ? len : MEMBERS) && bit_roaring64_is_empty(set) == (len == 0));
+    for (size_t k = 0; k < count; k++) {
+        MUST(k == 0 || members[k - 1] < members[k]);
+        MUST(bit_roaring64_contains(set, members[k]));
+        MUST(bit_roaring64_next(set, members[k], &member) && member == members[k]);
+    }
+    if (count > 0) {
+        uint64_t last = members[count - 1];
+        MUST(bit_roaring64_rank(set, last) == count);
+        MUST(bit_roaring64_select(set, count - 1, &member) && member == last);
+        MUST(bit_roaring64_min(set, &member) && member == members[0]);
+    }
+    MUST(bit_roaring64_copy_members_back(set, UINT64_MAX, members, MEMBERS) == count);
+    MUST(count == 0 || (bit_roaring64_max(set, &member) && member == members[0]));
+    let_go(room);
+}
+
+static void write_and_read64(const bit_roaring64 *set) {
+    size_t size = 0, used = 0;
+    guarded room = guard(0);
+    bit_roaring64 *again = NULL;
+    MUST(bit_roaring64_serialize(set, room.bytes, 0, &size) == BIT_ROARING_NO);
+    let_go(room);
+    room = guard(size);
+    MUST(bit_roaring64_serialize(set, room.bytes, size, &size) == BIT_ROARING_YES);
+    MUST(bit_roaring64_deserialize(&again, room.bytes, size, &used) == BIT_ROARING_YES && used == size);
+    MUST(bit_roaring64_equals(set, again) && bit_roaring64_hash(set) == bit_roaring64_hash(again));
+    bit_roaring64_free(again);
+    let_go(room);
+}
+
+static void read_roaring64(const uint8_t *bytes, size_t size) {
+    bit_roaring64 *set = NULL, *other = NULL;
+    size_t used = 77;
+    int32_t answer = bit_roaring64_deserialize(&set, bytes, size, &used);
+    if (answer != BIT_ROARING_YES) {
+        MUST(set == NULL && used == 77 && answer >= BIT_ROARING64_EMPTY_BITMAP && answer <= BIT_ROARING_SHORT);
+        return;
+    }
+    MUST(set != NULL && used <= size);
+    read_members64(set);
+    write_and_read64(set);
+    MUST(bit_roaring64_union(&other, set, set) && bit_roaring64_equals(set, other));
+    write_and_read64(other);
+    bit_roaring64_free(other);
+    bit_roaring64_free(set);
+}
+
 static void read_bits(const uint8_t *bytes, size_t size) {
     bit_set *set = NULL, *other = NULL;
     bit_roaring *few = NULL;
@@ -130,6 +183,7 @@ int LLVMFuzzerTestOneInput(const uint8_t *data, size_t size) {
     guarded given = guard(size);
     memcpy(given.bytes, data, size);
     read_roaring(given.bytes, size);
+    read_roaring64(given.bytes, size);
     read_bits(given.bytes, size);
     MUST(memcmp(given.bytes, data, size) == 0);
     let_go(given);

@@ -15,16 +15,34 @@ static void must(bool holds) {
     }
 }
 
-static void write_set(const char *name, const bit_roaring *set) {
+static void write_bytes(const char *name, const uint8_t *bytes, size_t size) {
     char path[4096];
-    size_t size = bit_roaring_serialized_size(set);
-    uint8_t *bytes = malloc(size + 1);
     FILE *file;
-    must(bytes != NULL && bit_roaring_serialize(set, bytes, size) == BIT_ROARING_YES);
     must(snprintf(path, sizeof path, "%s/%s", folder, name) < (int)sizeof path);
     file = fopen(path, "wb");
     must(file != NULL && fwrite(bytes, 1, size, file) == size && fclose(file) == 0);
+}
+
+static void write_set(const char *name, const bit_roaring *set) {
+    size_t size = bit_roaring_serialized_size(set);
+    uint8_t *bytes = malloc(size + 1);
+    must(bytes != NULL && bit_roaring_serialize(set, bytes, size) == BIT_ROARING_YES);
+    write_bytes(name, bytes, size);
     free(bytes);
+}
+
+/* A set of 64-bit numbers with so many bitmaps, of so many members each. */
+static void write_bitmaps(const char *name, uint64_t bitmaps, uint64_t members) {
+    uint8_t bytes[4096];
+    size_t size = 0;
+    bit_roaring64 *set = NULL;
+    must(bit_roaring64_new(&set));
+    for (uint64_t bitmap = 0; bitmap < bitmaps; bitmap++)
+        for (uint64_t n = 0; n < members; n++)
+            must(bit_roaring64_insert(set, (bitmap << 33) + n * 30000) >= 0);
+    must(bit_roaring64_serialize(set, bytes, sizeof bytes, &size) == BIT_ROARING_YES);
+    write_bytes(name, bytes, size);
+    bit_roaring64_free(set);
 }
 
 /* In containers of `every` apart, members of `step` apart up to `past`. */
@@ -57,5 +75,8 @@ int main(int count, char **words) {
     write_steps("three_runs", 3, 7, 1, 40000, true);
     write_steps("many_runs", 30, 2000, 1, 65536, true);
     write_steps("lists_as_runs", 9, 5, 30, 90, true);
+    write_bitmaps("no_bitmaps", 0, 0);
+    write_bitmaps("bitmap", 1, 40);
+    write_bitmaps("bitmaps", 5, 9);
     return 0;
 }

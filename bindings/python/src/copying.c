@@ -55,7 +55,7 @@ bool put_attributes(PyObject *made, PyObject *state)
 /* Sets the state of a copy, as the module copy does. */
 static bool put_state(PyObject *made, PyObject *state)
 {
-    PyObject *call = is_bit_set(made) || is_bitmap(made) ? PyObject_GetAttrString(made, "__setstate__") : NULL;
+    PyObject *call = is_bit_set(made) || is_bitmap(made) || is_wide(made) ? PyObject_GetAttrString(made, "__setstate__") : NULL;
     if (!call) {
         PyErr_Clear();
         return put_attributes(made, state);
@@ -81,7 +81,7 @@ static PyObject *deep_state(PyObject *self, PyObject *made, PyObject *state, PyO
 static PyObject *with_state(PyObject *self, PyObject *made, PyObject *memo)
 {
     PyTypeObject *type = Py_TYPE(self);
-    if (!made || type == bit_set_type || type == matrix_type || type == bitmap_type)
+    if (!made || type == bit_set_type || type == matrix_type || type == bitmap_type || type == wide_type)
         return made;
     PyObject *state = state_of(self);
     if (state && state != Py_None && memo) {
@@ -124,4 +124,14 @@ PyObject *bitmap_shallow_copy(PyObject *self, PyObject *Py_UNUSED(none))
 PyObject *bitmap_deep_copy(PyObject *self, PyObject *memo)
 {
     return with_state(self, bitmap_copy(self, NULL), memo);
+}
+
+PyObject *wide_shallow_copy(PyObject *self, PyObject *Py_UNUSED(none))
+{
+    return with_state(self, wide_copy(self, NULL), NULL);
+}
+
+PyObject *wide_deep_copy(PyObject *self, PyObject *memo)
+{
+    return with_state(self, wide_copy(self, NULL), memo);
 }

@@ -2,7 +2,7 @@
 #include "set.h"
 #include <structmember.h>
 
-PyTypeObject *bit_set_type, *bitmap_type, *matrix_type, *walk_type;
+PyTypeObject *bit_set_type, *bitmap_type, *wide_type, *matrix_type, *walk_type;
 PyObject *abstract_set, *array_type;
 
 /* A method of a set, a bitmap or a matrix. */
@@ -69,7 +69,7 @@ static PyMethodDef methods[] = {
         {"__weaklistoffset__", T_PYSSIZET, offsetof(type, weak_references), READONLY, NULL}, {NULL, 0, 0, 0, NULL},    \
     }
 
-static PyMemberDef members[] = MEMBERS(BitSet), bitmap_members[] = MEMBERS(Bitmap), matrix_members[] = MEMBERS(BitMatrix);
+static PyMemberDef members[] = MEMBERS(BitSet), bitmap_members[] = MEMBERS(Bitmap), wide_members[] = MEMBERS(Wide), matrix_members[] = MEMBERS(BitMatrix);
 
 /* Python 3.8 and 3.9 cache look-ups in a type only if it has this flag, which later headers no longer put into the
  * default. Without it they free a method of `type` too often as classes with another metaclass are derived from one. */
@@ -189,6 +189,76 @@ static PyType_Spec bitmap_spec = {
     "bit_set.RoaringBitmap", sizeof(Bitmap), 0, FLAGS | Py_TPFLAGS_BASETYPE, bitmap_slots,
 };
 
+static PyMethodDef wide_methods[] = {
+    METHOD(wide, add, METH_O, "add($self, number, /)\n--\n\nAdd a number."),
+    METHOD(wide, discard, METH_O, "discard($self, number, /)\n--\n\nRemove a number if it is a member."),
+    METHOD(wide, remove, METH_O, "remove($self, number, /)\n--\n\nRemove a member. KeyError if the number is not a member."),
+    METHOD(wide, pop, METH_NOARGS, "pop($self, /)\n--\n\nRemove the least member and return it. KeyError if there is none."),
+    METHOD(wide, clear, METH_NOARGS, "clear($self, /)\n--\n\nRemove every member."),
+    METHOD(wide, min, METH_NOARGS, "min($self, /)\n--\n\nReturn the least member. ValueError if there is none."),
+    METHOD(wide, max, METH_NOARGS, "max($self, /)\n--\n\nReturn the greatest member. ValueError if there is none."),
+    METHOD(wide, next, METH_O, "next($self, start, /)\n--\n\nReturn the least member at or above start, or None."),
+    METHOD(wide, previous, METH_O, "previous($self, stop, /)\n--\n\nReturn the greatest member below stop, or None."),
+    METHOD(wide, rank, METH_O, "rank($self, value, /)\n--\n\nReturn how many members are at most the value."),
+    METHOD(wide, to_array, METH_NOARGS, "to_array($self, /)\n--\n\nReturn the members in ascending order as an array.array, which NumPy reads without a copy."),
+    METHOD(wide, copy, METH_NOARGS, "copy($self, /)\n--\n\nReturn a bitmap of the same members."),
+    METHOD(wide, update, METH_VARARGS, "update($self, *others)\n--\n\nAdd the items of the others."),
+    METHOD(wide, union, METH_VARARGS, "union($self, *others)\n--\n\nReturn the union of this bitmap and the others."),
+    METHOD(wide, intersection_update, METH_VARARGS, "intersection_update($self, *others)\n--\n\nKeep only members that are in each of the others."),
+    METHOD(wide, intersection, METH_VARARGS, "intersection($self, *others)\n--\n\nReturn the intersection of this bitmap and the others."),
+    METHOD(wide, difference_update, METH_VARARGS, "difference_update($self, *others)\n--\n\nRemove the items of the others."),
+    METHOD(wide, difference, METH_VARARGS, "difference($self, *others)\n--\n\nReturn the bitmap of the members that are in none of the others."),
+    METHOD(wide, symmetric_difference_update, METH_VARARGS, "symmetric_difference_update($self, *others)\n--\n\nMerge each of the others: keep what is in exactly one of the two."),
+    METHOD(wide, symmetric_difference, METH_VARARGS, "symmetric_difference($self, *others)\n--\n\nReturn what symmetric_difference_update leaves in a copy."),
+    METHOD(wide, issubset, METH_O, "issubset($self, other, /)\n--\n\nReturn whether each member is in the other."),
+    METHOD(wide, issuperset, METH_O, "issuperset($self, other, /)\n--\n\nReturn whether each item of the other is a member."),
+    METHOD(wide, isdisjoint, METH_O, "isdisjoint($self, other, /)\n--\n\nReturn whether no item of the other is a member."),
+    METHOD(wide, intersect, METH_O, "intersect($self, other, /)\n--\n\nReturn whether an item of the other is a member."),
+    METHOD(wide, union_cardinality, METH_O, "union_cardinality($self, other, /)\n--\n\nReturn how many numbers are in this bitmap or in the other."),
+    METHOD(wide, intersection_cardinality, METH_O, "intersection_cardinality($self, other, /)\n--\n\nReturn how many numbers are in both."),
+    METHOD(wide, difference_cardinality, METH_O, "difference_cardinality($self, other, /)\n--\n\nReturn how many members are not in the other."),
+    METHOD(wide, symmetric_difference_cardinality, METH_O, "symmetric_difference_cardinality($self, other, /)\n--\n\nReturn how many numbers are in exactly one of the two."),
+    METHOD(wide, jaccard_index, METH_O, "jaccard_index($self, other, /)\n--\n\nReturn the share of what is in either that is in both; not a number if both are empty."),
+    METHOD(wide, serialize, METH_NOARGS, "serialize($self, /)\n--\n\nReturn the bytes of the portable form of Roaring bitmaps for 64 bits."),
+    METHOD(wide, deserialize, METH_O | METH_CLASS, "deserialize($type, bytes, /)\n--\n\nMake the bitmap that a front of the bytes represents in that form. ValueError names the first fault."),
+    {"__copy__", wide_shallow_copy, METH_NOARGS, NULL},
+    {"__deepcopy__", wide_deep_copy, METH_O, NULL},
+    {"__reversed__", set_reversed, METH_NOARGS, "Return an iterator over the members in descending order."},
+    {"__reduce__", wide_reduce, METH_NOARGS, NULL},
+    {NULL, NULL, 0, NULL},
+};
+
+static PyType_Slot wide_slots[] = {
+    {Py_tp_doc, "RoaringBitmap64(values=())\n--\n\nA set of numbers from 0 to 18446744073709551615, as a MutableSet, that stays small if its members are few and far apart.\n\n"
+        "Its methods are those of pyroaring's BitMap64 where that has the call. bitmap[n] is the member with n others below it."},
+    {Py_tp_new, wide_new},
+    {Py_tp_init, wide_init},
+    {Py_tp_dealloc, wide_dealloc},
+    {Py_tp_repr, bitmap_repr},
+    {Py_tp_hash, PyObject_HashNotImplemented},
+    {Py_tp_richcompare, wide_compare},
+    {Py_tp_iter, set_iter},
+    {Py_tp_methods, wide_methods},
+    {Py_tp_members, wide_members},
+    {Py_sq_contains, wide_contains},
+    {Py_mp_length, wide_length},
+    {Py_mp_subscript, wide_subscript},
+    {Py_nb_bool, wide_bool},
+    {Py_nb_or, wide_or},
+    {Py_nb_and, wide_and},
+    {Py_nb_subtract, wide_subtract},
+    {Py_nb_xor, wide_xor},
+    {Py_nb_inplace_or, wide_in_place_or},
+    {Py_nb_inplace_and, wide_in_place_and},
+    {Py_nb_inplace_subtract, wide_in_place_subtract},
+    {Py_nb_inplace_xor, wide_in_place_xor},
+    {0, NULL},
+};
+
+static PyType_Spec wide_spec = {
+    "bit_set.RoaringBitmap64", sizeof(Wide), 0, FLAGS | Py_TPFLAGS_BASETYPE, wide_slots,
+};
+
 static PyMethodDef matrix_methods[] = {
     METHOD(matrix, from_row, METH_VARARGS | METH_CLASS, "from_row($type, members, rows, /)\n--\n\nMake a matrix of this many rows, each with the members, and as many columns as the set's length."),
     METHOD(matrix, copy, METH_NOARGS, "copy($self, /)\n--\n\nReturn a matrix of the same rows."),
@@ -284,6 +354,7 @@ __attribute__((visibility("default"))) PyMODINIT_FUNC PyInit__bit_set(void)
     PyObject *greatest = PyLong_FromSize_t(NO_MEMBER - 1);
     bit_set_type = (PyTypeObject *)PyType_FromSpec(&set_spec);
     bitmap_type = (PyTypeObject *)PyType_FromSpec(&bitmap_spec);
+    wide_type = (PyTypeObject *)PyType_FromSpec(&wide_spec);
     matrix_type = (PyTypeObject *)PyType_FromSpec(&matrix_spec);
     walk_type = (PyTypeObject *)PyType_FromSpec(&walk_spec);
     abstract_set = attribute_of("collections.abc", "Set");
@@ -291,6 +362,7 @@ __attribute__((visibility("default"))) PyMODINIT_FUNC PyInit__bit_set(void)
     bool is_made = module && walk_type && abstract_set && array_type
         && add_object(module, "BitSet", (PyObject *)bit_set_type)
         && add_object(module, "RoaringBitmap", (PyObject *)bitmap_type)
+        && add_object(module, "RoaringBitmap64", (PyObject *)wide_type)
         && add_object(module, "BitMatrix", (PyObject *)matrix_type) && add_object(module, "MAX_ELEMENT", greatest);
     Py_XDECREF(greatest);
     if (!is_made)

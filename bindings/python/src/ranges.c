@@ -73,7 +73,7 @@ PyObject *made_by(PyObject *type, PyObject *argument, PyObject *(*fill)(PyObject
 {
     PyObject *made = PyObject_CallFunctionObjArgs(type, NULL);
     /* A derived class may make an object that is not a set. */
-    if (made && !is_bit_set(made) && !is_bitmap(made)) {
+    if (made && !is_bit_set(made) && !is_bitmap(made) && !is_wide(made)) {
         PyErr_SetString(PyExc_TypeError, "the class makes no set");
         Py_CLEAR(made);
     }

@@ -1,5 +1,5 @@
-/* Sets of whole numbers as bits, and Roaring bitmaps, over the proved library for C. The module is built for the stable ABI of Python 3.8,
- * so one build serves every later version. Each call holds the interpreter's lock, so threads may share a set. */
+/* Sets of whole numbers as bits, and Roaring bitmaps, over the proved library for C. The module is built for the stable ABI of
+ * Python 3.8, so one build serves every later version. Each call holds the interpreter's lock, so threads may share a set. */
 #ifndef BIT_SET_MODULE_H
 #define BIT_SET_MODULE_H
 
@@ -32,6 +32,12 @@ typedef struct {
     PyObject *weak_references;
 } Bitmap;
 
+typedef struct {
+    PyObject_HEAD
+    bit_roaring64 *bitmap;
+    PyObject *weak_references;
+} Wide;
+
 /* An iterator that fetches the members in groups. The set may be changed during the iteration. */
 typedef struct {
     PyObject_HEAD
@@ -51,10 +57,12 @@ enum reading { FAILED = -1, NO_NUMBER = 0, NUMBER = 1 };
 typedef bool merge(bit_set *, const bit_set *);
 typedef bool make(bit_roaring **, const bit_roaring *, const bit_roaring *);
 typedef int32_t change(bit_roaring *, const bit_roaring *);
+typedef bool make64(bit_roaring64 **, const bit_roaring64 *, const bit_roaring64 *);
+typedef int32_t change64(bit_roaring64 *, const bit_roaring64 *);
 typedef int look(void *, PyObject *);
 
 /* The types, `Set` of collections.abc, and the type of arrays. */
-extern PyTypeObject *bit_set_type, *bitmap_type, *matrix_type, *walk_type;
+extern PyTypeObject *bit_set_type, *bitmap_type, *wide_type, *matrix_type, *walk_type;
 extern PyObject *abstract_set, *array_type;
 
 /* Later headers of the stable ABI no longer declare these, though each version has them. */
@@ -79,6 +87,16 @@ static inline bool is_bitmap(PyObject *object)
 static inline bit_roaring *bitmap_of(PyObject *object)
 {
     return ((Bitmap *)object)->bitmap;
+}
+
+static inline bool is_wide(PyObject *object)
+{
+    return PyObject_TypeCheck(object, wide_type);
+}
+
+static inline bit_roaring64 *wide_of(PyObject *object)
+{
+    return ((Wide *)object)->bitmap;
 }
 
 /* A new reference. The headers of Python 3.12 and later may count none when they return None or NotImplemented, which a
@@ -139,6 +157,8 @@ PyObject *matrix_shallow_copy(PyObject *self, PyObject *Py_UNUSED(none));
 PyObject *set_deep_copy(PyObject *self, PyObject *memo);
 PyObject *set_shallow_copy(PyObject *self, PyObject *Py_UNUSED(none));
 PyObject *state_of(PyObject *self);
+PyObject *wide_deep_copy(PyObject *self, PyObject *memo);
+PyObject *wide_shallow_copy(PyObject *self, PyObject *Py_UNUSED(none));
 bool put_attributes(PyObject *made, PyObject *state);
 
 /* making.c */
@@ -340,5 +360,63 @@ PyObject *bitmap_union(PyObject *self, PyObject *others);
 PyObject *bitmap_union_cardinality(PyObject *self, PyObject *items);
 PyObject *bitmap_update(PyObject *self, PyObject *others);
 PyObject *bitmap_xor(PyObject *left, PyObject *right);
+
+/* wide.c */
+PyObject *as_wide(PyObject *members);
+PyObject *wide_add(PyObject *self, PyObject *member);
+PyObject *wide_clear(PyObject *self, PyObject *Py_UNUSED(none));
+PyObject *wide_copy(PyObject *self, PyObject *Py_UNUSED(none));
+PyObject *wide_deserialize(PyObject *type, PyObject *bytes);
+PyObject *wide_discard(PyObject *self, PyObject *member);
+PyObject *wide_max(PyObject *self, PyObject *Py_UNUSED(none));
+PyObject *wide_min(PyObject *self, PyObject *Py_UNUSED(none));
+PyObject *wide_new(PyTypeObject *type, PyObject *Py_UNUSED(positional), PyObject *Py_UNUSED(named));
+PyObject *wide_next(PyObject *self, PyObject *from);
+PyObject *wide_pop(PyObject *self, PyObject *Py_UNUSED(none));
+PyObject *wide_previous(PyObject *self, PyObject *end);
+PyObject *wide_rank(PyObject *self, PyObject *value);
+PyObject *wide_reduce(PyObject *self, PyObject *Py_UNUSED(none));
+PyObject *wide_remove(PyObject *self, PyObject *member);
+PyObject *wide_serialize(PyObject *self, PyObject *Py_UNUSED(none));
+PyObject *wide_subscript(PyObject *self, PyObject *index);
+PyObject *wide_to_array(PyObject *self, PyObject *Py_UNUSED(none));
+Py_ssize_t wide_length(PyObject *self);
+bool merge_wides(PyObject *self, PyObject *other, change64 *call);
+bool put_all_in_wide(PyObject *self, PyObject *members);
+bool put_wide_group(PyObject *self, const uint64_t *group, size_t count);
+bool read_wide_member(PyObject *object, uint64_t *number);
+enum reading read_wide_equal(PyObject *self, PyObject *object, uint64_t *number);
+int wide_bool(PyObject *self);
+int wide_contains(PyObject *self, PyObject *member);
+int wide_init(PyObject *self, PyObject *arguments, PyObject *named);
+void wide_dealloc(PyObject *self);
+
+/* wide_merging.c */
+PyObject *wide_and(PyObject *left, PyObject *right);
+PyObject *wide_compare(PyObject *self, PyObject *other, int operation);
+PyObject *wide_difference(PyObject *self, PyObject *others);
+PyObject *wide_difference_cardinality(PyObject *self, PyObject *items);
+PyObject *wide_difference_update(PyObject *self, PyObject *others);
+PyObject *wide_in_place_and(PyObject *self, PyObject *other);
+PyObject *wide_in_place_or(PyObject *self, PyObject *other);
+PyObject *wide_in_place_subtract(PyObject *self, PyObject *other);
+PyObject *wide_in_place_xor(PyObject *self, PyObject *other);
+PyObject *wide_intersect(PyObject *self, PyObject *items);
+PyObject *wide_intersection(PyObject *self, PyObject *others);
+PyObject *wide_intersection_cardinality(PyObject *self, PyObject *items);
+PyObject *wide_intersection_update(PyObject *self, PyObject *others);
+PyObject *wide_isdisjoint(PyObject *self, PyObject *items);
+PyObject *wide_issubset(PyObject *self, PyObject *items);
+PyObject *wide_issuperset(PyObject *self, PyObject *items);
+PyObject *wide_jaccard_index(PyObject *self, PyObject *items);
+PyObject *wide_or(PyObject *left, PyObject *right);
+PyObject *wide_subtract(PyObject *left, PyObject *right);
+PyObject *wide_symmetric_difference(PyObject *self, PyObject *others);
+PyObject *wide_symmetric_difference_cardinality(PyObject *self, PyObject *items);
+PyObject *wide_symmetric_difference_update(PyObject *self, PyObject *others);
+PyObject *wide_union(PyObject *self, PyObject *others);
+PyObject *wide_union_cardinality(PyObject *self, PyObject *items);
+PyObject *wide_update(PyObject *self, PyObject *others);
+PyObject *wide_xor(PyObject *left, PyObject *right);
 
 #endif

@@ -148,10 +148,30 @@ static size_t fill_from_bitmap(Walk *walk)
     return count;
 }
 
+/* The same of a bitmap of 64-bit numbers. Its bound is the last number of the group from the back, and there may be no
+ * further one. */
+static void fill_from_wide(Walk *walk)
+{
+    uint64_t members[WALK_GROUP];
+    const bit_roaring64 *bitmap = wide_of(walk->of);
+    walk->count = walk->is_backward ? bit_roaring64_copy_members_back(bitmap, walk->bound, members, WALK_GROUP)
+                                    : bit_roaring64_copy_members(bitmap, walk->bound, members, WALK_GROUP);
+    for (size_t at = 0; at < walk->count; at++)
+        walk->group[at] = members[at];
+    uint64_t end = walk->is_backward ? 0 : UINT64_MAX;
+    walk->has_ended = walk->count < WALK_GROUP || members[WALK_GROUP - 1] == end;
+    if (!walk->has_ended)
+        walk->bound = walk->is_backward ? members[WALK_GROUP - 1] - 1 : members[WALK_GROUP - 1] + 1;
+}
+
 /* Fetches the next group. */
 static void fill(Walk *walk)
 {
     walk->place = 0;
+    if (is_wide(walk->of)) {
+        fill_from_wide(walk);
+        return;
+    }
     if (is_bitmap(walk->of))
         walk->count = fill_from_bitmap(walk);
     else if (walk->is_backward)

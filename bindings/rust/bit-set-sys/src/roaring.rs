@@ -1,10 +1,16 @@
-//! The calls of `bindings/c/bit_roaring.h`. Only `bit_roaring_free` accepts a null pointer.
+//! The calls of `bindings/c/bit_roaring.h`. Only `bit_roaring_free` and `bit_roaring64_free` accept a null pointer.
 //!
 //! Each call has the preconditions that the header states.
 
 /// An opaque set, used only through pointers.
 #[repr(C)]
 pub struct Bitmap {
+    private: [u8; 0],
+}
+
+/// An opaque set of 64-bit numbers, used only through pointers.
+#[repr(C)]
+pub struct Treemap {
     private: [u8; 0],
 }
 
@@ -39,6 +45,11 @@ pub const NOT_SORTED: i32 = -3;
 pub const NO_MEMORY: i32 = -1;
 pub const NO: i32 = 0;
 pub const YES: i32 = 1;
+
+/// Further results of `bit_roaring64_deserialize`.
+pub const EMPTY_BITMAP64: i32 = -14;
+pub const BAD_KEYS64: i32 = -13;
+pub const SHORT64: i32 = -12;
 
 /// The result of a search that finds no member.
 pub const NONE: u64 = u64::MAX;
@@ -89,4 +100,46 @@ extern "C" {
     pub fn bit_roaring_serialized_size(set: *const Bitmap) -> usize;
     pub fn bit_roaring_serialize(set: *const Bitmap, bytes: *mut u8, room: usize) -> i32;
     pub fn bit_roaring_deserialize(out: *mut *mut Bitmap, bytes: *const u8, count: usize, used: *mut usize) -> i32;
+}
+
+extern "C" {
+    pub fn bit_roaring64_new(out: *mut *mut Treemap) -> bool;
+    pub fn bit_roaring64_from_members(out: *mut *mut Treemap, members: *const u64, count: usize) -> bool;
+    pub fn bit_roaring64_clone(out: *mut *mut Treemap, set: *const Treemap) -> bool;
+    pub fn bit_roaring64_union(out: *mut *mut Treemap, set: *const Treemap, other: *const Treemap) -> bool;
+    pub fn bit_roaring64_intersection(out: *mut *mut Treemap, set: *const Treemap, other: *const Treemap) -> bool;
+    pub fn bit_roaring64_difference(out: *mut *mut Treemap, set: *const Treemap, other: *const Treemap) -> bool;
+    pub fn bit_roaring64_symmetric_difference(
+        out: *mut *mut Treemap,
+        set: *const Treemap,
+        other: *const Treemap,
+    ) -> bool;
+    pub fn bit_roaring64_free(set: *mut Treemap);
+    pub fn bit_roaring64_insert(set: *mut Treemap, value: u64) -> i32;
+    pub fn bit_roaring64_insert_members(set: *mut Treemap, members: *const u64, count: usize) -> usize;
+    pub fn bit_roaring64_push(set: *mut Treemap, value: u64) -> i32;
+    pub fn bit_roaring64_remove(set: *mut Treemap, value: u64) -> i32;
+    pub fn bit_roaring64_contains(set: *const Treemap, value: u64) -> bool;
+    pub fn bit_roaring64_min(set: *const Treemap, member: *mut u64) -> bool;
+    pub fn bit_roaring64_max(set: *const Treemap, member: *mut u64) -> bool;
+    pub fn bit_roaring64_rank(set: *const Treemap, value: u64) -> u64;
+    pub fn bit_roaring64_select(set: *const Treemap, n: u64, member: *mut u64) -> bool;
+    pub fn bit_roaring64_copy_members(set: *const Treemap, from: u64, members: *mut u64, room: usize) -> usize;
+    pub fn bit_roaring64_copy_members_back(set: *const Treemap, last: u64, members: *mut u64, room: usize) -> usize;
+    pub fn bit_roaring64_len(set: *const Treemap) -> u64;
+    pub fn bit_roaring64_is_empty(set: *const Treemap) -> bool;
+    pub fn bit_roaring64_is_subset(set: *const Treemap, other: *const Treemap) -> bool;
+    pub fn bit_roaring64_is_disjoint(set: *const Treemap, other: *const Treemap) -> bool;
+    pub fn bit_roaring64_equals(set: *const Treemap, other: *const Treemap) -> bool;
+    pub fn bit_roaring64_union_len(set: *const Treemap, other: *const Treemap) -> u64;
+    pub fn bit_roaring64_intersection_len(set: *const Treemap, other: *const Treemap) -> u64;
+    pub fn bit_roaring64_difference_len(set: *const Treemap, other: *const Treemap) -> u64;
+    pub fn bit_roaring64_symmetric_difference_len(set: *const Treemap, other: *const Treemap) -> u64;
+    pub fn bit_roaring64_union_with(set: *mut Treemap, other: *const Treemap) -> i32;
+    pub fn bit_roaring64_intersect_with(set: *mut Treemap, other: *const Treemap) -> i32;
+    pub fn bit_roaring64_difference_with(set: *mut Treemap, other: *const Treemap) -> i32;
+    pub fn bit_roaring64_symmetric_difference_with(set: *mut Treemap, other: *const Treemap) -> i32;
+    pub fn bit_roaring64_clear(set: *mut Treemap);
+    pub fn bit_roaring64_serialize(set: *const Treemap, bytes: *mut u8, room: usize, size: *mut usize) -> i32;
+    pub fn bit_roaring64_deserialize(out: *mut *mut Treemap, bytes: *const u8, count: usize, used: *mut usize) -> i32;
 }

@@ -64,10 +64,10 @@ impl RoaringBitmap {
 }
 
 // What is wrong with bytes for which the library returned this.
-fn fault(answer: i32) -> Option<(ErrorKind, &'static str)> {
+pub(crate) fn fault(answer: i32) -> Option<(ErrorKind, &'static str)> {
     let text = match answer {
         raw::YES => return None,
-        raw::SHORT => return Some((ErrorKind::UnexpectedEof, "the bytes end within the set")),
+        raw::SHORT | raw::SHORT64 => return Some((ErrorKind::UnexpectedEof, "the bytes end within the set")),
         raw::BAD_COOKIE => "the first bytes are not those of a set",
         raw::BAD_COUNT => "there are more containers than keys",
         raw::BAD_KEYS => "the keys of the containers do not ascend",
@@ -75,28 +75,30 @@ fn fault(answer: i32) -> Option<(ErrorKind, &'static str)> {
         raw::BAD_CARDINALITY => "a container has another number of members than stated",
         raw::BAD_ORDER => "the numbers of a list do not ascend",
         raw::BAD_RUNS => "runs do not ascend, touch or overlap, or one extends past its container",
+        raw::BAD_KEYS64 => "the keys of the bitmaps do not ascend",
+        raw::EMPTY_BITMAP64 => "a bitmap has no members",
         _ => out_of_memory(),
     };
     Some((ErrorKind::InvalidData, text))
 }
 
-// Reads the bytes of one set, by what they say of its parts, up to the end of the reader or to a part that is in no set.
-// The library judges them.
-fn read_set(reader: &mut impl Read, bytes: &mut Vec<u8>) -> io::Result<()> {
+// Reads the bytes of one set, by what they say of its parts, up to the end of the reader or to a part that is in no set, and
+// returns whether it came to their end. The library judges them.
+pub(crate) fn read_set(reader: &mut impl Read, bytes: &mut Vec<u8>) -> io::Result<bool> {
     let Some((with_runs, count)) = read_count(reader, bytes)? else {
-        return Ok(());
+        return Ok(false);
     };
     let runs_at = bytes.len();
     let heads_at = runs_at + if with_runs { (count + 7) / 8 } else { 0 };
     let lists_at = heads_at + 4 * count;
     let places = if with_runs && count < WITH_PLACES { 0 } else { 4 * count };
     if !read_more(reader, bytes, lists_at + places - runs_at)? {
-        return Ok(());
+        return Ok(false);
     }
     for container in 0..count {
         let size = if with_runs && bytes[runs_at + container / 8] >> (container % 8) & 1 == 1 {
             if !read_more(reader, bytes, 2)? {
-                return Ok(());
+                return Ok(false);
             }
             4 * usize::from(number_at(bytes, bytes.len() - 2))
         } else {
@@ -106,10 +108,10 @@ fn read_set(reader: &mut impl Read, bytes: &mut Vec<u8>) -> io::Result<()> {
             }
         };
         if !read_more(reader, bytes, size)? {
-            return Ok(());
+            return Ok(false);
         }
     }
-    Ok(())
+    Ok(true)
 }
 
 // Reads whether there are runs, and how many containers there are; `None` if the bytes do not say so.
@@ -132,6 +134,6 @@ fn number_at(bytes: &[u8], at: usize) -> u16 {
 }
 
 // Reads so many bytes, and returns whether they were there.
-fn read_more(reader: &mut impl Read, bytes: &mut Vec<u8>, count: usize) -> io::Result<bool> {
+pub(crate) fn read_more(reader: &mut impl Read, bytes: &mut Vec<u8>, count: usize) -> io::Result<bool> {
     Ok(reader.take(count as u64).read_to_end(bytes)? == count)
 }

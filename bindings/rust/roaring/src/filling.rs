@@ -9,7 +9,7 @@ const ROOM: usize = 256;
 /// Numbers do not ascend.
 #[derive(Clone, Copy, Debug, PartialEq, Eq)]
 pub struct NonSortedIntegers {
-    valid_until: u64,
+    pub(crate) valid_until: u64,
 }
 
 impl NonSortedIntegers {
@@ -40,12 +40,12 @@ impl fmt::Display for IntegerTooSmall {
 impl Error for IntegerTooSmall {}
 
 // Calls `take` with each chunk of the numbers, up to the first that it refuses.
-fn by_chunks<E>(
-    numbers: impl IntoIterator<Item = u32>,
-    mut take: impl FnMut(&[u32]) -> Result<(), E>,
+pub(crate) fn by_chunks<N: Copy + Default, E>(
+    numbers: impl IntoIterator<Item = N>,
+    mut take: impl FnMut(&[N]) -> Result<(), E>,
 ) -> Result<(), E> {
     let mut numbers = numbers.into_iter();
-    let mut chunk = [0; ROOM];
+    let mut chunk = [N::default(); ROOM];
     loop {
         let mut count = 0;
         for (place, number) in chunk.iter_mut().zip(&mut numbers) {

@@ -1,9 +1,9 @@
-//! Sets of 32-bit numbers that stay small if their members are few and far apart: the API of `RoaringBitmap` of the
-//! crate `roaring` 0.10, over a C library whose every call is proved.
+//! Sets of 32-bit numbers, and of 64-bit numbers, that stay small if their members are few and far apart: the API of
+//! `RoaringBitmap` and `RoaringTreemap` of the crate `roaring` 0.10, over a C library whose every call is proved.
 //!
-//! Left out are `RoaringTreemap`, `from_lsb0_bytes`, `from_bitmap_bytes`, `intersection_with_serialized_unchecked` and
-//! the features `serde` and `simd`. `try_push` is that of 0.11. If memory runs out, a call ends the process, like those
-//! of `Vec`.
+//! Left out are `from_lsb0_bytes`, `from_bitmap_bytes`, `intersection_with_serialized_unchecked`, of `RoaringTreemap`
+//! also its ranges, `full`, `is_full`, `bitmaps` and `from_bitmaps`, and the features `serde` and `simd`.
+//! `try_push` is that of 0.11. If memory runs out, a call ends the process, like those of `Vec`.
 //!
 //! ```
 //! let mut set = roaring::RoaringBitmap::new();
@@ -26,11 +26,13 @@ mod filling;
 mod multi;
 mod operators;
 mod statistics;
+pub mod treemap;
 mod walks;
 
 pub use filling::{IntegerTooSmall, NonSortedIntegers};
 pub use multi::MultiOps;
 pub use statistics::Statistics;
+pub use treemap::RoaringTreemap;
 pub use walks::{IntoIter, Iter};
 
 /// One above the greatest number that may be a member.

@@ -11,47 +11,52 @@ const MOST: usize = 4096;
 
 // Members that were copied, of which those from `next` to `end` are left.
 #[derive(Clone)]
-struct Copied {
-    members: Vec<u32>,
+pub(crate) struct Copied<N> {
+    members: Vec<N>,
     next: usize,
     end: usize,
 }
 
-impl Copied {
-    const NONE: Self = Copied { members: Vec::new(), next: 0, end: 0 };
+impl<N: Copy + Default> Copied<N> {
+    pub(crate) const NONE: Self = Copied { members: Vec::new(), next: 0, end: 0 };
 
     // Has the members that `copy` writes, and returns the last if there may be more.
-    fn refill(&mut self, copy: impl FnOnce(*mut u32, usize) -> usize) -> Option<u32> {
+    pub(crate) fn refill(&mut self, copy: impl FnOnce(*mut N, usize) -> usize) -> Option<N> {
         let room = (2 * self.members.len()).clamp(FEWEST, MOST);
-        self.members.resize(room, 0);
+        self.members.resize(room, N::default());
         (self.next, self.end) = (0, copy(self.members.as_mut_ptr(), room));
         self.members.get(room - 1).copied().filter(|_| self.end == room)
     }
 
-    fn left(&self) -> &[u32] {
+    pub(crate) fn left(&self) -> &[N] {
         &self.members[self.next..self.end]
     }
 
     #[inline]
-    fn take_first(&mut self) -> Option<u32> {
+    pub(crate) fn is_empty(&self) -> bool {
+        self.next == self.end
+    }
+
+    #[inline]
+    pub(crate) fn take_first(&mut self) -> Option<N> {
         let &first = self.left().first()?;
         self.next += 1;
         Some(first)
     }
 
-    fn take_last(&mut self) -> Option<u32> {
+    pub(crate) fn take_last(&mut self) -> Option<N> {
         let &last = self.left().last()?;
         self.end -= 1;
         Some(last)
     }
 
     // Takes those at the front that are to go.
-    fn skip(&mut self, goes: impl Fn(u32) -> bool) {
+    pub(crate) fn skip(&mut self, goes: impl Fn(N) -> bool) {
         self.next += self.left().iter().take_while(|&&member| goes(member)).count();
     }
 
     // Takes those at the back that are to go.
-    fn skip_back(&mut self, goes: impl Fn(u32) -> bool) {
+    pub(crate) fn skip_back(&mut self, goes: impl Fn(N) -> bool) {
         self.end -= self.left().iter().rev().take_while(|&&member| goes(member)).count();
     }
 }
@@ -60,8 +65,8 @@ impl Copied {
 // above and below `end`, and what was copied from the back, in descending order.
 #[derive(Clone)]
 struct Walk {
-    front: Copied,
-    back: Copied,
+    front: Copied<u32>,
+    back: Copied<u32>,
     from: u64,
     end: u64,
 }
@@ -73,7 +78,7 @@ impl Walk {
 
     #[inline]
     fn next(&mut self, set: &RoaringBitmap) -> Option<u32> {
-        if self.front.next == self.front.end {
+        if self.front.is_empty() {
             return self.copy_and_take(set);
         }
         self.front.take_first()
@@ -93,7 +98,7 @@ impl Walk {
     }
 
     fn next_back(&mut self, set: &RoaringBitmap) -> Option<u32> {
-        if self.back.next == self.back.end && self.from < self.end {
+        if self.back.is_empty() && self.from < self.end {
             let (first, end) = (self.from, self.end);
             // SAFETY: the set and the places are borrowed for the call.
             let copy = |members, room| unsafe { raw::bit_roaring_copy_members_back(set.read(), end, members, room) };

@@ -1,0 +1,80 @@
+//! Sets as bytes, in the portable form for 64 bits.
+use crate::bytes::{fault, read_more, read_set};
+use crate::{raw, require, RoaringTreemap};
+use std::io::{self, Read, Write};
+use std::ptr::null_mut;
+
+impl RoaringTreemap {
+    // Writes the set to the front of the bytes, if they suffice, and returns how many bytes it takes.
+    fn write_bytes(&self, bytes: &mut [u8]) -> usize {
+        let mut size = 0;
+        // SAFETY: the set, the bytes and the count are borrowed for the call.
+        let answer = unsafe { raw::bit_roaring64_serialize(self.read(), bytes.as_mut_ptr(), bytes.len(), &mut size) };
+        require(answer != raw::NO_MEMORY);
+        size
+    }
+
+    /// How many bytes [`serialize_into`](Self::serialize_into) writes. Makes them.
+    pub fn serialized_size(&self) -> usize {
+        self.write_bytes(&mut [])
+    }
+
+    /// Writes the set.
+    ///
+    /// # Errors
+    ///
+    /// Those of the writer.
+    pub fn serialize_into<W: Write>(&self, mut writer: W) -> io::Result<()> {
+        let mut bytes = vec![0; self.serialized_size()];
+        self.write_bytes(&mut bytes);
+        writer.write_all(&bytes)
+    }
+
+    /// Reads a set, and of the reader no byte more than those of the set.
+    ///
+    /// # Errors
+    ///
+    /// Those of the reader; `UnexpectedEof` if it ends within the set; and `InvalidData` if the bytes are not those of a
+    /// set.
+    pub fn deserialize_from<R: Read>(mut reader: R) -> io::Result<Self> {
+        let mut bytes = Vec::new();
+        read_bitmaps(&mut reader, &mut bytes)?;
+        let (mut set, mut used) = (null_mut(), 0);
+        // SAFETY: `set` is null, and the bytes and the count are borrowed for the call.
+        let answer = unsafe { raw::bit_roaring64_deserialize(&mut set, bytes.as_ptr(), bytes.len(), &mut used) };
+        match fault(answer) {
+            None => {
+                debug_assert_eq!(used, bytes.len());
+                Ok(RoaringTreemap { set })
+            }
+            Some((kind, text)) => Err(io::Error::new(kind, text)),
+        }
+    }
+
+    /// The same as [`deserialize_from`](Self::deserialize_from): nothing is left unchecked.
+    ///
+    /// # Errors
+    ///
+    /// The same.
+    pub fn deserialize_unchecked_from<R: Read>(reader: R) -> io::Result<Self> {
+        Self::deserialize_from(reader)
+    }
+}
+
+// Reads the bytes of one set, by what they say of its bitmaps, up to the end of the reader or to a bitmap that is none. The
+// library judges them.
+fn read_bitmaps(reader: &mut impl Read, bytes: &mut Vec<u8>) -> io::Result<()> {
+    if !read_more(reader, bytes, 8)? {
+        return Ok(());
+    }
+    let count = bytes.iter().rev().fold(0, |count, &byte| count << 8 | u64::from(byte));
+    for _ in 0..count {
+        let mut bitmap = Vec::new();
+        let is_whole = read_more(reader, bytes, 4)? && read_set(reader, &mut bitmap)?;
+        bytes.append(&mut bitmap);
+        if !is_whole {
+            break;
+        }
+    }
+    Ok(())
+}
