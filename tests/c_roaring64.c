@@ -187,8 +187,12 @@ static void ends(void) {
     CHECK(bit_roaring64_max(set, &member) && member == PAST && bit_roaring64_is_subset(set, copy));
     CHECK(!bit_roaring64_next(set, PAST + 1, &member) && member == PAST && !bit_roaring64_equals(set, copy));
     CHECK(bit_roaring64_difference_len(copy, set) == 1 && bit_roaring64_union_len(set, set) == 4);
+    CHECK(bit_roaring64_is_proper_subset(set, copy) && !bit_roaring64_is_proper_subset(set, set));
     CHECK(bit_roaring64_push(set, PAST) == BIT_ROARING_NO && bit_roaring64_push(set, PAST + 1) == BIT_ROARING_YES);
     CHECK(bit_roaring64_max(set, &member) && member == PAST + 1);
+    CHECK(bit_roaring64_insert_range(set, PAST - 3, PAST + 2) && bit_roaring64_range_cardinality(set, PAST - 3, PAST + 2) == 5);
+    CHECK(bit_roaring64_remove_range(set, 0, PAST + 1) && bit_roaring64_len(set) == 1);
+    CHECK(bit_roaring64_min(set, &member) && member == PAST + 1);
     bit_roaring64_free(set);
     bit_roaring64_free(copy);
     bit_roaring64_free(NULL);

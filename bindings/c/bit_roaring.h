@@ -21,11 +21,11 @@
  *   Making and freeing      new, from_members, clone, union, intersection, difference, symmetric_difference, free
  *   Single numbers          insert, insert_members, push, remove, contains
  *   Ends and searches       min, max, next, previous, rank, select; BIT_ROARING64_FOR_EACH
- *   Ranges                  contains_range, range_cardinality
+ *   Ranges                  insert_range, remove_range, contains_range, range_cardinality
  *   Copies                  copy_members, copy_members_back
  *   Reading a set           len, is_empty, hash
- *   Two sets, read          is_subset, is_superset, is_disjoint, equals, compare, union_len, intersection_len,
- *                           difference_len, symmetric_difference_len
+ *   Two sets, read          is_subset, is_proper_subset, is_superset, is_disjoint, equals, compare, union_len,
+ *                           intersection_len, difference_len, symmetric_difference_len
  *   Two sets, in place      union_with, intersect_with, difference_with, symmetric_difference_with
  *   A whole set             clear
  *   Bytes                   serialize, deserialize
@@ -399,7 +399,13 @@ bool bit_roaring64_select(const bit_roaring64 *set, uint64_t n, uint64_t *member
          member##_is_one = member < UINT64_MAX && bit_roaring64_next(set, member + 1, &member))
 
 /* ---- Ranges: the numbers that are at least `start` and below `end`, and none if `end` is `start` or below. So no range has
- * UINT64_MAX. Each takes two ranks. */
+ * UINT64_MAX. The counts take two ranks. */
+
+/* Insert or remove each number of the range, and return whether they could: if memory runs out, nothing changes. Each makes a
+ * bitmap for each key in the range, `remove_range` only for those that the set has, and merges it. A bitmap of all numbers
+ * with one key is 65,536 containers of one run. */
+bool bit_roaring64_insert_range(bit_roaring64 *set, uint64_t start, uint64_t end) BIT_SET_MAY_FAIL;
+bool bit_roaring64_remove_range(bit_roaring64 *set, uint64_t start, uint64_t end) BIT_SET_MAY_FAIL;
 
 /* Whether every number of the range is a member, which is true of an empty range. */
 bool bit_roaring64_contains_range(const bit_roaring64 *set, uint64_t start, uint64_t end) BIT_SET_CALL;
@@ -438,6 +444,9 @@ uint64_t bit_roaring64_hash(const bit_roaring64 *set) BIT_SET_CALL;
 /* Whether each member is in the other set, and the other way round. */
 bool bit_roaring64_is_subset(const bit_roaring64 *set, const bit_roaring64 *other) BIT_SET_CALL;
 bool bit_roaring64_is_superset(const bit_roaring64 *set, const bit_roaring64 *other) BIT_SET_CALL;
+
+/* Whether each member is in the other set, which has at least one more. */
+bool bit_roaring64_is_proper_subset(const bit_roaring64 *set, const bit_roaring64 *other) BIT_SET_CALL;
 
 /* Whether no member is in the other set. */
 bool bit_roaring64_is_disjoint(const bit_roaring64 *set, const bit_roaring64 *other) BIT_SET_CALL;

@@ -154,8 +154,8 @@ static int compare_wides(const bit_roaring64 *set, const bit_roaring64 *with, in
     case Py_NE: return !bit_roaring64_equals(set, with);
     case Py_LE: return bit_roaring64_is_subset(set, with);
     case Py_GE: return bit_roaring64_is_superset(set, with);
-    case Py_LT: return bit_roaring64_is_subset(set, with) && !bit_roaring64_equals(set, with);
-    default: return bit_roaring64_is_superset(set, with) && !bit_roaring64_equals(set, with);
+    case Py_LT: return bit_roaring64_is_proper_subset(set, with);
+    default: return bit_roaring64_is_proper_subset(with, set);
     }
 }
 
