@@ -120,7 +120,7 @@ is_subset_of_short            full   65536  1.2      9000
 is_disjoint_of_short          two    65536  1.2      9000
 eq_of_others                  two    65536  1.2      9000
 eq_of_others                  many   65536  1.2      9000
-less_of_others                two    65536   10    115000
+less_of_others                two    65536  1.2      9000
 close                         two       32  260  15000000
 transitive_closure            two       32  340  12000000
 reflexive_transitive_closure  two       32  330  12000000
