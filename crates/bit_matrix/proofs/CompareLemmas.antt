@@ -1,9 +1,10 @@
 -- When two matrices are the same: as tables, by their blocks.
-use Rattle.std.proofs.Common.{◌≡◌, ℕ, zero, suc, ◌+◌, ◌*◌, ◌/◌, ◌%◌, ◌^◌, ◌<◌, ◌↔◌, Bool, true, List, length, map, get_or, nat_eq, sym, ap, ap₂, ◌∙◌, subst, arith, inl, inr, mod-lt}
+use Rattle.std.proofs.Common.{◌≡◌, ℕ, zero, suc, ◌+◌, ◌*◌, ◌/◌, ◌%◌, ◌^◌, ◌<◌, ◌↔◌, Bool, true, List, [], length, map, get_or, nat_eq, sym, ap, ap₂, ◌∙◌, subst, arith, inl, inr, mod-lt}
 use Rattle.std.proofs.lemmas.{Bool.{cases_lt}, Nat.{div-add-mod', div_below}, List.{ext_get_or, get_or_past, length-map}}
 use Rattle.std.specs.Cmp.Lexicographic.{bytes_decides, pointwise, pointwise_decides}
 use Rattle.bit_blocks.{specs.Bits.blocks_for, proofs.VectorLemmas.numbers_below}
-use Rattle.bit_matrix.specs.{Compared.{key_of, same_matrices}, Matrices.{Matrix, row_of}, Tables.{IsCleanPast, IsTable, matrix_in, row_in}}
+use Rattle.bit_matrix.specs.{Compared.{key_of, same_matrices}, Matrices.{IsMatrix, KeepsShape, Matrix, has_at, row_of}, Tables.{IsCleanPast, IsTable, matrix_in, row_in}}
+use Rattle.bit_set.proofs.SetLemmas.{same_members}
 use Rattle.bit_matrix.proofs.{MergeLemmas.blocks_stay, SeenLemmas.{enough}, TableLemmas.{get_or-rows_in}}
 
 key_fixes : (a b : Matrix) → key_of a ≡ key_of b → a ≡ b
@@ -11,6 +12,21 @@ key_fixes a b same =
     let rows : a.rows ≡ b.rows = cc in
     let columns : a.columns ≡ b.columns = cc in
     ap₂ (λ (xss : List (List ℕ)) (n : ℕ). let s : Matrix = record { rows = xss; columns = n } in s) rows columns
+
+-- matrices of one shape that have the same columns in each row are the same
+same_bits : (a b : Matrix) → IsMatrix a → IsMatrix b → KeepsShape a b → ((r c : ℕ) → has_at b r c ≡ has_at a r c) → a ≡ b
+same_bits a b is_a is_b shape bits =
+    let rows : a.rows ≡ b.rows = ext_get_or [] a.rows b.rows (sym shape.rows)
+    (λ r within. same_members (row_of a r) (row_of b r) (is_a.ascends r) (is_b.ascends r) (λ c. sym (bits r c))) in
+    key_fixes a b (ap₂ (λ (xss : List (List ℕ)) (n : ℕ). let s : Matrix = record { rows = xss; columns = n } in key_of s) rows (sym shape.columns))
+
+-- what tells that matrices are the same tells that their bits are
+pub tells_bits : (result : Bool) (a b : Matrix) → IsMatrix a → IsMatrix b → ((result ≡ true) ↔ (a ≡ b))
+    → (result ≡ true) ↔ (KeepsShape a b × ((r c : ℕ) → has_at b r c ≡ has_at a r c))
+tells_bits result a b is_a is_b same = (
+  λ yes. let e : b ≡ a = sym (same.0 yes) in (record { rows = ap (λ m. length m.rows) e; columns = ap (λ m. m.columns) e }, λ r c. ap (λ m. has_at m r c) e),
+  λ both. same.1 (same_bits a b is_a is_b both.0 both.1),
+)
 
 pub same_decides : (a b : Matrix) → (same_matrices a b ≡ true) ↔ (a ≡ b)
 same_decides a b =

@@ -1,11 +1,11 @@
 -- Which sets are proper subsets of which, by the blocks that hold them.
-use Rattle.std.proofs.Common.{◌≡◌, ℕ, ◌+◌, ◌-◌, ◌*◌, ◌/◌, ◌%◌, ◌<◌, ◌≤◌, min, Bool, true, false, not, ◌&&◌, List, [], ◌∷◌, eqb, refl, drop, get_or, length, get_or-drop, sym, ◌∙◌, ◌↔◌, arith, ⊎_elim}
-use Rattle.std.proofs.lemmas.{Bool.{cases_lt, cases_Bool, false≢true, or_right}, List.get_or_past}
-use Rattle.std.{proofs.Math.Nat.{div-add-mod', mod-lt}, specs.{Prelude.IsTrue, Cmp.Lexicographic.bytes_decides, List.list_all}}
+use Rattle.std.proofs.Common.{◌≡◌, ℕ, ◌+◌, ◌-◌, ◌*◌, ◌/◌, ◌%◌, ◌<◌, ◌≤◌, min, Bool, true, false, not, ◌&&◌, List, refl, drop, get_or, length, get_or-drop, sym, ◌∙◌, ◌↔◌, arith, ⊎_elim}
+use Rattle.std.proofs.lemmas.{Bool.{cases_lt, false≢true}, List.get_or_past}
+use Rattle.std.{proofs.Math.Nat.{div-add-mod', mod-lt}, specs.{Prelude.IsTrue, Cmp.Lexicographic.bytes_decides}}
 use Rattle.bit_blocks.specs.{BlockMerges.MergesToFalse, Bits.blocks_of, Mismatches.IsFirstBlockMismatch, Storage.value_at, declared.block.merge.Merge.TheVariants.Difference}
 use Rattle.bit_blocks.proofs.StorageLemmas.{value_at-is, value_at-index}
-use Rattle.set_algebra.specs.{Runs.IsProperSubset, Sets.{elements, has, is_subset}}
-use Rattle.set_algebra.proofs.{SetLemmas.{IsAscending-elements, has-first}, SubsetLemmas.{is_subset-both_ways, is_subset-members, same_tests}}
+use Rattle.set_algebra.specs.Sets.{elements, has, is_subset}
+use Rattle.set_algebra.proofs.{SetLemmas.{IsAscending-elements}, SubsetLemmas.{is_subset-both_ways, is_subset-members, same_tests}}
 use Rattle.set_algebra.proofs.MismatchLemmas.{has-number, same_by_blocks}
 
 -- the blocks from one on have the values from its first on
@@ -63,23 +63,3 @@ none_proper w xs ys pos all =
     let same = (bytes_decides (elements xs) (elements ys)).0 (sym (same_by_blocks w xs ys true pos (λ _. all, λ _. refl))) in
     let both = (is_subset-both_ways (elements xs) (elements ys) (IsAscending-elements xs) (IsAscending-elements ys)).1 same in
     grind (arith, both.0, both.1)
-
--- a test that not each member passes fails at one
-fails_at : (p : ℕ → Bool) (s : List ℕ) → list_all p s ≡ false → (n : ℕ) × (has s n ≡ true) × (p n ≡ false)
-fails_at p [] none = absurd (false≢true (sym none))
-fails_at p (x ∷ xs) none =
-    ⊎_elim
-    (λ (yes : p x ≡ true). let rest = fails_at p xs (grind (arith, yes, none)) in (rest.0, or_right (eqb x rest.0) (has xs rest.0) rest.1, rest.2))
-    (λ (no : p x ≡ false). (x, has-first x xs, no))
-    (cases_Bool (p x))
-
-pub tells_proper : (b : Bool) (s t : List ℕ) → b ≡ (is_subset s t && not (is_subset t s)) → IsTrue b ↔ IsProperSubset s t
-tells_proper b s t is = (
-  λ yes.
-      let further = fails_at (λ n. has s n) t (grind (arith, yes, is)) in
-      ((is_subset-members s t).0 (grind (arith, yes, is)), further),
-  λ proper.
-      let within = (is_subset-members s t).1 proper.0 in
-      let back : is_subset t s ≡ true → ⊥ = λ all. false≢true (sym proper.1.2 ∙ (is_subset-members t s).0 all proper.1.0 proper.1.1) in
-      grind (arith, within, back, is),
-)

@@ -1,16 +1,8 @@
 -- What is in some, and what is in each, of many sets.
 use Rattle.std.specs.{Prelude.{◌≡◌, ℕ, Bool, false, max, min, List, [], ◌∷◌, get_or, length}, List.{fold, list_all, list_any}}
 use Rattle.bit_blocks.specs.{Bits.Bits, Merges.merge_of_values, declared.block.merge.Merge.Merge}
-use Rattle.set_algebra.specs.Sets.{elements, has, intersection, union}
-
--- what is in some of the sets
-abbrev pub union_all : List (List ℕ) → List ℕ
-union_all ss = fold union [] ss
-
--- what is in each of the sets, and nothing where there are none
-abbrev pub intersection_all : List (List ℕ) → List ℕ
-intersection_all [] = []
-intersection_all (s ∷ ss) = fold intersection s ss
+use Rattle.set_algebra.specs.Sets.{elements, has}
+pub use Rattle.set_algebra.specs.Sets.{intersection_all, union_all}
 
 -- r has what is in some of the sets
 abbrev pub HasSome : List Bits → List ℕ → Type 0

@@ -1,9 +1,9 @@
 -- Which sets are in which, and which have nothing in common.
-use Rattle.std.proofs.{Common.{◌≡◌, ℕ, Bool, true, not, ◌↔◌, eqb, List, [], ◌∷◌, filter, slice_get, Some, refl, sym, ap, ◌∙◌, ⊎_elim, arith}, Math.Bool.not-not}
-use Rattle.std.proofs.lemmas.Bool.{true≢false, and_from, or_right, not-true}
-use Rattle.std.{proofs.lemmas.Bool.{not_from_false, cases_Bool, Decides.nat_tests}, specs.{List.list_all, Cmp.nat_cmp_total}}
+use Rattle.std.proofs.{Common.{◌≡◌, ℕ, Bool, true, false, not, ◌&&◌, ◌↔◌, eqb, List, [], ◌∷◌, filter, slice_get, Some, refl, sym, ap, ◌∙◌, ⊎_elim, arith}, Math.Bool.not-not}
+use Rattle.std.proofs.lemmas.Bool.{true≢false, false≢true, and_from, or_right, not-true}
+use Rattle.std.{proofs.lemmas.Bool.{not_from_false, cases_Bool, Decides.nat_tests}, specs.{Prelude.IsTrue, List.list_all, Cmp.nat_cmp_total}}
 use Rattle.std.specs.FinSet as set
-use Rattle.set_algebra.specs.Sets.{IsAscending, has, elements, intersection, difference, is_subset, is_disjoint}
+use Rattle.set_algebra.specs.{Runs.IsProperSubset, Sets.{IsAscending, has, elements, intersection, difference, is_subset, is_disjoint}}
 use Rattle.set_algebra.proofs.{SetLemmas.{same_members, has-first}, SetLaws.{slice_get-elements, contains-has, finite}}
 
 -- ---- a test that each member passes
@@ -71,3 +71,25 @@ is_disjoint-elements value a b each =
     let members = is_disjoint-members (elements a) (elements b) in
     same_tests value (is_disjoint (elements a) (elements b)) (λ is. members.1 (λ n in_a in_b. each.0 is n ((slice_get-elements a n).0 in_a) ((slice_get-elements b n).0 in_b)))
     (λ all. each.1 (λ i at_a at_b. members.0 all i ((slice_get-elements a i).1 at_a) ((slice_get-elements b i).1 at_b)))
+
+-- ---- proper subsets
+
+-- a test that not each member passes fails at one
+fails_at : (p : ℕ → Bool) (s : List ℕ) → list_all p s ≡ false → (n : ℕ) × (has s n ≡ true) × (p n ≡ false)
+fails_at p [] none = absurd (false≢true (sym none))
+fails_at p (x ∷ xs) none =
+    ⊎_elim
+    (λ (yes : p x ≡ true). let rest = fails_at p xs (grind (arith, yes, none)) in (rest.0, or_right (eqb x rest.0) (has xs rest.0) rest.1, rest.2))
+    (λ (no : p x ≡ false). (x, has-first x xs, no))
+    (cases_Bool (p x))
+
+pub tells_proper : (b : Bool) (s t : List ℕ) → b ≡ (is_subset s t && not (is_subset t s)) → IsTrue b ↔ IsProperSubset s t
+tells_proper b s t is = (
+  λ yes.
+      let further = fails_at (λ n. has s n) t (grind (arith, yes, is)) in
+      ((is_subset-members s t).0 (grind (arith, yes, is)), further),
+  λ proper.
+      let within = (is_subset-members s t).1 proper.0 in
+      let back : is_subset t s ≡ true → ⊥ = λ all. false≢true (sym proper.1.2 ∙ (is_subset-members t s).0 all proper.1.0 proper.1.1) in
+      grind (arith, within, back, is),
+)

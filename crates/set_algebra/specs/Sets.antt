@@ -1,5 +1,5 @@
 -- Sets of whole numbers, each as the list of its members in ascending order.
-use Rattle.std.specs.{Prelude.{ℕ, ◌+◌, ◌≤◌, max, Bool, not, ◌==◌, nat_lt, nat_le, if◌then◌else◌, List, [], ◌∷◌, filter}, List.{list_all, list_any}}
+use Rattle.std.specs.{Prelude.{ℕ, ◌+◌, ◌≤◌, max, Bool, not, ◌==◌, nat_lt, nat_le, if◌then◌else◌, List, [], ◌∷◌, filter}, List.{fold, list_all, list_any}}
 use Rattle.bit_blocks.specs.declared.block.merge.Merge.{Merge, TheVariants.{Union, Intersection, Difference, Symmetric}}
 
 -- the numbers strictly ascend, and the first is at least `low`
@@ -78,6 +78,15 @@ merge_of_sets Union s t = union s t
 merge_of_sets Intersection s t = intersection s t
 merge_of_sets Difference s t = difference s t
 merge_of_sets Symmetric s t = symmetric_difference s t
+
+-- what is in some of many sets
+abbrev pub union_all : List (List ℕ) → List ℕ
+union_all ss = fold union [] ss
+
+-- what is in each of many sets, and nothing where there are none
+abbrev pub intersection_all : List (List ℕ) → List ℕ
+intersection_all [] = []
+intersection_all (s ∷ ss) = fold intersection s ss
 
 -- whether each number of the first set is in the second
 abbrev pub is_subset : List ℕ → List ℕ → Bool

@@ -1,6 +1,6 @@
 // Equality of matrices, and their hash.
-ghost use Rattle.std.specs.{Prelude.{◌≡◌, ◌↔◌, IsTrue}, Cmp.{on_equiv, on_per, partial_equiv_from_equiv, Lexicographic.{lists_equiv, lists_per, nat_list_eq_equiv}}};
-ghost use Rattle.bit_matrix.specs.Compared.{key_of, same_matrices};
+ghost use Rattle.std.specs.{Prelude.{◌≡◌, ◌↔◌, ℕ, IsTrue}, Cmp.{on_equiv, on_per, partial_equiv_from_equiv, Lexicographic.{lists_equiv, lists_per, nat_list_eq_equiv}}};
+ghost use Rattle.bit_matrix.specs.{Compared.{key_of, same_matrices}, Matrices.{KeepsShape, has_at}};
 
 use crate::{BitBlock, BitMatrix};
 use bit_words::bit_vec::same_blocks;
@@ -15,6 +15,8 @@ impl<B: BitBlock> PartialEq for BitMatrix<B> {
     fn eq(&self, other: &Self) -> bool
         ensures tells { result ≡ same_matrices self.now other.now }
         ensures same { IsTrue result ↔ (self.now ≡ other.now) }
+        ensures members { IsTrue result
+            ↔ (KeepsShape self.now other.now × ((r c : ℕ) → has_at other.now r c ≡ has_at self.now r c)) }
     {
         if self.rows != other.rows {
             return false;

@@ -1,7 +1,7 @@
 use Rattle.std.proofs.Common.{ap, ◌∙◌}
 use Rattle.bit_blocks.specs.Bits.{blocks_of}
-use Rattle.set_algebra.specs.Sets.{elements}
-use Rattle.bit_set.proofs.ProperLemmas.{none_proper, proper_by_mismatch, tells_proper}
+use Rattle.set_algebra.{specs.Sets.{elements}, proofs.SubsetLemmas.{tells_proper}}
+use Rattle.bit_set.proofs.ProperLemmas.{none_proper, proper_by_mismatch}
 use Rattle.bit_set.proofs.set.BitSet.is_proper_subset.Goals as goal
 
 pub is_within_from-requires : goal.is_within_from-requires

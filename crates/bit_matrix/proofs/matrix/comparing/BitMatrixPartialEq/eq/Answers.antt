@@ -1,5 +1,5 @@
 use Rattle.std.proofs.{Common.{◌≡◌, ◌↔◌, ℕ, IsTrue, map, get_or, sym, ap, ◌∙◌, length}, lemmas.Bool.{false≢true}}
-use Rattle.bit_matrix.proofs.{CompareLemmas.{same_tables, tells_same}, SeenLemmas.{seen_rows}}
+use Rattle.bit_matrix.proofs.{CompareLemmas.{same_tables, tells_bits, tells_same}, SeenLemmas.{seen_matrix, seen_rows}}
 use Rattle.bit_matrix.proofs.matrix.comparing.BitMatrixPartialEq.eq.Goals as goal
 
 pub returns-then-self-other-clause-same : goal.returns-then-self-other-clause-same
@@ -9,6 +9,11 @@ returns-then-self-other-clause-same g c =
 
 pub returns-then-self-other-clause-tells : goal.returns-then-self-other-clause-tells
 returns-then-self-other-clause-tells g c = tells_same _ c.args.self.now c.args.other.now (returns-then-self-other-clause-same g c)
+
+pub returns-then-self-other-clause-members : goal.returns-then-self-other-clause-members
+returns-then-self-other-clause-members g c =
+    let pos = g.met.B.BitBlock.width_law.positive in
+    tells_bits _ c.args.self.now c.args.other.now (seen_matrix pos c.self.invariant c.self.view_is) (seen_matrix pos c.other.invariant c.other.view_is) (returns-then-self-other-clause-same g c)
 
 pub returns-clause-same : goal.returns-clause-same
 returns-clause-same g c =
@@ -22,3 +27,8 @@ returns-clause-same g c =
 
 pub returns-clause-tells : goal.returns-clause-tells
 returns-clause-tells g c = tells_same c.same_blocks.result c.args.self.now c.args.other.now (returns-clause-same g c)
+
+pub returns-clause-members : goal.returns-clause-members
+returns-clause-members g c =
+    let pos = g.met.B.BitBlock.width_law.positive in
+    tells_bits c.same_blocks.result c.args.self.now c.args.other.now (seen_matrix pos c.self.invariant c.self.view_is) (seen_matrix pos c.other.invariant c.other.view_is) (returns-clause-same g c)
