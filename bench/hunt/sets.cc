@@ -322,6 +322,24 @@ template <class Found> static bool is_any(const Words &a, const Words &b, const 
     return false;
 }
 
+// The order of two sets as lists of their members: of those that differ, the one that has the first number of one alone is the
+// less, unless the other has no member after it.
+static int order(const Words &a, const Words &b) {
+    size_t most = std::max(a.words.size(), b.words.size());
+    for (size_t at = 0; at < most; at++) {
+        uint64_t x = at < a.words.size() ? a.words[at] : 0, y = at < b.words.size() ? b.words[at] : 0;
+        if (x == y)
+            continue;
+        uint64_t first = (x ^ y) & -(x ^ y);
+        const Words &other = x & first ? b : a;
+        bool is_last = (x & first ? y : x) < first;
+        while (is_last && ++at < other.words.size())
+            is_last = other.words[at] == 0;
+        return ((x & first) != 0) == is_last ? 1 : -1;
+    }
+    return 0;
+}
+
 static void relations(Table &table, const Side &set, const Side &other) {
     const Words &a = set.theirs, &b = other.theirs;
     table.add("is_subset", [&] { return bit_set_is_subset(set.ours, other.ours); },
@@ -334,7 +352,8 @@ static void relations(Table &table, const Side &set, const Side &other) {
         return a.words.size() == b.words.size() && memcmp(a.words.data(), b.words.data(), 8 * a.words.size()) == 0;
     };
     table.add("equals", [&] { return bit_set_equals(set.ours, other.ours); }, equal);
-    table.add("compare", [&] { return bit_set_compare(set.ours, other.ours); }, equal);
+    table.add("compare", [&] { return bit_set_compare(set.ours, other.ours); }, [&] { return order(a, b); });
+    table.expect(bit_set_compare(set.ours, other.ours) == order(a, b), "compare");
     table.expect(bit_set_equals(set.ours, other.ours) == equal(), "equals");
 }
 

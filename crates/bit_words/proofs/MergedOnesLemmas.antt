@@ -1,14 +1,14 @@
 -- How many values of the merge of two lists of blocks are true, block by block.
-use Rattle.std.proofs.Common.{◌≡◌, ◌≢◌, ℕ, zero, suc, ◌+◌, ◌-◌, ◌*◌, ◌^◌, ◌<◌, ◌≤◌, ◌==◌, ◌||◌, ◌&&◌, if◌then◌else◌, Bool, true, false, not, cond, max, List, map, drop, length, get_or, count_ones, refl}
+use Rattle.std.proofs.Common.{◌≡◌, ◌≢◌, ℕ, zero, suc, ◌+◌, ◌-◌, ◌*◌, ◌/◌, ◌^◌, ◌<◌, ◌≤◌, ◌==◌, ◌||◌, ◌&&◌, if◌then◌else◌, Bool, true, false, not, cond, max, List, map, drop, take, length, get_or, count_ones, refl}
 use Rattle.std.proofs.Common.{sym, ap, ap₂, ◌∙◌, ⊎_elim, arith, pow_pos, mul-le-mul_right}
 use Rattle.std.proofs.lemmas.Bool.{cases_eq, cases_lt, false≢true, Decides.nat_tests}
-use Rattle.std.proofs.lemmas.{List.{drop_all, ext_get_or, length-drop, length-map, take_all, FromFn.{get_or-map-range_with_len, length-map-range_with_len}, Sums.{count_by-le-length, sum_by-cons}}, Nat.le-div}
+use Rattle.std.proofs.lemmas.{List.{drop_all, ext_get_or, length-drop, length-map, length-take, take-map, take_all, FromFn.{get_or-map-range_with_len, length-map-range_with_len}, Sums.{count_by-le-length, sum_by-cons}}, Nat.{div_below, le-div}}
 use Rattle.std.specs.List.{count_by, range_with_len, sum_by}
 use Rattle.bit_blocks.specs.{declared.block.merge.Merge.Merge, Bits.Bits, BlockMerges.MergesToFalse, Digits.is_one, Lowest.{IsLowest, IsCleared}}
 use Rattle.bit_blocks.specs.{Merges.{merge_of, merge_of_values}, Storage.{ones_in, values_of, value_at, is_used, IsZeroFrom}}
 use Rattle.bit_blocks.proofs.{CompareLemmas.{digit_from_zero, value_in_view, zero_from_digits}, LowestLemmas.ones_zero, Masks.is_one-zero, MergeLemmas.{get_or-merged, length-merged, merge_of_values-none}}
 use Rattle.bit_blocks.proofs.{SpanCountLemmas.{count-parts, ones_of_blocks, ones_of_span, sum-parts}, StorageLemmas.{value_at-index, value_at-past}, UseLemmas.{used_past, zero_from_unused}}
-use Rattle.bit_blocks.proofs.VectorLemmas.{length_from_view}
+use Rattle.bit_blocks.proofs.{PackedLemmas.value_at-take, VectorLemmas.{length_from_view}}
 use Rattle.bit_words.specs.MergedOnes.{may_merge, merged_at, merged_ones, CoversChunks, CoversMerged}
 use Rattle.bit_words.proofs.RangeQueryLemmas.{trues_of_map}
 
@@ -266,6 +266,30 @@ module _ (merge : Merge) (w : ℕ) (ms ns : List ℕ) where
   pub none_where_false : (a b : ℕ) → MergesToFalse merge w ms ns → merged_ones merge w ms ns a b ≡ 0
   none_where_false a b falses = count_none (merged_at merge w ms ns) (a * w) (b * w - a * w) (λ i _ _. falses.value i)
 
+  -- of the first c blocks of each list
+  front_false : (c : ℕ) (front other : List ℕ) → front ≡ take c ms → other ≡ take c ns → MergesToFalse merge w ms ns → MergesToFalse merge w front other
+  front_false c front other is also falses = record {
+    value = λ i.
+        ⊎_elim
+        (λ (low : i / w < c).
+        ap₂ (λ (xs ys : List ℕ). merge_of_values merge (value_at w xs i) (value_at w ys i)) is also
+        ∙ ap₂ (merge_of_values merge) (value_at-take w c ms i low) (value_at-take w c ns i low)
+        ∙ falses.value i)
+        (λ (high : c ≤ i / w).
+        ap₂ (λ (xs ys : List ℕ). merge_of_values merge (value_at w xs i) (value_at w ys i)) is also
+        ∙ ap₂ (merge_of_values merge) (value_at-past w (take c ms) i (omega (arith, high, length-take c ms))) (value_at-past w (take c ns) i (omega (arith, high, length-take c ns)))
+        ∙ merge_of_values-none merge)
+        (cases_lt (i / w) c);
+  }
+
+  none_in_front : (c : ℕ) (front other : List ℕ) → 0 < w → front ≡ take c ms → other ≡ take c ns → MergesToFalse merge w front other → merged_ones merge w ms ns 0 c ≡ 0
+  none_in_front c front other pos is also falses =
+      count_none (merged_at merge w ms ns) (0 * w) (c * w - 0 * w) (λ i _ below.
+      let low : i / w < c = div_below i w c pos (omega (arith, below)) in
+      ap₂ (merge_of_values merge) (sym (value_at-take w c ms i low)) (sym (value_at-take w c ns i low))
+      ∙ ap₂ (λ (xs ys : List ℕ). merge_of_values merge (value_at w xs i) (value_at w ys i)) (sym is) (sym also)
+      ∙ falses.value i)
+
   -- of the blocks at which m has a 1
   left_some : (start m : ℕ) → ((j : ℕ) → j < w → is_one m j ≡ false → merged_ones merge w ms ns (start + j) (start + j + 1) ≡ 0)
       → left_of (λ j. merged_ones merge w ms ns (start + j) (start + j + 1)) w m ≡ merged_ones merge w ms ns start (start + w)
@@ -370,3 +394,19 @@ merged_fits m w n p r s k ms ns v u pos e f tail also fits small =
     let enough : 1 * end ≤ w * end = mul-le-mul_right end pos in
     let all = merged_trues m w n p r s end ms ns v u e f tail also (omega (arith, enough)) in
     omega (arith, all, merged_le m w ms ns 0 0 k end (omega arith) (omega arith) (omega arith), count_by-le-length (λ value. value) (merge_of m v.values u.values), length-merged m v.values u.values, length_from_view w n r ms v e, length_from_view w p s ns u f)
+
+-- ---- the fronts of lists of blocks
+
+-- the blocks' numbers
+front_of : {B : Type 0} (f : B → ℕ) (c : ℕ) (bs front : List B) → front ≡ take c bs → map f front ≡ take c (map f bs)
+front_of f c bs front is = ap (map f) is ∙ sym (take-map f c bs)
+
+-- fronts merge to zeros where the lists do
+pub false_in_fronts : {B : Type 0} (f : B → ℕ) (merge : Merge) (w c : ℕ) (bs os front other : List B) → front ≡ take c bs → other ≡ take c os
+    → MergesToFalse merge w (map f bs) (map f os) → MergesToFalse merge w (map f front) (map f other)
+false_in_fronts f merge w c bs os front other is also = front_false merge w (map f bs) (map f os) c (map f front) (map f other) (front_of f c bs front is) (front_of f c os other also)
+
+-- where they do, the lists have no ones there
+pub none_in_fronts : {B : Type 0} (f : B → ℕ) (merge : Merge) (w c : ℕ) (bs os front other : List B) → 0 < w → front ≡ take c bs → other ≡ take c os
+    → MergesToFalse merge w (map f front) (map f other) → merged_ones merge w (map f bs) (map f os) 0 c ≡ 0
+none_in_fronts f merge w c bs os front other pos is also = none_in_front merge w (map f bs) (map f os) c (map f front) (map f other) pos (front_of f c bs front is) (front_of f c os other also)

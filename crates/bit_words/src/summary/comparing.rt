@@ -225,10 +225,15 @@ pub(crate) fn mismatch_by_summaries<B: BitBlock>(
     if is_short::<B>(blocks.len().min(others.len())) {
         return first_mismatching_block(blocks, others);
     }
+    // Many lists differ in their first blocks, which take less than a choice of a way.
+    let found = mismatch_in_chunks(blocks, others, 0, 1);
+    if found.is_some() {
+        return found;
+    }
     let most = summary.len().max(other_summary.len());
-    let mut q = 0;
+    let mut q = 1;
     while q < most {
-        let end = most.min(q.max(1).saturating_mul(FURTHER));
+        let end = most.min(q.saturating_mul(FURTHER));
         let found = mismatch_in_part(blocks, summary, others, other_summary, q, end);
         if found.is_some() {
             return found;
