@@ -84,25 +84,36 @@ def made_in_python(top):
     return {name for text in texts for name in re.findall(r"\bbit_(?:set|matrix|roaring|roaring64)_\w+", text)}
 
 
-# The functions of each package, by the types that they are of. One name may stand for several.
+# The functions of each package, by the types that they are of. One name may stand for several. Those of no trait, or of one
+# that the package keeps to itself, are its own unless they are public.
+PRIVATE = (None, "Members")
+
+
 def functions_in_rust(folder, own, owners={}):
     """Those that are public or of a trait, and those that macros make from a line for the package's own type, or in a folder
-    with an owner of its own for that."""
-    found = {}
+    with an owner of its own for that. The macro `iterators` makes those of a set, and of its two iterators."""
+    found, walked, in_macro = {}, [], False
     for path in sorted((folder / "src").rglob("*.rs")):
         name = trait = None
         of_macros = owners.get(path.parent.name, own)
         for line in path.read_text().splitlines():
-            if head := re.match(r"(?:unsafe )?impl(?:<[^>]*>)? (?:([\w:]+)(?:<&?(?:'\w+ )?\w+>)? for )?&?(?:'\w+ )?(\w+)", line):
+            in_macro = line.startswith("macro_rules! iterator") or in_macro and line != "}"
+            line = line.removeprefix(" " * 8) if in_macro else line
+            if made := re.match(r"iterators!\((\w+) of", line):
+                walked.append(made.group(1))
+            elif head := re.match(r"(?:unsafe )?impl(?:<[^>]*>)? (?:([\w:]+)(?:<[^>\[]*>)? for )?&?(?:'\w+ )?(\$?\w+)", line):
                 trait, name = head.groups()
             elif made := re.match(r"    [A-Z]\w+(?: over .*)?, (\w+)(?: of other)?[:;]", line):
                 found.setdefault(of_macros, Counter())[made.group(1)] += 1
             elif made := re.match(r"    [A-Z]\w+ (\w+), [A-Z]\w+ (\w+):(?: |$)", line):
                 found.setdefault(of_macros, Counter()).update(made.groups())
-            elif (it := re.match(r"    (pub )?(?:const |unsafe )*fn (\w+)", line)) and name and (it.group(1) or trait):
+            elif (it := re.match(r"    (pub )?(?:const |unsafe )*fn (\w+)", line)) and name and (it.group(1) or trait not in PRIVATE):
                 found.setdefault(name, Counter())[it.group(2)] += 1
             elif line.startswith("}"):
                 name = None
+    for it in walked:
+        for kind, like in ((it, "$Set"), ("Iter", "$Iter"), ("IntoIter", "$Iter")):
+            found.setdefault(kind, Counter()).update(found[like])
     return found
 
 

@@ -1,5 +1,5 @@
 //! Calls that put in many numbers, a chunk of them in each call of the library.
-use crate::{raw, require, RoaringBitmap};
+use crate::{raw, require, RoaringBitmap, PAST};
 use std::error::Error;
 use std::fmt;
 
@@ -69,6 +69,27 @@ impl RoaringBitmap {
         let mut set = Self::new();
         set.append(iterator)?;
         Ok(set)
+    }
+
+    /// Creates the set of the bits that are 1, with the bits of each byte counted from the lowest. The first has the number
+    /// `offset`.
+    ///
+    /// # Panics
+    ///
+    /// If a bit has a number of 2^32 or above.
+    pub fn from_lsb0_bytes(offset: u32, bytes: &[u8]) -> Self {
+        let past = bytes.len().checked_mul(8).and_then(|bits| u64::from(offset).checked_add(bits as u64));
+        assert!(past.is_some_and(|past| past <= PAST), "a bit has a number that no member has");
+        let numbers_of = |(at, &byte): (usize, &u8)| {
+            let ones = (0..8).filter(move |bit| byte >> bit & 1 == 1);
+            ones.map(move |bit| offset + (8 * at + bit) as u32)
+        };
+        bytes.iter().enumerate().flat_map(numbers_of).collect()
+    }
+
+    /// The earlier name of [`from_lsb0_bytes`](Self::from_lsb0_bytes).
+    pub fn from_bitmap_bytes(offset: u32, bytes: &[u8]) -> Self {
+        Self::from_lsb0_bytes(offset, bytes)
     }
 
     /// Inserts `value` if it is above each member, and returns whether it is.

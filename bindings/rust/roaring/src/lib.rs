@@ -1,8 +1,7 @@
 //! Sets of 32-bit numbers, and of 64-bit numbers, that stay small if their members are few and far apart: the API of
 //! `RoaringBitmap` and `RoaringTreemap` of the crate `roaring` 0.10, over a C library whose every call is proved.
 //!
-//! Left out are `from_lsb0_bytes`, `from_bitmap_bytes`, `intersection_with_serialized_unchecked`, of `RoaringTreemap`
-//! also its ranges, `full`, `is_full`, `bitmaps` and `from_bitmaps`, and the features `serde` and `simd`.
+//! Left out are of `RoaringTreemap` `bitmaps`, and the features `serde` and `simd`.
 //! `try_push` is that of 0.11. If memory runs out, a call ends the process, like those of `Vec`.
 //!
 //! ```
@@ -15,15 +14,17 @@
 #![deny(unsafe_op_in_unsafe_fn)]
 
 use std::fmt;
-use std::ops::{Bound, RangeBounds};
+use std::ops::RangeBounds;
 use std::ptr::null_mut;
 use std::sync::OnceLock;
 
 use bit_set_sys::roaring as raw;
+use numbers::stretch_of;
 
 mod bytes;
 mod filling;
 mod multi;
+mod numbers;
 mod operators;
 mod statistics;
 pub mod treemap;
@@ -74,17 +75,7 @@ fn found(member: u64) -> Option<u32> {
 // The first number of a range, and the one past its last.
 #[inline]
 fn ends(range: impl RangeBounds<u32>) -> (u64, u64) {
-    let start = match range.start_bound() {
-        Bound::Included(&first) => first.into(),
-        Bound::Excluded(&before) => u64::from(before) + 1,
-        Bound::Unbounded => 0,
-    };
-    let end = match range.end_bound() {
-        Bound::Included(&last) => u64::from(last) + 1,
-        Bound::Excluded(&past) => past.into(),
-        Bound::Unbounded => PAST,
-    };
-    (start, end)
+    stretch_of(range).map_or((0, 0), |(first, last)| (first.into(), u64::from(last) + 1))
 }
 
 impl Drop for RoaringBitmap {

@@ -8,6 +8,7 @@ use crate::{raw, require};
 mod bytes;
 mod filling;
 mod operators;
+mod ranges;
 mod walks;
 
 pub use walks::{IntoIter, Iter};
