@@ -80,8 +80,11 @@ def made_in_roaring(top):
 
 
 def made_in_python(top):
-    texts = texts_in(top / "bindings/python/src", "*.c")
-    return {name for text in texts for name in re.findall(r"\bbit_(?:set|matrix|roaring|roaring64)_\w+", text)}
+    """Those of the texts that are for both kinds of bitmaps are called by CALL."""
+    texts = texts_in(top / "bindings/python/src", "*.c") + texts_in(top / "bindings/python/src", "bitmap*.h")
+    found = {name for text in texts for name in re.findall(r"\bbit_(?:set|matrix|roaring|roaring64)_\w+", text)}
+    of_both = {name for text in texts for name in re.findall(r"\bCALL\((\w+)\)", text)}
+    return found | {before + name for before in ("bit_roaring_", "bit_roaring64_") for name in of_both}
 
 
 # The functions of each package, by the types that they are of. One name may stand for several. Those of no trait, or of one
@@ -137,6 +140,8 @@ def functions_in_python(top):
     text = (top / "bindings/python/src/module.c").read_text()
     types = {"set": "BitSet", "bitmap": "RoaringBitmap", "wide": "RoaringBitmap64", "matrix": "BitMatrix"}
     found = {name: Counter(re.findall(rf"^    METHOD\({of}, (\w+)", text, re.MULTILINE)) for of, name in types.items()}
+    for name in ("RoaringBitmap", "RoaringBitmap64"):
+        found[name].update(re.findall(r"^    METHOD\(of, (\w+)", text, re.MULTILINE))
     attributes = re.search(r"matrix_attributes\[\] = \{(.*?)\n\};", text, re.DOTALL).group(1)
     found["BitMatrix"].update(re.findall(r'\{"(\w+)"', attributes))
     return found
@@ -146,8 +151,9 @@ def functions_in_stub(top):
     """What the file of the module's types has of each class, but for what Python calls itself."""
     found, name = {}, None
     for line in (top / "bindings/python/src/__init__.pyi").read_text().splitlines():
-        if head := re.match(r"class (\w+)", line):
-            name = head.group(1)
+        if head := re.match(r"class (\w+)(?:\((_\w+)\))?", line):
+            name, base = head.groups()
+            found[name] = Counter(found[base]) if base else Counter()
         elif it := re.match(r"    def ([a-z]\w*)\(", line):
             found.setdefault(name, Counter())[it.group(1)] += 1
     return found
