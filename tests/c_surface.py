@@ -94,18 +94,22 @@ PRIVATE = (None, "Members")
 
 def functions_in_rust(folder, own, owners={}):
     """Those that are public or of a trait, and those that macros make from a line for the package's own type, or in a folder
-    with an owner of its own for that. The macro `iterators` makes those of a set, and of its two iterators."""
-    found, walked, in_macro = {}, [], False
+    with an owner of its own for that. Some macros make impls for a set, and one for its two iterators."""
+    found, uses, macro = {}, [], None
     for path in sorted((folder / "src").rglob("*.rs")):
         name = trait = None
         of_macros = owners.get(path.parent.name, own)
         for line in path.read_text().splitlines():
-            in_macro = line.startswith("macro_rules! iterator") or in_macro and line != "}"
-            line = line.removeprefix(" " * 8) if in_macro else line
-            if made := re.match(r"iterators!\((\w+) of", line):
-                walked.append(made.group(1))
+            if head := re.match(r"macro_rules! (handles|fillings|iterators?) ", line):
+                macro = head.group(1)
+            elif macro and line == "}":
+                macro = None
+            line = line.removeprefix(" " * 8) if macro else line
+            if made := re.match(r"(handles|fillings|iterators)!\((\w+) of", line):
+                uses.append(made.groups())
             elif head := re.match(r"(?:unsafe )?impl(?:<[^>]*>)? (?:([\w:]+)(?:<[^>\[]*>)? for )?&?(?:'\w+ )?(\$?\w+)", line):
                 trait, name = head.groups()
+                name = name.replace("$", f"{macro} $")
             elif made := re.match(r"    [A-Z]\w+(?: over .*)?, (\w+)(?: of other)?[:;]", line):
                 found.setdefault(of_macros, Counter())[made.group(1)] += 1
             elif made := re.match(r"    [A-Z]\w+ (\w+), [A-Z]\w+ (\w+):(?: |$)", line):
@@ -114,9 +118,11 @@ def functions_in_rust(folder, own, owners={}):
                 found.setdefault(name, Counter())[it.group(2)] += 1
             elif line.startswith("}"):
                 name = None
-    for it in walked:
-        for kind, like in ((it, "$Set"), ("Iter", "$Iter"), ("IntoIter", "$Iter")):
-            found.setdefault(kind, Counter()).update(found[like])
+    for each, kind in uses:
+        found.setdefault(kind, Counter()).update(found[f"{each} $Set"])
+    for kind in ("Iter", "IntoIter"):
+        for _ in [each for each, _ in uses if each == "iterators"]:
+            found.setdefault(kind, Counter()).update(found["iterator $Iter"])
     return found
 
 

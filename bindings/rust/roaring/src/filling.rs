@@ -150,39 +150,48 @@ impl RoaringBitmap {
     }
 }
 
-impl Extend<u32> for RoaringBitmap {
-    fn extend<I: IntoIterator<Item = u32>>(&mut self, iterator: I) {
-        let inserted: Result<(), std::convert::Infallible> = by_chunks(iterator, |chunk| {
-            self.insert_chunk(chunk);
-            Ok(())
-        });
-        inserted.unwrap_or_else(|never| match never {});
-    }
+// The sets that are made of numbers in any order, by `insert_chunk` and a call for an array.
+macro_rules! fillings {
+    ($Set:ident of $number:ident, $from_members:ident) => {
+        impl Extend<$number> for $Set {
+            fn extend<I: IntoIterator<Item = $number>>(&mut self, iterator: I) {
+                let inserted: Result<(), std::convert::Infallible> = by_chunks(iterator, |chunk| {
+                    self.insert_chunk(chunk);
+                    Ok(())
+                });
+                inserted.unwrap_or_else(|never| match never {});
+            }
+        }
+
+        impl<'a> Extend<&'a $number> for $Set {
+            fn extend<I: IntoIterator<Item = &'a $number>>(&mut self, iterator: I) {
+                self.extend(iterator.into_iter().copied());
+            }
+        }
+
+        impl FromIterator<$number> for $Set {
+            fn from_iter<I: IntoIterator<Item = $number>>(iterator: I) -> Self {
+                let mut set = Self::new();
+                set.extend(iterator);
+                set
+            }
+        }
+
+        impl<'a> FromIterator<&'a $number> for $Set {
+            fn from_iter<I: IntoIterator<Item = &'a $number>>(iterator: I) -> Self {
+                iterator.into_iter().copied().collect()
+            }
+        }
+
+        impl<const N: usize> From<[$number; N]> for $Set {
+            fn from(numbers: [$number; N]) -> Self {
+                // SAFETY: `out` is null, and the numbers are borrowed for the call.
+                Self::made(|out| unsafe { raw::$from_members(out, numbers.as_ptr(), N) })
+            }
+        }
+    };
 }
 
-impl<'a> Extend<&'a u32> for RoaringBitmap {
-    fn extend<I: IntoIterator<Item = &'a u32>>(&mut self, iterator: I) {
-        self.extend(iterator.into_iter().copied());
-    }
-}
+pub(crate) use fillings;
 
-impl FromIterator<u32> for RoaringBitmap {
-    fn from_iter<I: IntoIterator<Item = u32>>(iterator: I) -> Self {
-        let mut set = Self::new();
-        set.extend(iterator);
-        set
-    }
-}
-
-impl<'a> FromIterator<&'a u32> for RoaringBitmap {
-    fn from_iter<I: IntoIterator<Item = &'a u32>>(iterator: I) -> Self {
-        iterator.into_iter().copied().collect()
-    }
-}
-
-impl<const N: usize> From<[u32; N]> for RoaringBitmap {
-    fn from(numbers: [u32; N]) -> Self {
-        // SAFETY: `out` is null, and the numbers are borrowed for the call.
-        Self::made(|out| unsafe { raw::bit_roaring_from_members(out, numbers.as_ptr(), N) })
-    }
-}
+fillings!(RoaringBitmap of u32, bit_roaring_from_members);
