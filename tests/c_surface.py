@@ -80,29 +80,49 @@ def made_in_roaring(top):
 
 
 def made_in_python(top):
-    texts = texts_in(top / "bindings/python/src", "*.c")
-    return {name for text in texts for name in re.findall(r"\bbit_(?:set|matrix|roaring|roaring64)_\w+", text)}
+    """Those of the texts that are for both kinds of bitmaps are called by CALL."""
+    texts = texts_in(top / "bindings/python/src", "*.c") + texts_in(top / "bindings/python/src", "bitmap*.h")
+    found = {name for text in texts for name in re.findall(r"\bbit_(?:set|matrix|roaring|roaring64)_\w+", text)}
+    of_both = {name for text in texts for name in re.findall(r"\bCALL\((\w+)\)", text)}
+    return found | {before + name for before in ("bit_roaring_", "bit_roaring64_") for name in of_both}
 
 
-# The functions of each package, by the types that they are of. One name may stand for several.
+# The functions of each package, by the types that they are of. One name may stand for several. Those of no trait, or of one
+# that the package keeps to itself, are its own unless they are public.
+PRIVATE = (None, "Members")
+
+
 def functions_in_rust(folder, own, owners={}):
     """Those that are public or of a trait, and those that macros make from a line for the package's own type, or in a folder
-    with an owner of its own for that."""
-    found = {}
+    with an owner of its own for that. Some macros make impls for a set, and one for its two iterators."""
+    found, uses, macro = {}, [], None
     for path in sorted((folder / "src").rglob("*.rs")):
         name = trait = None
         of_macros = owners.get(path.parent.name, own)
         for line in path.read_text().splitlines():
-            if head := re.match(r"(?:unsafe )?impl(?:<[^>]*>)? (?:([\w:]+)(?:<&?(?:'\w+ )?\w+>)? for )?&?(?:'\w+ )?(\w+)", line):
+            if head := re.match(r"macro_rules! (handles|fillings|iterators?) ", line):
+                macro = head.group(1)
+            elif macro and line == "}":
+                macro = None
+            line = line.removeprefix(" " * 8) if macro else line
+            if made := re.match(r"(handles|fillings|iterators)!\((\w+) of", line):
+                uses.append(made.groups())
+            elif head := re.match(r"(?:unsafe )?impl(?:<[^>]*>)? (?:([\w:]+)(?:<[^>\[]*>)? for )?&?(?:'\w+ )?(\$?\w+)", line):
                 trait, name = head.groups()
+                name = name.replace("$", f"{macro} $")
             elif made := re.match(r"    [A-Z]\w+(?: over .*)?, (\w+)(?: of other)?[:;]", line):
                 found.setdefault(of_macros, Counter())[made.group(1)] += 1
             elif made := re.match(r"    [A-Z]\w+ (\w+), [A-Z]\w+ (\w+):(?: |$)", line):
                 found.setdefault(of_macros, Counter()).update(made.groups())
-            elif (it := re.match(r"    (pub )?(?:const |unsafe )*fn (\w+)", line)) and name and (it.group(1) or trait):
+            elif (it := re.match(r"    (pub )?(?:const |unsafe )*fn (\w+)", line)) and name and (it.group(1) or trait not in PRIVATE):
                 found.setdefault(name, Counter())[it.group(2)] += 1
             elif line.startswith("}"):
                 name = None
+    for each, kind in uses:
+        found.setdefault(kind, Counter()).update(found[f"{each} $Set"])
+    for kind in ("Iter", "IntoIter"):
+        for _ in [each for each, _ in uses if each == "iterators"]:
+            found.setdefault(kind, Counter()).update(found["iterator $Iter"])
     return found
 
 
@@ -126,6 +146,8 @@ def functions_in_python(top):
     text = (top / "bindings/python/src/module.c").read_text()
     types = {"set": "BitSet", "bitmap": "RoaringBitmap", "wide": "RoaringBitmap64", "matrix": "BitMatrix"}
     found = {name: Counter(re.findall(rf"^    METHOD\({of}, (\w+)", text, re.MULTILINE)) for of, name in types.items()}
+    for name in ("RoaringBitmap", "RoaringBitmap64"):
+        found[name].update(re.findall(r"^    METHOD\(of, (\w+)", text, re.MULTILINE))
     attributes = re.search(r"matrix_attributes\[\] = \{(.*?)\n\};", text, re.DOTALL).group(1)
     found["BitMatrix"].update(re.findall(r'\{"(\w+)"', attributes))
     return found
@@ -135,8 +157,9 @@ def functions_in_stub(top):
     """What the file of the module's types has of each class, but for what Python calls itself."""
     found, name = {}, None
     for line in (top / "bindings/python/src/__init__.pyi").read_text().splitlines():
-        if head := re.match(r"class (\w+)", line):
-            name = head.group(1)
+        if head := re.match(r"class (\w+)(?:\((_\w+)\))?", line):
+            name, base = head.groups()
+            found[name] = Counter(found[base]) if base else Counter()
         elif it := re.match(r"    def ([a-z]\w*)\(", line):
             found.setdefault(name, Counter())[it.group(1)] += 1
     return found

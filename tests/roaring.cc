@@ -62,6 +62,7 @@ static void ranges_and_forms() {
 
 static void bytes_and_bits() {
     BitRoaring set{5, 6, 4000000000};
+    CHECK(*set.lower_bound(6) == 6 && *set.lower_bound(7) == 4000000000 && set.lower_bound(4000000001) == set.end());
     std::vector<std::uint8_t> bytes = set.serialize();
     std::size_t used = 0, size = bytes.size();
     bytes.push_back(7);
@@ -112,6 +113,10 @@ static void sets_of_64() {
     c.clear();
     CHECK(c.empty() && c.max() == std::nullopt && c.push(far) && !c.push(far) && c.push(far + 1));
     CHECK(c.range_cardinality(0, far + 1) == 1 && c.contains_range(far, far + 2) && !c.contains_range(far, far + 3));
+    c.insert_range(far - 2, far + 1);
+    CHECK(same(c, {far - 2, far - 1, far, far + 1}));
+    c.erase_range(0, far);
+    CHECK(same(c, {far, far + 1}));
 }
 
 int main() {

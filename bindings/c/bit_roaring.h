@@ -53,7 +53,8 @@
  * signal handler, or in a forked child of a process with threads.
  *
  * No call ends the process. `false` and BIT_ROARING_NO_MEMORY mean that memory ran out, and that nothing changed unless
- * stated otherwise below.
+ * stated otherwise below. A call that is said to fail only in some case does not fail for memory in any other, whatever
+ * memory there is; one of a group that does not allocate never does.
  *
  * A search by key for a container tries those near the key's place by proportion, and then a binary search of all: it is
  * logarithmic in the number of containers.
@@ -118,11 +119,12 @@ void bit_roaring_free(bit_roaring *set);
  * it is new. */
 int32_t bit_roaring_insert(bit_roaring *set, uint32_t value) BIT_SET_MAY_FAIL;
 
-/* Inserts numbers, one by one, up to the first for which memory runs out. Returns how many were inserted: `count` if all
- * were. */
+/* Inserts numbers, one by one, up to the first that is new and for which memory runs out. Returns how many were inserted:
+ * `count` if all were. */
 size_t bit_roaring_insert_members(bit_roaring *set, const uint32_t *members, size_t count) BIT_SET_MAY_FAIL;
 
-/* Inserts a number if it is above each member. BIT_ROARING_YES if it is, BIT_ROARING_NO if not, or BIT_ROARING_NO_MEMORY. */
+/* Inserts a number if it is above each member. BIT_ROARING_YES if it is, BIT_ROARING_NO if not, or BIT_ROARING_NO_MEMORY.
+ * Fails only if it is. */
 int32_t bit_roaring_push(bit_roaring *set, uint32_t value) BIT_SET_MAY_FAIL;
 
 /* Inserts numbers, each of which must be above each member before it, up to the first that is not or for which memory runs
@@ -137,7 +139,7 @@ int32_t bit_roaring_append_members(bit_roaring *set, const uint32_t *members, si
 int32_t bit_roaring_remove(bit_roaring *set, uint32_t value) BIT_SET_MAY_FAIL;
 
 /* Removes numbers, in any order. Returns how many were present, or BIT_ROARING_NO_MEMORY: those before the one for which
- * memory ran out are removed then. */
+ * memory ran out, which is present, are removed then. */
 int64_t bit_roaring_remove_members(bit_roaring *set, const uint32_t *members, size_t count) BIT_SET_MAY_FAIL;
 
 /* Whether the number is a member. */
@@ -188,7 +190,8 @@ int64_t bit_roaring_insert_range(bit_roaring *set, uint64_t start, uint64_t end)
 int64_t bit_roaring_remove_range(bit_roaring *set, uint64_t start, uint64_t end) BIT_SET_MAY_FAIL;
 
 /* Removes each member in the range, and inserts each other number of it that is below 2^32. Returns whether it could: if
- * memory runs out, nothing changes. Makes the containers of the range anew. `flipped` makes a new set instead. */
+ * memory runs out, nothing changes. Fails only if the range has a number below 2^32. Makes the containers of the range
+ * anew. `flipped` makes a new set instead, and may always fail. */
 bool bit_roaring_flip(bit_roaring *set, uint64_t start, uint64_t end) BIT_SET_MAY_FAIL;
 bool bit_roaring_flipped(bit_roaring **out, const bit_roaring *set, uint64_t start, uint64_t end) BIT_SET_MAY_FAIL;
 
@@ -272,7 +275,10 @@ uint64_t bit_roaring_symmetric_difference_len(const bit_roaring *set, const bit_
  * the same name that makes a set has, and returns BIT_ROARING_YES if that changed them, BIT_ROARING_NO if not, or
  * BIT_ROARING_NO_MEMORY. A search by key for each container of `other`, and for `intersect_with` one for each of `set`: what
  * both have is merged, where it is kept if it keeps its form, and what only `other` has is copied. No other container is
- * read; those above the first copy move once. */
+ * read; those above the first copy move once.
+ *
+ * `union_with` fails only if `other` has a member that `set` lacks; `intersect_with` and `difference_with` only if some
+ * members of `set` are in `other` and some are not; `symmetric_difference_with` only if `other` has members. */
 
 int32_t bit_roaring_union_with(bit_roaring *set, const bit_roaring *other) BIT_SET_MAY_FAIL;
 int32_t bit_roaring_intersect_with(bit_roaring *set, const bit_roaring *other) BIT_SET_MAY_FAIL;
@@ -302,8 +308,8 @@ void bit_roaring_shrink_to_fit(bit_roaring *set) BIT_SET_CALL;
 size_t bit_roaring_serialized_size(const bit_roaring *set) BIT_SET_CALL;
 
 /* Writes the set to the front of the bytes; later ones are unchanged. BIT_ROARING_YES if it did, BIT_ROARING_NO if `room`
- * is less than `bit_roaring_serialized_size` says, or BIT_ROARING_NO_MEMORY; the bytes are unchanged unless it did. Makes
- * the bytes first, in memory of exactly their number. */
+ * is less than `bit_roaring_serialized_size` says, or BIT_ROARING_NO_MEMORY, only if `room` suffices; the bytes are
+ * unchanged unless it did. Makes the bytes first, in memory of exactly their number. */
 int32_t bit_roaring_serialize(const bit_roaring *set, uint8_t *bytes, size_t room) BIT_SET_MAY_FAIL;
 
 /* The set that the first bytes represent, and in `*used` how many bytes that are: what follows is the caller's. No more than
@@ -358,12 +364,12 @@ void bit_roaring64_free(bit_roaring64 *set);
  * it is new. */
 int32_t bit_roaring64_insert(bit_roaring64 *set, uint64_t value) BIT_SET_MAY_FAIL;
 
-/* Inserts numbers, one by one, up to the first for which memory runs out. Returns how many were inserted: `count` if all
- * were. */
+/* Inserts numbers, one by one, up to the first that is new and for which memory runs out. Returns how many were inserted:
+ * `count` if all were. */
 size_t bit_roaring64_insert_members(bit_roaring64 *set, const uint64_t *members, size_t count) BIT_SET_MAY_FAIL;
 
 /* Inserts a number if it is above each member, of which it reads the greatest. BIT_ROARING_YES if it is, BIT_ROARING_NO if
- * not, or BIT_ROARING_NO_MEMORY. */
+ * not, or BIT_ROARING_NO_MEMORY. Fails only if it is. */
 int32_t bit_roaring64_push(bit_roaring64 *set, uint64_t value) BIT_SET_MAY_FAIL;
 
 /* Removes a number. BIT_ROARING_YES if it was present, BIT_ROARING_NO if not, or BIT_ROARING_NO_MEMORY, for what
@@ -401,9 +407,9 @@ bool bit_roaring64_select(const bit_roaring64 *set, uint64_t n, uint64_t *member
 /* ---- Ranges: the numbers that are at least `start` and below `end`, and none if `end` is `start` or below. So no range has
  * UINT64_MAX. The counts take two ranks. */
 
-/* Insert or remove each number of the range, and return whether they could: if memory runs out, nothing changes. Each makes a
- * bitmap for each key in the range, `remove_range` only for those that the set has, and merges it. A bitmap of all numbers
- * with one key is 65,536 containers of one run. */
+/* Insert or remove each number of the range, and return whether they could: if memory runs out, nothing changes. They fail
+ * only if a number is new, or present. Each makes a bitmap for each key in the range, `remove_range` only for those that the
+ * set has, and merges it. A bitmap of all numbers with one key is 65,536 containers of one run. */
 bool bit_roaring64_insert_range(bit_roaring64 *set, uint64_t start, uint64_t end) BIT_SET_MAY_FAIL;
 bool bit_roaring64_remove_range(bit_roaring64 *set, uint64_t start, uint64_t end) BIT_SET_MAY_FAIL;
 
@@ -469,7 +475,7 @@ uint64_t bit_roaring64_symmetric_difference_len(const bit_roaring64 *set, const 
  * the same name that makes a set has, and returns BIT_ROARING_YES if that changed them, BIT_ROARING_NO if not, or
  * BIT_ROARING_NO_MEMORY. The answer takes what `is_subset` or `is_disjoint` does, and the merge a search for each bitmap of
  * `other`: those that both sets have are merged into new ones, those that only `other` has are copied, and where one is
- * added or becomes empty those above move. `intersect_with` makes all bitmaps anew. */
+ * added or becomes empty those above move. `intersect_with` makes all bitmaps anew. Each may always fail. */
 
 int32_t bit_roaring64_union_with(bit_roaring64 *set, const bit_roaring64 *other) BIT_SET_MAY_FAIL;
 int32_t bit_roaring64_intersect_with(bit_roaring64 *set, const bit_roaring64 *other) BIT_SET_MAY_FAIL;

@@ -130,6 +130,8 @@ public:
 
     const_iterator begin() const { return {set_, bit_roaring_min(set_)}; }
     const_iterator end() const { return {set_, BIT_ROARING_NONE}; }
+    // At the least member that is `from` or above.
+    const_iterator lower_bound(std::uint32_t from) const { return {set_, bit_roaring_next(set_, from)}; }
     const_reverse_iterator rbegin() const { return const_reverse_iterator(end()); }
     const_reverse_iterator rend() const { return const_reverse_iterator(begin()); }
 
@@ -349,6 +351,9 @@ public:
     bool insert(std::uint64_t value) { return answer(bit_roaring64_insert(set_, value)); }
     bool push(std::uint64_t value) { return answer(bit_roaring64_push(set_, value)); }
     bool erase(std::uint64_t value) { return answer(bit_roaring64_remove(set_, value)); }
+    // A range never has UINT64_MAX.
+    void insert_range(std::uint64_t start, std::uint64_t end) { require(bit_roaring64_insert_range(set_, start, end)); }
+    void erase_range(std::uint64_t start, std::uint64_t end) { require(bit_roaring64_remove_range(set_, start, end)); }
     void clear() { bit_roaring64_clear(set_); }
 
     bool contains(std::uint64_t value) const { return bit_roaring64_contains(set_, value); }

@@ -93,6 +93,33 @@ class Random(unittest.TestCase):
             self.assertEqual((bitmap[place], bitmap[place - len(numbers)]), (numbers[place], numbers[place]))
             self.assertEqual(bitmap.to_array(), array("Q", numbers))
 
+    def test_ranges(self):
+        for _ in range(8):
+            plain = drawn(self.rng)
+            bitmap = RoaringBitmap64(plain)
+            start = self.rng.choice([2**32 - self.rng.randrange(9000), GREATEST - self.rng.randrange(70000), 5])
+            stop = min(start + self.rng.randrange(70000), 2**64)
+            numbers = set(range(start, stop))
+            self.assertEqual(bitmap.range_cardinality(start, stop), len(plain & numbers))
+            self.assertEqual(bitmap.contains_range(start, stop), numbers <= plain)
+            self.assertEqual(bitmap.clamp(start, stop), plain & numbers)
+            self.assertEqual(bitmap.flip(start, stop), plain ^ numbers)
+            bitmap.add_range(start, stop)
+            self.assertEqual(bitmap, plain | numbers)
+            self.assertTrue(bitmap.contains_range(start, stop))
+            bitmap.flip_inplace(start, stop)
+            self.assertEqual(bitmap, plain - numbers)
+            bitmap.add_range(start, stop)
+            bitmap.remove_range(start, stop)
+            self.assertEqual(bitmap, plain - numbers)
+
+    def test_statistics(self):
+        for numbers in ([], [3], range(5000), range(0, 10000, 2), [*range(70000), 2**31]):
+            one = RoaringBitmap(numbers)
+            two = RoaringBitmap64(one) | RoaringBitmap64(number + 2**40 for number in numbers)
+            doubled = {name: 2 * count for name, count in one.get_statistics().items()}
+            self.assertEqual(two.get_statistics(), doubled)
+
     def test_bytes_and_copies(self):
         for _ in range(8):
             bitmap = RoaringBitmap64(drawn(self.rng))
@@ -103,6 +130,81 @@ class Random(unittest.TestCase):
                 again.clear()
             with self.assertRaises(ValueError):
                 RoaringBitmap64.deserialize(written[: self.rng.randrange(len(written))])
+
+
+class Both(unittest.TestCase):
+    """What bitmaps of both kinds have alike."""
+
+    KINDS = ((RoaringBitmap, 2**32 - 1), (RoaringBitmap64, GREATEST))
+
+    def test_ends_of_ranges(self):
+        for kind, greatest in self.KINDS:
+            bitmap = kind([3])
+            for start, stop in ((9, 4), (5, 5), (-3, -9), (greatest + 5, greatest)):
+                bitmap.add_range(start, stop)
+                bitmap.remove_range(start, stop)
+                self.assertEqual((bitmap.range_cardinality(start, stop), bitmap.clamp(start, stop)), (0, set()))
+            self.assertEqual(bitmap, {3})
+            self.assertTrue(bitmap.contains_range(4, 4) and bitmap.contains_range(3, 4))
+            for start, stop in ((-1, 4), (greatest, greatest + 2), (2 * greatest, 3 * greatest), (-5, -3)):
+                self.assertRaises(ValueError, bitmap.add_range, start, stop)
+                self.assertRaises(ValueError, bitmap.flip, start, stop)
+                self.assertFalse(bitmap.contains_range(start, stop))
+            bitmap.add_range(greatest - 1, greatest + 1)
+            self.assertEqual(bitmap.range_cardinality(-5, 2 * greatest), 3)
+            self.assertEqual(bitmap.clamp(-5, 4), {3})
+            self.assertEqual(bitmap.clamp(4, 2 * greatest), {greatest - 1, greatest})
+            self.assertTrue(bitmap.contains_range(greatest - 1, greatest + 1))
+            bitmap.remove_range(greatest, 2 * greatest)
+            self.assertEqual(bitmap, {3, greatest - 1})
+            self.assertRaises(TypeError, bitmap.add_range, 1.0, 2)
+
+    def test_names_of_pyroaring(self):
+        for kind, greatest in self.KINDS:
+            bitmap = kind([1, 5, greatest])
+            bitmap.add_checked(7)
+            self.assertRaises(KeyError, bitmap.add_checked, 7)
+            self.assertRaises(ValueError, bitmap.add_checked, greatest + 1)
+            self.assertEqual((bitmap.next_set_bit(-3), bitmap.next_set_bit(6)), (1, 7))
+            self.assertRaises(ValueError, bitmap.next_set_bit, greatest + 1)
+            for start, walked in ((-2, [1, 5, 7, greatest]), (6, [7, greatest]), (greatest, [greatest]), (2**64, [])):
+                self.assertEqual(list(bitmap.iter_equal_or_larger(start)), walked)
+            self.assertRaises(TypeError, bitmap.iter_equal_or_larger, "1")
+            bitmap.overwrite(bitmap)
+            self.assertEqual(bitmap, {1, 5, 7, greatest})
+            other = kind([2])
+            bitmap.overwrite(other)
+            other.add(3)
+            self.assertEqual(bitmap, {2})
+            bitmap.overwrite(range(4))
+            self.assertRaises(ValueError, bitmap.overwrite, [-1])
+            self.assertEqual(bitmap, {0, 1, 2, 3})
+
+    def test_slices(self):
+        numbers = [*range(0, 9000, 3), 2**20, 2**31]
+        for kind, _ in self.KINDS:
+            bitmap = kind(numbers)
+            for part in (slice(None), slice(5, 9), slice(-3, None), slice(None, 100, 7), slice(9, 2), slice(None, None, -2)):
+                self.assertEqual(bitmap[part], set(numbers[part]))
+            self.assertIs(type(bitmap[:3]), kind)
+
+    def test_what_goes_in(self):
+        numbers = [3, 2**31, 1, 7]
+        for kind, greatest in self.KINDS:
+            for items in (numbers, tuple(numbers), set(numbers), array("Q", numbers), array("I", numbers), iter(numbers)):
+                self.assertEqual(kind(items), set(numbers))
+            self.assertEqual(kind(array("b", [5, 1] * 600)), {1, 5})
+            self.assertEqual(kind(array("Q", [greatest])), {greatest})
+            bitmap = kind()
+            self.assertRaises(ValueError, bitmap.__init__, array("q", [*range(1000), -1, 5000]))
+            self.assertEqual(bitmap, set(range(1000)))
+            self.assertRaises(ValueError, kind, [greatest + 1])
+
+    def test_memory_is_given_back(self):
+        bitmap = RoaringBitmap(range(5000))
+        bitmap.remove_range(0, 4000)
+        self.assertIsNone(bitmap.shrink_to_fit())
+        self.assertEqual(bitmap, set(range(4000, 5000)))
 
 
 class Exact(unittest.TestCase):

@@ -70,6 +70,8 @@ static size_t insert_group(PyObject *self, const size_t *group, size_t count)
 {
     if (is_bitmap(self))
         return put_in_bitmap(self, group, count);
+    if (is_wide(self))
+        return bit_roaring64_insert_members(wide_of(self), group, count);
     /* One more than the greatest; 0 for NO_MEMBER. */
     size_t bound = 0;
     for (size_t at = 0; at < count; at++)
@@ -85,7 +87,9 @@ bool put_group(PyObject *self, const size_t *group, size_t count)
     size_t done = insert_group(self, group, count);
     if (done == count)
         return true;
-    if (group[done] == NO_MEMBER)
+    if (is_wide(self))
+        PyErr_NoMemory();
+    else if (group[done] == NO_MEMBER)
         PyErr_SetString(PyExc_ValueError, "a number of the buffer is no member of a bit set");
     else if (is_bitmap(self) && group[done] > UINT32_MAX)
         PyErr_SetString(PyExc_ValueError, "a number is no member of a Roaring bitmap");
@@ -97,14 +101,21 @@ bool put_group(PyObject *self, const size_t *group, size_t count)
 /* Numbers gathered for a set, which inserts many at a time. */
 struct gathered {
     PyObject *set;
+    bool is_wide;
     size_t count;
     size_t group[GROUP];
 };
 
+/* Reads a number that may be a member of a set, with an exception if there is none. */
+static inline bool read_number_of(bool is_wide, PyObject *item, size_t *number)
+{
+    return is_wide ? read_wide_member(item, number) : read_member(item, number);
+}
+
 /* Inserts a group once it is full. */
 static inline bool gather(struct gathered *numbers, PyObject *item)
 {
-    if (!read_member(item, &numbers->group[numbers->count]))
+    if (!read_number_of(numbers->is_wide, item, &numbers->group[numbers->count]))
         return false;
     if (++numbers->count < GROUP)
         return true;
@@ -135,7 +146,7 @@ static bool put_rest(struct gathered *numbers)
 /* Inserts the items of a list or a tuple. Those before one that cannot be inserted are inserted. */
 static bool put_items(PyObject *self, PyObject *items)
 {
-    struct gathered numbers = {.set = self, .count = 0};
+    struct gathered numbers = {.set = self, .is_wide = is_wide(self), .count = 0};
     bool is_list = PyList_Check(items), is_good = true;
     Py_ssize_t size = PySequence_Size(items);
     for (Py_ssize_t at = 0; is_good && at < size; at++) {
@@ -146,10 +157,10 @@ static bool put_items(PyObject *self, PyObject *items)
     return put_rest(&numbers);
 }
 
-/* The same for a Python set, over which no user's code iterates. */
-static bool put_set(PyObject *self, PyObject *items)
+/* The same for a Python set, or one of this module, over which no user's code iterates. */
+bool put_walk(PyObject *self, PyObject *items)
 {
-    struct gathered numbers = {.set = self, .count = 0};
+    struct gathered numbers = {.set = self, .is_wide = is_wide(self), .count = 0};
     each_item(PyObject_GetIter(items), gather_item, &numbers);
     return put_rest(&numbers);
 }
@@ -157,7 +168,7 @@ static bool put_set(PyObject *self, PyObject *items)
 static int put_item(void *self, PyObject *item)
 {
     size_t number;
-    return read_member(item, &number) && put_group(self, &number, 1) ? 1 : -1;
+    return read_number_of(is_wide(self), item, &number) && put_group(self, &number, 1) ? 1 : -1;
 }
 
 /* Whether a format is of integers as this machine stores them, and whether they are signed. */
@@ -186,31 +197,35 @@ static Py_ssize_t size_attribute(PyObject *object, const char *name)
     return size;
 }
 
-/* Number `at` of those in a buffer. One below 0 is SIZE_MAX, so that it is not a member. */
-static size_t number_at(const char *bytes, size_t width, bool is_signed, size_t at)
+/* Reads number `at` of those in a buffer, unless it is below 0. */
+static bool number_at(const char *bytes, size_t width, bool is_signed, size_t at, size_t *number)
 {
-    uint64_t number = 0;
+    uint64_t read = 0;
     const char *from = bytes + at * width;
     switch (width) {
-    case 1: number = *(const uint8_t *)from; break;
-    case 2: { uint16_t part; memcpy(&part, from, 2); number = part; break; }
-    case 4: { uint32_t part; memcpy(&part, from, 4); number = part; break; }
-    default: memcpy(&number, from, 8);
+    case 1: read = *(const uint8_t *)from; break;
+    case 2: { uint16_t part; memcpy(&part, from, 2); read = part; break; }
+    case 4: { uint32_t part; memcpy(&part, from, 4); read = part; break; }
+    default: memcpy(&read, from, 8);
     }
-    bool is_below_zero = is_signed && number >> (8 * width - 1);
-    return is_below_zero || number > SIZE_MAX ? NO_MEMBER : (size_t)number;
+    *number = read > SIZE_MAX ? NO_MEMBER : (size_t)read;
+    return !is_signed || !(read >> (8 * width - 1));
 }
 
 /* Inserts the numbers of a buffer in groups. Those before one that cannot be inserted are inserted. */
 static bool put_numbers(PyObject *self, const char *bytes, size_t size, size_t width, bool is_signed)
 {
-    size_t group[GROUP];
-    for (size_t start = 0; start < size; start += GROUP) {
-        size_t count = size - start < GROUP ? size - start : GROUP;
-        for (size_t at = 0; at < count; at++)
-            group[at] = number_at(bytes, width, is_signed, start + at);
+    size_t group[GROUP], count = GROUP;
+    for (size_t start = 0; count == GROUP; start += GROUP) {
+        size_t room = size - start < GROUP ? size - start : GROUP;
+        for (count = 0; count < room && number_at(bytes, width, is_signed, start + count, &group[count]); count++)
+            ;
         if (!put_group(self, group, count))
             return false;
+        if (count < room) {
+            PyErr_SetString(PyExc_ValueError, "a number of the buffer is below 0");
+            return false;
+        }
     }
     return true;
 }
@@ -285,7 +300,7 @@ bool put_each(PyObject *self, PyObject *members)
     if (PyList_CheckExact(members) || PyTuple_CheckExact(members))
         return put_items(self, members);
     if (PyAnySet_CheckExact(members))
-        return put_set(self, members);
+        return put_walk(self, members);
     enum reading done = put_buffer(self, members);
     return done == NO_NUMBER ? each_item(PyObject_GetIter(members), put_item, self) == 1 : done == NUMBER;
 }

@@ -109,79 +109,91 @@ static PyType_Spec set_spec = {
     "bit_set.BitSet", sizeof(BitSet), 0, FLAGS | Py_TPFLAGS_BASETYPE, set_slots,
 };
 
+/* Those of a bitmap of either kind. The bytes are those of this form. */
+#define METHODS_OF_BITMAPS(of, form) \
+    METHOD(of, add, METH_O, "add($self, number, /)\n--\n\nAdd a number."), \
+    METHOD(of, add_checked, METH_O, "add_checked($self, number, /)\n--\n\nAdd a number. KeyError if it is a member."), \
+    METHOD(of, discard, METH_O, "discard($self, number, /)\n--\n\nRemove a number if it is a member."), \
+    METHOD(of, remove, METH_O, "remove($self, number, /)\n--\n\nRemove a member. KeyError if the number is not a member."), \
+    METHOD(of, pop, METH_NOARGS, "pop($self, /)\n--\n\nRemove the least member and return it. KeyError if there is none."), \
+    METHOD(of, clear, METH_NOARGS, "clear($self, /)\n--\n\nRemove every member."), \
+    METHOD(of, overwrite, METH_O, "overwrite($self, other, /)\n--\n\nReplace the members by the items of the other."), \
+    METHOD(of, min, METH_NOARGS, "min($self, /)\n--\n\nReturn the least member. ValueError if there is none."), \
+    METHOD(of, max, METH_NOARGS, "max($self, /)\n--\n\nReturn the greatest member. ValueError if there is none."), \
+    METHOD(of, next, METH_O, "next($self, start, /)\n--\n\nReturn the least member at or above start, or None."), \
+    METHOD(of, next_set_bit, METH_O, "next_set_bit($self, start, /)\n--\n\nReturn the least member at or above start. ValueError if there is none."), \
+    METHOD(of, iter_equal_or_larger, METH_O, "iter_equal_or_larger($self, start, /)\n--\n\nReturn an iterator over the members at or above start."), \
+    METHOD(of, previous, METH_O, "previous($self, stop, /)\n--\n\nReturn the greatest member below stop, or None."), \
+    METHOD(of, rank, METH_O, "rank($self, value, /)\n--\n\nReturn how many members are at most the value."), \
+    METHOD(of, add_range, METH_VARARGS, "add_range($self, start, stop, /)\n--\n\nAdd each number of range(start, stop)."), \
+    METHOD(of, remove_range, METH_VARARGS, "remove_range($self, start, stop, /)\n--\n\nRemove each number of range(start, stop)."), \
+    METHOD(of, contains_range, METH_VARARGS, "contains_range($self, start, stop, /)\n--\n\nReturn whether every number of range(start, stop) is a member."), \
+    METHOD(of, range_cardinality, METH_VARARGS, "range_cardinality($self, start, stop, /)\n--\n\nReturn how many members are in range(start, stop)."), \
+    METHOD(of, clamp, METH_VARARGS, "clamp($self, start, stop, /)\n--\n\nReturn the bitmap of the members in range(start, stop)."), \
+    METHOD(of, flip, METH_VARARGS, "flip($self, start, stop, /)\n--\n\nReturn a copy with the numbers of range(start, stop) removed if they are members, and else added."), \
+    METHOD(of, flip_inplace, METH_VARARGS, "flip_inplace($self, start, stop, /)\n--\n\nRemove the numbers of range(start, stop) that are members, and add the others."), \
+    METHOD(of, to_array, METH_NOARGS, "to_array($self, /)\n--\n\nReturn the members in ascending order as an array.array, which NumPy reads without a copy."), \
+    METHOD(of, copy, METH_NOARGS, "copy($self, /)\n--\n\nReturn a bitmap of the same members."), \
+    METHOD(of, update, METH_VARARGS, "update($self, *others)\n--\n\nAdd the items of the others."), \
+    METHOD(of, union, METH_VARARGS, "union($self, *others)\n--\n\nReturn the union of this bitmap and the others."), \
+    METHOD(of, intersection_update, METH_VARARGS, "intersection_update($self, *others)\n--\n\nKeep only members that are in each of the others."), \
+    METHOD(of, intersection, METH_VARARGS, "intersection($self, *others)\n--\n\nReturn the intersection of this bitmap and the others."), \
+    METHOD(of, difference_update, METH_VARARGS, "difference_update($self, *others)\n--\n\nRemove the items of the others."), \
+    METHOD(of, difference, METH_VARARGS, "difference($self, *others)\n--\n\nReturn the bitmap of the members that are in none of the others."), \
+    METHOD(of, symmetric_difference_update, METH_VARARGS, "symmetric_difference_update($self, *others)\n--\n\nMerge each of the others: keep what is in exactly one of the two."), \
+    METHOD(of, symmetric_difference, METH_VARARGS, "symmetric_difference($self, *others)\n--\n\nReturn what symmetric_difference_update leaves in a copy."), \
+    METHOD(of, issubset, METH_O, "issubset($self, other, /)\n--\n\nReturn whether each member is in the other."), \
+    METHOD(of, issuperset, METH_O, "issuperset($self, other, /)\n--\n\nReturn whether each item of the other is a member."), \
+    METHOD(of, isdisjoint, METH_O, "isdisjoint($self, other, /)\n--\n\nReturn whether no item of the other is a member."), \
+    METHOD(of, intersect, METH_O, "intersect($self, other, /)\n--\n\nReturn whether an item of the other is a member."), \
+    METHOD(of, union_cardinality, METH_O, "union_cardinality($self, other, /)\n--\n\nReturn how many numbers are in this bitmap or in the other."), \
+    METHOD(of, intersection_cardinality, METH_O, "intersection_cardinality($self, other, /)\n--\n\nReturn how many numbers are in both."), \
+    METHOD(of, difference_cardinality, METH_O, "difference_cardinality($self, other, /)\n--\n\nReturn how many members are not in the other."), \
+    METHOD(of, symmetric_difference_cardinality, METH_O, "symmetric_difference_cardinality($self, other, /)\n--\n\nReturn how many numbers are in exactly one of the two."), \
+    METHOD(of, jaccard_index, METH_O, "jaccard_index($self, other, /)\n--\n\nReturn the share of what is in either that is in both; not a number if both are empty."), \
+    METHOD(of, get_statistics, METH_NOARGS, "get_statistics($self, /)\n--\n\nReturn how many containers of each kind there are, and their members and bytes."), \
+    METHOD(of, serialize, METH_NOARGS, "serialize($self, /)\n--\n\nReturn the bytes of the portable form of Roaring bitmaps" form "."), \
+    METHOD(of, deserialize, METH_O | METH_CLASS, "deserialize($type, bytes, /)\n--\n\nMake the bitmap that a front of the bytes represents in the portable form" form ". ValueError names the first fault."), \
+    {"__copy__", of##_shallow_copy, METH_NOARGS, NULL}, \
+    {"__deepcopy__", of##_deep_copy, METH_O, NULL}, \
+    {"__reversed__", set_reversed, METH_NOARGS, "Return an iterator over the members in descending order."}, \
+    {"__reduce__", of##_reduce, METH_NOARGS, NULL}
+
+#define SLOTS_OF_BITMAPS(of) \
+    {Py_tp_new, of##_new}, \
+    {Py_tp_init, of##_init}, \
+    {Py_tp_dealloc, of##_dealloc}, \
+    {Py_tp_repr, bitmap_repr}, \
+    {Py_tp_hash, PyObject_HashNotImplemented}, \
+    {Py_tp_richcompare, of##_compare}, \
+    {Py_tp_iter, set_iter}, \
+    {Py_tp_methods, of##_methods}, \
+    {Py_tp_members, of##_members}, \
+    {Py_sq_contains, of##_contains}, \
+    {Py_mp_length, of##_length}, \
+    {Py_mp_subscript, of##_subscript}, \
+    {Py_nb_bool, of##_bool}, \
+    {Py_nb_or, of##_or}, \
+    {Py_nb_and, of##_and}, \
+    {Py_nb_subtract, of##_subtract}, \
+    {Py_nb_xor, of##_xor}, \
+    {Py_nb_inplace_or, of##_in_place_or}, \
+    {Py_nb_inplace_and, of##_in_place_and}, \
+    {Py_nb_inplace_subtract, of##_in_place_subtract}, \
+    {Py_nb_inplace_xor, of##_in_place_xor}
+
 static PyMethodDef bitmap_methods[] = {
-    METHOD(bitmap, add, METH_O, "add($self, number, /)\n--\n\nAdd a number."),
-    METHOD(bitmap, discard, METH_O, "discard($self, number, /)\n--\n\nRemove a number if it is a member."),
-    METHOD(bitmap, remove, METH_O, "remove($self, number, /)\n--\n\nRemove a member. KeyError if the number is not a member."),
-    METHOD(bitmap, pop, METH_NOARGS, "pop($self, /)\n--\n\nRemove the least member and return it. KeyError if there is none."),
-    METHOD(bitmap, clear, METH_NOARGS, "clear($self, /)\n--\n\nRemove every member."),
-    METHOD(bitmap, min, METH_NOARGS, "min($self, /)\n--\n\nReturn the least member. ValueError if there is none."),
-    METHOD(bitmap, max, METH_NOARGS, "max($self, /)\n--\n\nReturn the greatest member. ValueError if there is none."),
-    METHOD(bitmap, next, METH_O, "next($self, start, /)\n--\n\nReturn the least member at or above start, or None."),
-    METHOD(bitmap, previous, METH_O, "previous($self, stop, /)\n--\n\nReturn the greatest member below stop, or None."),
-    METHOD(bitmap, rank, METH_O, "rank($self, value, /)\n--\n\nReturn how many members are at most the value."),
-    METHOD(bitmap, add_range, METH_VARARGS, "add_range($self, start, stop, /)\n--\n\nAdd each number of range(start, stop)."),
-    METHOD(bitmap, remove_range, METH_VARARGS, "remove_range($self, start, stop, /)\n--\n\nRemove each number of range(start, stop)."),
-    METHOD(bitmap, contains_range, METH_VARARGS, "contains_range($self, start, stop, /)\n--\n\nReturn whether every number of range(start, stop) is a member."),
-    METHOD(bitmap, range_cardinality, METH_VARARGS, "range_cardinality($self, start, stop, /)\n--\n\nReturn how many members are in range(start, stop)."),
-    METHOD(bitmap, clamp, METH_VARARGS, "clamp($self, start, stop, /)\n--\n\nReturn the bitmap of the members in range(start, stop)."),
-    METHOD(bitmap, flip, METH_VARARGS, "flip($self, start, stop, /)\n--\n\nReturn a copy with the numbers of range(start, stop) removed if they are members, and else added."),
-    METHOD(bitmap, flip_inplace, METH_VARARGS, "flip_inplace($self, start, stop, /)\n--\n\nRemove the numbers of range(start, stop) that are members, and add the others."),
-    METHOD(bitmap, to_array, METH_NOARGS, "to_array($self, /)\n--\n\nReturn the members in ascending order as an array.array, which NumPy reads without a copy."),
-    METHOD(bitmap, copy, METH_NOARGS, "copy($self, /)\n--\n\nReturn a bitmap of the same members."),
-    METHOD(bitmap, update, METH_VARARGS, "update($self, *others)\n--\n\nAdd the items of the others."),
-    METHOD(bitmap, union, METH_VARARGS, "union($self, *others)\n--\n\nReturn the union of this bitmap and the others."),
-    METHOD(bitmap, intersection_update, METH_VARARGS, "intersection_update($self, *others)\n--\n\nKeep only members that are in each of the others."),
-    METHOD(bitmap, intersection, METH_VARARGS, "intersection($self, *others)\n--\n\nReturn the intersection of this bitmap and the others."),
-    METHOD(bitmap, difference_update, METH_VARARGS, "difference_update($self, *others)\n--\n\nRemove the items of the others."),
-    METHOD(bitmap, difference, METH_VARARGS, "difference($self, *others)\n--\n\nReturn the bitmap of the members that are in none of the others."),
-    METHOD(bitmap, symmetric_difference_update, METH_VARARGS, "symmetric_difference_update($self, *others)\n--\n\nMerge each of the others: keep what is in exactly one of the two."),
-    METHOD(bitmap, symmetric_difference, METH_VARARGS, "symmetric_difference($self, *others)\n--\n\nReturn what symmetric_difference_update leaves in a copy."),
-    METHOD(bitmap, issubset, METH_O, "issubset($self, other, /)\n--\n\nReturn whether each member is in the other."),
-    METHOD(bitmap, issuperset, METH_O, "issuperset($self, other, /)\n--\n\nReturn whether each item of the other is a member."),
-    METHOD(bitmap, isdisjoint, METH_O, "isdisjoint($self, other, /)\n--\n\nReturn whether no item of the other is a member."),
-    METHOD(bitmap, intersect, METH_O, "intersect($self, other, /)\n--\n\nReturn whether an item of the other is a member."),
-    METHOD(bitmap, union_cardinality, METH_O, "union_cardinality($self, other, /)\n--\n\nReturn how many numbers are in this bitmap or in the other."),
-    METHOD(bitmap, intersection_cardinality, METH_O, "intersection_cardinality($self, other, /)\n--\n\nReturn how many numbers are in both."),
-    METHOD(bitmap, difference_cardinality, METH_O, "difference_cardinality($self, other, /)\n--\n\nReturn how many members are not in the other."),
-    METHOD(bitmap, symmetric_difference_cardinality, METH_O, "symmetric_difference_cardinality($self, other, /)\n--\n\nReturn how many numbers are in exactly one of the two."),
-    METHOD(bitmap, jaccard_index, METH_O, "jaccard_index($self, other, /)\n--\n\nReturn the share of what is in either that is in both; not a number if both are empty."),
+    METHODS_OF_BITMAPS(bitmap, ""),
     METHOD(bitmap, run_optimize, METH_NOARGS, "run_optimize($self, /)\n--\n\nConvert each container to the form with the fewest bytes. Return whether one changed."),
     METHOD(bitmap, remove_runs, METH_NOARGS, "remove_runs($self, /)\n--\n\nConvert each container of runs to a list or blocks. Return whether one changed."),
-    METHOD(bitmap, get_statistics, METH_NOARGS, "get_statistics($self, /)\n--\n\nReturn how many containers of each kind there are, and their members and bytes."),
-    METHOD(bitmap, serialize, METH_NOARGS, "serialize($self, /)\n--\n\nReturn the bytes of the portable form of Roaring bitmaps."),
-    METHOD(bitmap, deserialize, METH_O | METH_CLASS, "deserialize($type, bytes, /)\n--\n\nMake the bitmap that a front of the bytes represents in the portable form. ValueError names the first fault."),
-    {"__copy__", bitmap_shallow_copy, METH_NOARGS, NULL},
-    {"__deepcopy__", bitmap_deep_copy, METH_O, NULL},
-    {"__reversed__", set_reversed, METH_NOARGS, "Return an iterator over the members in descending order."},
-    {"__reduce__", bitmap_reduce, METH_NOARGS, NULL},
+    METHOD(bitmap, shrink_to_fit, METH_NOARGS, "shrink_to_fit($self, /)\n--\n\nGive back the memory that is held and not used."),
     {NULL, NULL, 0, NULL},
 };
 
 static PyType_Slot bitmap_slots[] = {
     {Py_tp_doc, "RoaringBitmap(values=())\n--\n\nA set of numbers from 0 to 4294967295, as a MutableSet, that stays small if its members are few and far apart.\n\n"
         "Its methods are those of pyroaring's BitMap where that has the call. bitmap[n] is the member with n others below it."},
-    {Py_tp_new, bitmap_new},
-    {Py_tp_init, bitmap_init},
-    {Py_tp_dealloc, bitmap_dealloc},
-    {Py_tp_repr, bitmap_repr},
-    {Py_tp_hash, PyObject_HashNotImplemented},
-    {Py_tp_richcompare, bitmap_compare},
-    {Py_tp_iter, set_iter},
-    {Py_tp_methods, bitmap_methods},
-    {Py_tp_members, bitmap_members},
-    {Py_sq_contains, bitmap_contains},
-    {Py_mp_length, bitmap_length},
-    {Py_mp_subscript, bitmap_subscript},
-    {Py_nb_bool, bitmap_bool},
-    {Py_nb_or, bitmap_or},
-    {Py_nb_and, bitmap_and},
-    {Py_nb_subtract, bitmap_subtract},
-    {Py_nb_xor, bitmap_xor},
-    {Py_nb_inplace_or, bitmap_in_place_or},
-    {Py_nb_inplace_and, bitmap_in_place_and},
-    {Py_nb_inplace_subtract, bitmap_in_place_subtract},
-    {Py_nb_inplace_xor, bitmap_in_place_xor},
+    SLOTS_OF_BITMAPS(bitmap),
     {0, NULL},
 };
 
@@ -190,68 +202,14 @@ static PyType_Spec bitmap_spec = {
 };
 
 static PyMethodDef wide_methods[] = {
-    METHOD(wide, add, METH_O, "add($self, number, /)\n--\n\nAdd a number."),
-    METHOD(wide, discard, METH_O, "discard($self, number, /)\n--\n\nRemove a number if it is a member."),
-    METHOD(wide, remove, METH_O, "remove($self, number, /)\n--\n\nRemove a member. KeyError if the number is not a member."),
-    METHOD(wide, pop, METH_NOARGS, "pop($self, /)\n--\n\nRemove the least member and return it. KeyError if there is none."),
-    METHOD(wide, clear, METH_NOARGS, "clear($self, /)\n--\n\nRemove every member."),
-    METHOD(wide, min, METH_NOARGS, "min($self, /)\n--\n\nReturn the least member. ValueError if there is none."),
-    METHOD(wide, max, METH_NOARGS, "max($self, /)\n--\n\nReturn the greatest member. ValueError if there is none."),
-    METHOD(wide, next, METH_O, "next($self, start, /)\n--\n\nReturn the least member at or above start, or None."),
-    METHOD(wide, previous, METH_O, "previous($self, stop, /)\n--\n\nReturn the greatest member below stop, or None."),
-    METHOD(wide, rank, METH_O, "rank($self, value, /)\n--\n\nReturn how many members are at most the value."),
-    METHOD(wide, to_array, METH_NOARGS, "to_array($self, /)\n--\n\nReturn the members in ascending order as an array.array, which NumPy reads without a copy."),
-    METHOD(wide, copy, METH_NOARGS, "copy($self, /)\n--\n\nReturn a bitmap of the same members."),
-    METHOD(wide, update, METH_VARARGS, "update($self, *others)\n--\n\nAdd the items of the others."),
-    METHOD(wide, union, METH_VARARGS, "union($self, *others)\n--\n\nReturn the union of this bitmap and the others."),
-    METHOD(wide, intersection_update, METH_VARARGS, "intersection_update($self, *others)\n--\n\nKeep only members that are in each of the others."),
-    METHOD(wide, intersection, METH_VARARGS, "intersection($self, *others)\n--\n\nReturn the intersection of this bitmap and the others."),
-    METHOD(wide, difference_update, METH_VARARGS, "difference_update($self, *others)\n--\n\nRemove the items of the others."),
-    METHOD(wide, difference, METH_VARARGS, "difference($self, *others)\n--\n\nReturn the bitmap of the members that are in none of the others."),
-    METHOD(wide, symmetric_difference_update, METH_VARARGS, "symmetric_difference_update($self, *others)\n--\n\nMerge each of the others: keep what is in exactly one of the two."),
-    METHOD(wide, symmetric_difference, METH_VARARGS, "symmetric_difference($self, *others)\n--\n\nReturn what symmetric_difference_update leaves in a copy."),
-    METHOD(wide, issubset, METH_O, "issubset($self, other, /)\n--\n\nReturn whether each member is in the other."),
-    METHOD(wide, issuperset, METH_O, "issuperset($self, other, /)\n--\n\nReturn whether each item of the other is a member."),
-    METHOD(wide, isdisjoint, METH_O, "isdisjoint($self, other, /)\n--\n\nReturn whether no item of the other is a member."),
-    METHOD(wide, intersect, METH_O, "intersect($self, other, /)\n--\n\nReturn whether an item of the other is a member."),
-    METHOD(wide, union_cardinality, METH_O, "union_cardinality($self, other, /)\n--\n\nReturn how many numbers are in this bitmap or in the other."),
-    METHOD(wide, intersection_cardinality, METH_O, "intersection_cardinality($self, other, /)\n--\n\nReturn how many numbers are in both."),
-    METHOD(wide, difference_cardinality, METH_O, "difference_cardinality($self, other, /)\n--\n\nReturn how many members are not in the other."),
-    METHOD(wide, symmetric_difference_cardinality, METH_O, "symmetric_difference_cardinality($self, other, /)\n--\n\nReturn how many numbers are in exactly one of the two."),
-    METHOD(wide, jaccard_index, METH_O, "jaccard_index($self, other, /)\n--\n\nReturn the share of what is in either that is in both; not a number if both are empty."),
-    METHOD(wide, serialize, METH_NOARGS, "serialize($self, /)\n--\n\nReturn the bytes of the portable form of Roaring bitmaps for 64 bits."),
-    METHOD(wide, deserialize, METH_O | METH_CLASS, "deserialize($type, bytes, /)\n--\n\nMake the bitmap that a front of the bytes represents in that form. ValueError names the first fault."),
-    {"__copy__", wide_shallow_copy, METH_NOARGS, NULL},
-    {"__deepcopy__", wide_deep_copy, METH_O, NULL},
-    {"__reversed__", set_reversed, METH_NOARGS, "Return an iterator over the members in descending order."},
-    {"__reduce__", wide_reduce, METH_NOARGS, NULL},
+    METHODS_OF_BITMAPS(wide, " for 64 bits"),
     {NULL, NULL, 0, NULL},
 };
 
 static PyType_Slot wide_slots[] = {
     {Py_tp_doc, "RoaringBitmap64(values=())\n--\n\nA set of numbers from 0 to 18446744073709551615, as a MutableSet, that stays small if its members are few and far apart.\n\n"
         "Its methods are those of pyroaring's BitMap64 where that has the call. bitmap[n] is the member with n others below it."},
-    {Py_tp_new, wide_new},
-    {Py_tp_init, wide_init},
-    {Py_tp_dealloc, wide_dealloc},
-    {Py_tp_repr, bitmap_repr},
-    {Py_tp_hash, PyObject_HashNotImplemented},
-    {Py_tp_richcompare, wide_compare},
-    {Py_tp_iter, set_iter},
-    {Py_tp_methods, wide_methods},
-    {Py_tp_members, wide_members},
-    {Py_sq_contains, wide_contains},
-    {Py_mp_length, wide_length},
-    {Py_mp_subscript, wide_subscript},
-    {Py_nb_bool, wide_bool},
-    {Py_nb_or, wide_or},
-    {Py_nb_and, wide_and},
-    {Py_nb_subtract, wide_subtract},
-    {Py_nb_xor, wide_xor},
-    {Py_nb_inplace_or, wide_in_place_or},
-    {Py_nb_inplace_and, wide_in_place_and},
-    {Py_nb_inplace_subtract, wide_in_place_subtract},
-    {Py_nb_inplace_xor, wide_in_place_xor},
+    SLOTS_OF_BITMAPS(wide),
     {0, NULL},
 };
 

@@ -91,6 +91,26 @@ int read_bounds(PyObject *first, PyObject *last, size_t *start, size_t *stop, bo
     return has_numbers;
 }
 
+/* Reads the arguments of a call as the first and the last number of a range: 1 if it has numbers, 0 if it has none, or -1
+ * with an exception. `*is_within` is whether none of them is below 0 or above SIZE_MAX; those are left out. */
+int read_stretch(PyObject *arguments, size_t *first, size_t *last, bool *is_within)
+{
+    int first_is = 0, last_is = 0, has_numbers = -1;
+    PyObject *start, *stop;
+    if (!PyArg_ParseTuple(arguments, "OO", &start, &stop))
+        return -1;
+    PyObject *least = PyNumber_Index(start), *past = least ? PyNumber_Index(stop) : NULL, *one = PyLong_FromLong(1);
+    PyObject *greatest = past && one ? PyNumber_Subtract(past, one) : NULL;
+    if (greatest && read_bound(least, first, &first_is) && read_bound(greatest, last, &last_is))
+        has_numbers = PyObject_RichCompareBool(least, greatest, Py_LE);
+    Py_XDECREF(least);
+    Py_XDECREF(past);
+    Py_XDECREF(one);
+    Py_XDECREF(greatest);
+    *is_within = !has_numbers || (!first_is && !last_is);
+    return has_numbers > 0 ? first_is <= 0 && last_is >= 0 : has_numbers;
+}
+
 PyObject *member_or_none(size_t member)
 {
     if (member == NO_MEMBER)

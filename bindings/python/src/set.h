@@ -55,10 +55,10 @@ typedef struct {
 enum reading { FAILED = -1, NO_NUMBER = 0, NUMBER = 1 };
 
 typedef bool merge(bit_set *, const bit_set *);
-typedef bool make(bit_roaring **, const bit_roaring *, const bit_roaring *);
-typedef int32_t change(bit_roaring *, const bit_roaring *);
-typedef bool make64(bit_roaring64 **, const bit_roaring64 *, const bit_roaring64 *);
-typedef int32_t change64(bit_roaring64 *, const bit_roaring64 *);
+typedef bool bitmap_make(bit_roaring **, const bit_roaring *, const bit_roaring *);
+typedef int32_t bitmap_change(bit_roaring *, const bit_roaring *);
+typedef bool wide_make(bit_roaring64 **, const bit_roaring64 *, const bit_roaring64 *);
+typedef int32_t wide_change(bit_roaring64 *, const bit_roaring64 *);
 typedef int look(void *, PyObject *);
 
 /* The types, `Set` of collections.abc, and the type of arrays. */
@@ -124,6 +124,7 @@ PyObject *member_or_none(size_t member);
 bool has_number(PyObject *self, size_t number);
 bool read_bound(PyObject *object, size_t *bound, int *outside);
 int read_bounds(PyObject *first, PyObject *last, size_t *start, size_t *stop, bool *is_within);
+int read_stretch(PyObject *arguments, size_t *first, size_t *last, bool *is_within);
 bool read_member_of_any(PyObject *object, size_t *number);
 enum reading read_equal_of_any(PyObject *self, PyObject *object, size_t *number);
 enum reading read_number(PyObject *object, size_t *number);
@@ -177,6 +178,7 @@ bool put(PyObject *self, PyObject *member);
 bool put_all(PyObject *self, PyObject *members);
 bool put_each(PyObject *self, PyObject *members);
 bool put_group(PyObject *self, const size_t *group, size_t count);
+bool put_walk(PyObject *self, PyObject *items);
 enum reading take_out(PyObject *self, PyObject *member);
 int set_contains(PyObject *self, PyObject *member);
 int set_init(PyObject *self, PyObject *arguments, PyObject *named);
@@ -228,6 +230,7 @@ PyObject *set_to_bytes_lsb(PyObject *self, PyObject *Py_UNUSED(none));
 PyObject *type_name(PyObject *self);
 PyObject *zeros(const char *kind, Py_ssize_t count);
 PyObject *walk_new(PyTypeObject *type, PyObject *Py_UNUSED(positional), PyObject *Py_UNUSED(named));
+PyObject *walk_from(PyObject *self, size_t from, bool has_ended);
 PyObject *walk_next(PyObject *object);
 Py_ssize_t set_length(PyObject *self);
 int set_bool(PyObject *self);
@@ -293,130 +296,84 @@ PyObject *matrix_union_rows(PyObject *self, PyObject *arguments);
 int matrix_contains(PyObject *self, PyObject *pair);
 void matrix_dealloc(PyObject *self);
 
+/* roaring.c and wide.c by bitmap.h, and roaring_merging.c and wide_merging.c by bitmap_merging.h. */
+#define CALLS_OF_BITMAPS(of)                                                                                           \
+    PyObject *of##_add(PyObject *self, PyObject *member);                                                              \
+    PyObject *of##_add_checked(PyObject *self, PyObject *member);                                                      \
+    PyObject *of##_add_range(PyObject *self, PyObject *arguments);                                                     \
+    PyObject *of##_clamp(PyObject *self, PyObject *arguments);                                                         \
+    PyObject *of##_clear(PyObject *self, PyObject *none);                                                              \
+    PyObject *of##_contains_range(PyObject *self, PyObject *arguments);                                                \
+    PyObject *of##_copy(PyObject *self, PyObject *none);                                                               \
+    PyObject *of##_deserialize(PyObject *type, PyObject *bytes);                                                       \
+    PyObject *of##_discard(PyObject *self, PyObject *member);                                                          \
+    PyObject *of##_flip(PyObject *self, PyObject *arguments);                                                          \
+    PyObject *of##_flip_inplace(PyObject *self, PyObject *arguments);                                                  \
+    PyObject *of##_get_statistics(PyObject *self, PyObject *none);                                                     \
+    PyObject *of##_iter_equal_or_larger(PyObject *self, PyObject *from);                                               \
+    PyObject *of##_max(PyObject *self, PyObject *none);                                                                \
+    PyObject *of##_min(PyObject *self, PyObject *none);                                                                \
+    PyObject *of##_new(PyTypeObject *type, PyObject *positional, PyObject *named);                                     \
+    PyObject *of##_next(PyObject *self, PyObject *from);                                                               \
+    PyObject *of##_next_set_bit(PyObject *self, PyObject *from);                                                       \
+    PyObject *of##_of_items(PyObject *members);                                                                        \
+    PyObject *of##_overwrite(PyObject *self, PyObject *members);                                                       \
+    PyObject *of##_pop(PyObject *self, PyObject *none);                                                                \
+    PyObject *of##_previous(PyObject *self, PyObject *end);                                                            \
+    PyObject *of##_range_cardinality(PyObject *self, PyObject *arguments);                                             \
+    PyObject *of##_rank(PyObject *self, PyObject *value);                                                              \
+    PyObject *of##_reduce(PyObject *self, PyObject *none);                                                             \
+    PyObject *of##_remove(PyObject *self, PyObject *member);                                                           \
+    PyObject *of##_remove_range(PyObject *self, PyObject *arguments);                                                  \
+    PyObject *of##_serialize(PyObject *self, PyObject *none);                                                          \
+    PyObject *of##_subscript(PyObject *self, PyObject *index);                                                         \
+    PyObject *of##_to_array(PyObject *self, PyObject *none);                                                           \
+    Py_ssize_t of##_length(PyObject *self);                                                                            \
+    bool of##_merge(PyObject *self, PyObject *other, of##_change *call);                                               \
+    bool of##_put_all(PyObject *self, PyObject *members);                                                              \
+    int of##_bool(PyObject *self);                                                                                     \
+    int of##_contains(PyObject *self, PyObject *member);                                                               \
+    int of##_init(PyObject *self, PyObject *arguments, PyObject *named);                                               \
+    void of##_dealloc(PyObject *self);                                                                                 \
+                                                                                                                       \
+    PyObject *of##_and(PyObject *left, PyObject *right);                                                               \
+    PyObject *of##_compare(PyObject *self, PyObject *other, int operation);                                            \
+    PyObject *of##_difference(PyObject *self, PyObject *others);                                                       \
+    PyObject *of##_difference_cardinality(PyObject *self, PyObject *items);                                            \
+    PyObject *of##_difference_update(PyObject *self, PyObject *others);                                                \
+    PyObject *of##_in_place_and(PyObject *self, PyObject *other);                                                      \
+    PyObject *of##_in_place_or(PyObject *self, PyObject *other);                                                       \
+    PyObject *of##_in_place_subtract(PyObject *self, PyObject *other);                                                 \
+    PyObject *of##_in_place_xor(PyObject *self, PyObject *other);                                                      \
+    PyObject *of##_intersect(PyObject *self, PyObject *items);                                                         \
+    PyObject *of##_intersection(PyObject *self, PyObject *others);                                                     \
+    PyObject *of##_intersection_cardinality(PyObject *self, PyObject *items);                                          \
+    PyObject *of##_intersection_update(PyObject *self, PyObject *others);                                              \
+    PyObject *of##_isdisjoint(PyObject *self, PyObject *items);                                                        \
+    PyObject *of##_issubset(PyObject *self, PyObject *items);                                                          \
+    PyObject *of##_issuperset(PyObject *self, PyObject *items);                                                        \
+    PyObject *of##_jaccard_index(PyObject *self, PyObject *items);                                                     \
+    PyObject *of##_or(PyObject *left, PyObject *right);                                                                \
+    PyObject *of##_subtract(PyObject *left, PyObject *right);                                                          \
+    PyObject *of##_symmetric_difference(PyObject *self, PyObject *others);                                             \
+    PyObject *of##_symmetric_difference_cardinality(PyObject *self, PyObject *items);                                  \
+    PyObject *of##_symmetric_difference_update(PyObject *self, PyObject *others);                                      \
+    PyObject *of##_union(PyObject *self, PyObject *others);                                                            \
+    PyObject *of##_union_cardinality(PyObject *self, PyObject *items);                                                 \
+    PyObject *of##_update(PyObject *self, PyObject *others);                                                           \
+    PyObject *of##_xor(PyObject *left, PyObject *right);
+CALLS_OF_BITMAPS(bitmap)
+CALLS_OF_BITMAPS(wide)
+
 /* roaring.c */
-PyObject *as_bitmap(PyObject *members);
-PyObject *bitmap_add(PyObject *self, PyObject *member);
-PyObject *bitmap_add_range(PyObject *self, PyObject *arguments);
-PyObject *bitmap_clamp(PyObject *self, PyObject *arguments);
-PyObject *bitmap_clear(PyObject *self, PyObject *Py_UNUSED(none));
-PyObject *bitmap_contains_range(PyObject *self, PyObject *arguments);
-PyObject *bitmap_copy(PyObject *self, PyObject *Py_UNUSED(none));
-PyObject *bitmap_deserialize(PyObject *type, PyObject *bytes);
-PyObject *bitmap_discard(PyObject *self, PyObject *member);
-PyObject *bitmap_flip(PyObject *self, PyObject *arguments);
-PyObject *bitmap_flip_inplace(PyObject *self, PyObject *arguments);
-PyObject *bitmap_get_statistics(PyObject *self, PyObject *Py_UNUSED(none));
-PyObject *bitmap_max(PyObject *self, PyObject *Py_UNUSED(none));
-PyObject *bitmap_min(PyObject *self, PyObject *Py_UNUSED(none));
-PyObject *bitmap_new(PyTypeObject *type, PyObject *Py_UNUSED(positional), PyObject *Py_UNUSED(named));
-PyObject *bitmap_next(PyObject *self, PyObject *from);
-PyObject *bitmap_pop(PyObject *self, PyObject *Py_UNUSED(none));
-PyObject *bitmap_previous(PyObject *self, PyObject *end);
-PyObject *bitmap_range_cardinality(PyObject *self, PyObject *arguments);
-PyObject *bitmap_rank(PyObject *self, PyObject *value);
-PyObject *bitmap_reduce(PyObject *self, PyObject *Py_UNUSED(none));
-PyObject *bitmap_remove(PyObject *self, PyObject *member);
-PyObject *bitmap_remove_range(PyObject *self, PyObject *arguments);
 PyObject *bitmap_remove_runs(PyObject *self, PyObject *Py_UNUSED(none));
 PyObject *bitmap_repr(PyObject *self);
 PyObject *bitmap_run_optimize(PyObject *self, PyObject *Py_UNUSED(none));
-PyObject *bitmap_serialize(PyObject *self, PyObject *Py_UNUSED(none));
-PyObject *bitmap_subscript(PyObject *self, PyObject *index);
-PyObject *bitmap_to_array(PyObject *self, PyObject *Py_UNUSED(none));
-Py_ssize_t bitmap_length(PyObject *self);
-bool merge_bitmaps(PyObject *self, PyObject *other, change *call);
-bool put_all_in_bitmap(PyObject *self, PyObject *members);
-enum reading take_out_of_bitmap(PyObject *self, PyObject *member);
-int bitmap_bool(PyObject *self);
-int bitmap_contains(PyObject *self, PyObject *member);
-int bitmap_init(PyObject *self, PyObject *arguments, PyObject *named);
+PyObject *bitmap_shrink_to_fit(PyObject *self, PyObject *Py_UNUSED(none));
 size_t put_in_bitmap(PyObject *self, const size_t *group, size_t count);
-void bitmap_dealloc(PyObject *self);
-
-/* roaring_merging.c */
-PyObject *bitmap_and(PyObject *left, PyObject *right);
-PyObject *bitmap_compare(PyObject *self, PyObject *other, int operation);
-PyObject *bitmap_difference(PyObject *self, PyObject *others);
-PyObject *bitmap_difference_cardinality(PyObject *self, PyObject *items);
-PyObject *bitmap_difference_update(PyObject *self, PyObject *others);
-PyObject *bitmap_in_place_and(PyObject *self, PyObject *other);
-PyObject *bitmap_in_place_or(PyObject *self, PyObject *other);
-PyObject *bitmap_in_place_subtract(PyObject *self, PyObject *other);
-PyObject *bitmap_in_place_xor(PyObject *self, PyObject *other);
-PyObject *bitmap_intersect(PyObject *self, PyObject *items);
-PyObject *bitmap_intersection(PyObject *self, PyObject *others);
-PyObject *bitmap_intersection_cardinality(PyObject *self, PyObject *items);
-PyObject *bitmap_intersection_update(PyObject *self, PyObject *others);
-PyObject *bitmap_isdisjoint(PyObject *self, PyObject *items);
-PyObject *bitmap_issubset(PyObject *self, PyObject *items);
-PyObject *bitmap_issuperset(PyObject *self, PyObject *items);
-PyObject *bitmap_jaccard_index(PyObject *self, PyObject *items);
-PyObject *bitmap_or(PyObject *left, PyObject *right);
-PyObject *bitmap_subtract(PyObject *left, PyObject *right);
-PyObject *bitmap_symmetric_difference(PyObject *self, PyObject *others);
-PyObject *bitmap_symmetric_difference_cardinality(PyObject *self, PyObject *items);
-PyObject *bitmap_symmetric_difference_update(PyObject *self, PyObject *others);
-PyObject *bitmap_union(PyObject *self, PyObject *others);
-PyObject *bitmap_union_cardinality(PyObject *self, PyObject *items);
-PyObject *bitmap_update(PyObject *self, PyObject *others);
-PyObject *bitmap_xor(PyObject *left, PyObject *right);
 
 /* wide.c */
-PyObject *as_wide(PyObject *members);
-PyObject *wide_add(PyObject *self, PyObject *member);
-PyObject *wide_clear(PyObject *self, PyObject *Py_UNUSED(none));
-PyObject *wide_copy(PyObject *self, PyObject *Py_UNUSED(none));
-PyObject *wide_deserialize(PyObject *type, PyObject *bytes);
-PyObject *wide_discard(PyObject *self, PyObject *member);
-PyObject *wide_max(PyObject *self, PyObject *Py_UNUSED(none));
-PyObject *wide_min(PyObject *self, PyObject *Py_UNUSED(none));
-PyObject *wide_new(PyTypeObject *type, PyObject *Py_UNUSED(positional), PyObject *Py_UNUSED(named));
-PyObject *wide_next(PyObject *self, PyObject *from);
-PyObject *wide_pop(PyObject *self, PyObject *Py_UNUSED(none));
-PyObject *wide_previous(PyObject *self, PyObject *end);
-PyObject *wide_rank(PyObject *self, PyObject *value);
-PyObject *wide_reduce(PyObject *self, PyObject *Py_UNUSED(none));
-PyObject *wide_remove(PyObject *self, PyObject *member);
-PyObject *wide_serialize(PyObject *self, PyObject *Py_UNUSED(none));
-PyObject *wide_subscript(PyObject *self, PyObject *index);
-PyObject *wide_to_array(PyObject *self, PyObject *Py_UNUSED(none));
-Py_ssize_t wide_length(PyObject *self);
-bool merge_wides(PyObject *self, PyObject *other, change64 *call);
-bool put_all_in_wide(PyObject *self, PyObject *members);
-bool put_wide_group(PyObject *self, const uint64_t *group, size_t count);
-bool read_wide_member(PyObject *object, uint64_t *number);
-enum reading read_wide_equal(PyObject *self, PyObject *object, uint64_t *number);
-int wide_bool(PyObject *self);
-int wide_contains(PyObject *self, PyObject *member);
-int wide_init(PyObject *self, PyObject *arguments, PyObject *named);
-void wide_dealloc(PyObject *self);
-
-/* wide_merging.c */
-PyObject *wide_and(PyObject *left, PyObject *right);
-PyObject *wide_compare(PyObject *self, PyObject *other, int operation);
-PyObject *wide_difference(PyObject *self, PyObject *others);
-PyObject *wide_difference_cardinality(PyObject *self, PyObject *items);
-PyObject *wide_difference_update(PyObject *self, PyObject *others);
-PyObject *wide_in_place_and(PyObject *self, PyObject *other);
-PyObject *wide_in_place_or(PyObject *self, PyObject *other);
-PyObject *wide_in_place_subtract(PyObject *self, PyObject *other);
-PyObject *wide_in_place_xor(PyObject *self, PyObject *other);
-PyObject *wide_intersect(PyObject *self, PyObject *items);
-PyObject *wide_intersection(PyObject *self, PyObject *others);
-PyObject *wide_intersection_cardinality(PyObject *self, PyObject *items);
-PyObject *wide_intersection_update(PyObject *self, PyObject *others);
-PyObject *wide_isdisjoint(PyObject *self, PyObject *items);
-PyObject *wide_issubset(PyObject *self, PyObject *items);
-PyObject *wide_issuperset(PyObject *self, PyObject *items);
-PyObject *wide_jaccard_index(PyObject *self, PyObject *items);
-PyObject *wide_or(PyObject *left, PyObject *right);
-PyObject *wide_subtract(PyObject *left, PyObject *right);
-PyObject *wide_symmetric_difference(PyObject *self, PyObject *others);
-PyObject *wide_symmetric_difference_cardinality(PyObject *self, PyObject *items);
-PyObject *wide_symmetric_difference_update(PyObject *self, PyObject *others);
-PyObject *wide_union(PyObject *self, PyObject *others);
-PyObject *wide_union_cardinality(PyObject *self, PyObject *items);
-PyObject *wide_update(PyObject *self, PyObject *others);
-PyObject *wide_xor(PyObject *left, PyObject *right);
+bool read_wide_member(PyObject *object, size_t *number);
+enum reading read_wide_equal(PyObject *self, PyObject *object, size_t *number);
 
 #endif

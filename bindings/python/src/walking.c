@@ -112,6 +112,17 @@ static PyObject *walk_over(PyObject *self, bool is_backward)
     return (PyObject *)walk;
 }
 
+/* A walk over the members at or above a number, or none. */
+PyObject *walk_from(PyObject *self, size_t from, bool has_ended)
+{
+    Walk *walk = (Walk *)walk_over(self, false);
+    if (walk) {
+        walk->bound = from;
+        walk->has_ended = has_ended;
+    }
+    return (PyObject *)walk;
+}
+
 PyObject *set_iter(PyObject *self)
 {
     return walk_over(self, false);

@@ -124,6 +124,10 @@ extern "C" {
     pub fn bit_roaring64_max(set: *const Treemap, member: *mut u64) -> bool;
     pub fn bit_roaring64_rank(set: *const Treemap, value: u64) -> u64;
     pub fn bit_roaring64_select(set: *const Treemap, n: u64, member: *mut u64) -> bool;
+    pub fn bit_roaring64_insert_range(set: *mut Treemap, start: u64, end: u64) -> bool;
+    pub fn bit_roaring64_remove_range(set: *mut Treemap, start: u64, end: u64) -> bool;
+    pub fn bit_roaring64_contains_range(set: *const Treemap, start: u64, end: u64) -> bool;
+    pub fn bit_roaring64_range_cardinality(set: *const Treemap, start: u64, end: u64) -> u64;
     pub fn bit_roaring64_copy_members(set: *const Treemap, from: u64, members: *mut u64, room: usize) -> usize;
     pub fn bit_roaring64_copy_members_back(set: *const Treemap, last: u64, members: *mut u64, room: usize) -> usize;
     pub fn bit_roaring64_len(set: *const Treemap) -> u64;

@@ -1,6 +1,6 @@
 //! Sets as bytes, in the portable form that other Roaring bitmaps read and write.
 use crate::{out_of_memory, raw, require, RoaringBitmap};
-use std::io::{self, ErrorKind, Read, Write};
+use std::io::{self, ErrorKind, Read, Seek, Write};
 use std::ptr::null_mut;
 
 /// The first two bytes of a set with containers of runs, and those of any other.
@@ -60,6 +60,15 @@ impl RoaringBitmap {
     /// The same.
     pub fn deserialize_unchecked_from<R: Read>(reader: R) -> io::Result<Self> {
         Self::deserialize_from(reader)
+    }
+
+    /// What is in this set and in that which the reader has. Reads all of that one, and leaves nothing unchecked.
+    ///
+    /// # Errors
+    ///
+    /// Those of [`deserialize_from`](Self::deserialize_from).
+    pub fn intersection_with_serialized_unchecked<R: Read + Seek>(&self, other: R) -> io::Result<Self> {
+        Ok(Self::deserialize_from(other)? & self)
     }
 }
 

@@ -1,5 +1,5 @@
 //! Calls that put in many numbers, a chunk of them in each call of the library.
-use crate::{raw, require, RoaringBitmap};
+use crate::{raw, require, RoaringBitmap, PAST};
 use std::error::Error;
 use std::fmt;
 
@@ -71,6 +71,27 @@ impl RoaringBitmap {
         Ok(set)
     }
 
+    /// Creates the set of the bits that are 1, with the bits of each byte counted from the lowest. The first has the number
+    /// `offset`.
+    ///
+    /// # Panics
+    ///
+    /// If a bit has a number of 2^32 or above.
+    pub fn from_lsb0_bytes(offset: u32, bytes: &[u8]) -> Self {
+        let past = bytes.len().checked_mul(8).and_then(|bits| u64::from(offset).checked_add(bits as u64));
+        assert!(past.is_some_and(|past| past <= PAST), "a bit has a number that no member has");
+        let numbers_of = |(at, &byte): (usize, &u8)| {
+            let ones = (0..8).filter(move |bit| byte >> bit & 1 == 1);
+            ones.map(move |bit| offset + (8 * at + bit) as u32)
+        };
+        bytes.iter().enumerate().flat_map(numbers_of).collect()
+    }
+
+    /// The earlier name of [`from_lsb0_bytes`](Self::from_lsb0_bytes).
+    pub fn from_bitmap_bytes(offset: u32, bytes: &[u8]) -> Self {
+        Self::from_lsb0_bytes(offset, bytes)
+    }
+
     /// Inserts `value` if it is above each member, and returns whether it is.
     pub fn push(&mut self, value: u32) -> bool {
         // SAFETY: the set is borrowed for the call.
@@ -129,39 +150,48 @@ impl RoaringBitmap {
     }
 }
 
-impl Extend<u32> for RoaringBitmap {
-    fn extend<I: IntoIterator<Item = u32>>(&mut self, iterator: I) {
-        let inserted: Result<(), std::convert::Infallible> = by_chunks(iterator, |chunk| {
-            self.insert_chunk(chunk);
-            Ok(())
-        });
-        inserted.unwrap_or_else(|never| match never {});
-    }
+// The sets that are made of numbers in any order, by `insert_chunk` and a call for an array.
+macro_rules! fillings {
+    ($Set:ident of $number:ident, $from_members:ident) => {
+        impl Extend<$number> for $Set {
+            fn extend<I: IntoIterator<Item = $number>>(&mut self, iterator: I) {
+                let inserted: Result<(), std::convert::Infallible> = by_chunks(iterator, |chunk| {
+                    self.insert_chunk(chunk);
+                    Ok(())
+                });
+                inserted.unwrap_or_else(|never| match never {});
+            }
+        }
+
+        impl<'a> Extend<&'a $number> for $Set {
+            fn extend<I: IntoIterator<Item = &'a $number>>(&mut self, iterator: I) {
+                self.extend(iterator.into_iter().copied());
+            }
+        }
+
+        impl FromIterator<$number> for $Set {
+            fn from_iter<I: IntoIterator<Item = $number>>(iterator: I) -> Self {
+                let mut set = Self::new();
+                set.extend(iterator);
+                set
+            }
+        }
+
+        impl<'a> FromIterator<&'a $number> for $Set {
+            fn from_iter<I: IntoIterator<Item = &'a $number>>(iterator: I) -> Self {
+                iterator.into_iter().copied().collect()
+            }
+        }
+
+        impl<const N: usize> From<[$number; N]> for $Set {
+            fn from(numbers: [$number; N]) -> Self {
+                // SAFETY: `out` is null, and the numbers are borrowed for the call.
+                Self::made(|out| unsafe { raw::$from_members(out, numbers.as_ptr(), N) })
+            }
+        }
+    };
 }
 
-impl<'a> Extend<&'a u32> for RoaringBitmap {
-    fn extend<I: IntoIterator<Item = &'a u32>>(&mut self, iterator: I) {
-        self.extend(iterator.into_iter().copied());
-    }
-}
+pub(crate) use fillings;
 
-impl FromIterator<u32> for RoaringBitmap {
-    fn from_iter<I: IntoIterator<Item = u32>>(iterator: I) -> Self {
-        let mut set = Self::new();
-        set.extend(iterator);
-        set
-    }
-}
-
-impl<'a> FromIterator<&'a u32> for RoaringBitmap {
-    fn from_iter<I: IntoIterator<Item = &'a u32>>(iterator: I) -> Self {
-        iterator.into_iter().copied().collect()
-    }
-}
-
-impl<const N: usize> From<[u32; N]> for RoaringBitmap {
-    fn from(numbers: [u32; N]) -> Self {
-        // SAFETY: `out` is null, and the numbers are borrowed for the call.
-        Self::made(|out| unsafe { raw::bit_roaring_from_members(out, numbers.as_ptr(), N) })
-    }
-}
+fillings!(RoaringBitmap of u32, bit_roaring_from_members);

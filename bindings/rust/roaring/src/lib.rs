@@ -1,8 +1,7 @@
 //! Sets of 32-bit numbers, and of 64-bit numbers, that stay small if their members are few and far apart: the API of
 //! `RoaringBitmap` and `RoaringTreemap` of the crate `roaring` 0.10, over a C library whose every call is proved.
 //!
-//! Left out are `from_lsb0_bytes`, `from_bitmap_bytes`, `intersection_with_serialized_unchecked`, of `RoaringTreemap`
-//! also its ranges, `full`, `is_full`, `bitmaps` and `from_bitmaps`, and the features `serde` and `simd`.
+//! Left out are of `RoaringTreemap` `bitmaps`, and the features `serde` and `simd`.
 //! `try_push` is that of 0.11. If memory runs out, a call ends the process, like those of `Vec`.
 //!
 //! ```
@@ -15,15 +14,19 @@
 #![deny(unsafe_op_in_unsafe_fn)]
 
 use std::fmt;
-use std::ops::{Bound, RangeBounds};
+use std::ops::RangeBounds;
 use std::ptr::null_mut;
 use std::sync::OnceLock;
 
 use bit_set_sys::roaring as raw;
+use handles::handles;
+use numbers::stretch_of;
 
 mod bytes;
 mod filling;
+mod handles;
 mod multi;
+mod numbers;
 mod operators;
 mod statistics;
 pub mod treemap;
@@ -43,12 +46,6 @@ pub struct RoaringBitmap {
     // Null stands for an empty set, which has not allocated.
     set: *mut raw::Bitmap,
 }
-
-// SAFETY: a set is a block of malloc's and what that points to, and belongs to no thread.
-unsafe impl Send for RoaringBitmap {}
-
-// SAFETY: a call that takes a `*const` writes nothing: its proof assumes only a shared borrow.
-unsafe impl Sync for RoaringBitmap {}
 
 // Ends the process if a call ran out of memory.
 #[inline]
@@ -74,77 +71,17 @@ fn found(member: u64) -> Option<u32> {
 // The first number of a range, and the one past its last.
 #[inline]
 fn ends(range: impl RangeBounds<u32>) -> (u64, u64) {
-    let start = match range.start_bound() {
-        Bound::Included(&first) => first.into(),
-        Bound::Excluded(&before) => u64::from(before) + 1,
-        Bound::Unbounded => 0,
-    };
-    let end = match range.end_bound() {
-        Bound::Included(&last) => u64::from(last) + 1,
-        Bound::Excluded(&past) => past.into(),
-        Bound::Unbounded => PAST,
-    };
-    (start, end)
+    stretch_of(range).map_or((0, 0), |(first, last)| (first.into(), u64::from(last) + 1))
 }
 
-impl Drop for RoaringBitmap {
-    fn drop(&mut self) {
-        // SAFETY: this set owns it, and does not use it again; freeing null does nothing.
-        unsafe { raw::bit_roaring_free(self.set) }
-    }
-}
+handles!(RoaringBitmap of Bitmap, bit_roaring_new, bit_roaring_clone, bit_roaring_free, bit_roaring_equals);
 
 impl RoaringBitmap {
-    /// Creates an empty set. It allocates nothing before the first member.
-    pub const fn new() -> Self {
-        RoaringBitmap { set: null_mut() }
-    }
-
     /// Creates the set of all numbers, which is one run for each 65,536.
     pub fn full() -> Self {
         let mut set = Self::new();
         set.insert_range(..);
         set
-    }
-
-    // The set that a call stores.
-    fn made(call: impl FnOnce(*mut *mut raw::Bitmap) -> bool) -> Self {
-        let mut set = null_mut();
-        require(call(&mut set));
-        RoaringBitmap { set }
-    }
-
-    // The library's set, to read: for one that has not allocated it is an empty one that all share.
-    #[inline]
-    fn read(&self) -> *const raw::Bitmap {
-        static EMPTY: OnceLock<RoaringBitmap> = OnceLock::new();
-        if self.set.is_null() {
-            return EMPTY.get_or_init(Self::allocated).set;
-        }
-        self.set
-    }
-
-    // The library's set, to change; it is made here if there is none yet.
-    #[inline]
-    fn write(&mut self) -> *mut raw::Bitmap {
-        if self.set.is_null() {
-            *self = Self::allocated();
-        }
-        self.set
-    }
-
-    // An empty set of the library.
-    #[cold]
-    fn allocated() -> Self {
-        // SAFETY: `out` is null.
-        Self::made(|out| unsafe { raw::bit_roaring_new(out) })
-    }
-
-    // The result of a call that returns whether it changed anything.
-    #[inline]
-    fn changed(answer: i32) -> bool {
-        require(answer >= 0);
-        answer == raw::YES
     }
 
     // The result of a call that returns how many numbers it changed.
@@ -307,41 +244,5 @@ impl RoaringBitmap {
     /// Converts each container of runs to a list or blocks, and returns whether there was one.
     pub fn remove_run_compression(&mut self) -> bool {
         !self.set.is_null() && Self::changed(unsafe { raw::bit_roaring_remove_runs(self.set) })
-    }
-}
-
-impl Default for RoaringBitmap {
-    fn default() -> Self {
-        Self::new()
-    }
-}
-
-impl Clone for RoaringBitmap {
-    fn clone(&self) -> Self {
-        if self.set.is_null() {
-            return Self::new();
-        }
-        // SAFETY: `out` is null, and the set is borrowed for the call.
-        Self::made(|out| unsafe { raw::bit_roaring_clone(out, self.set) })
-    }
-}
-
-impl PartialEq for RoaringBitmap {
-    fn eq(&self, other: &Self) -> bool {
-        unsafe { raw::bit_roaring_equals(self.read(), other.read()) }
-    }
-}
-
-impl Eq for RoaringBitmap {}
-
-impl fmt::Debug for RoaringBitmap {
-    /// Writes up to 15 members, or how many there are between the least and the greatest.
-    fn fmt(&self, fmt: &mut fmt::Formatter<'_>) -> fmt::Result {
-        match (self.len(), self.min(), self.max()) {
-            (len, Some(min), Some(max)) if len > 15 => {
-                write!(fmt, "RoaringBitmap<{len} values between {min} and {max}>")
-            }
-            _ => write!(fmt, "RoaringBitmap<{:?}>", self.iter().collect::<Vec<_>>()),
-        }
     }
 }

@@ -1,5 +1,5 @@
 //! Merges of any number of sets.
-use crate::RoaringBitmap;
+use crate::{RoaringBitmap, RoaringTreemap};
 use std::borrow::Cow;
 use std::convert::Infallible;
 
@@ -31,11 +31,11 @@ pub trait MultiOps<T>: IntoIterator<Item = T> {
     fn symmetric_difference(self) -> Self::Output;
 }
 
-fn merge<'a, E>(
-    mut sets: impl Iterator<Item = Result<Cow<'a, RoaringBitmap>, E>>,
-    merge: impl Fn(&mut RoaringBitmap, &RoaringBitmap),
-) -> Result<RoaringBitmap, E> {
-    let mut merged = sets.next().transpose()?.map_or_else(RoaringBitmap::new, Cow::into_owned);
+fn merge<'a, S: Clone + Default + 'a, E>(
+    mut sets: impl Iterator<Item = Result<Cow<'a, S>, E>>,
+    merge: impl Fn(&mut S, &S),
+) -> Result<S, E> {
+    let mut merged = sets.next().transpose()?.map_or_else(S::default, Cow::into_owned);
     for set in sets {
         merge(&mut merged, &*set?);
     }
@@ -72,9 +72,17 @@ macro_rules! merges {
     };
 }
 
-merges! {
-    [] RoaringBitmap => RoaringBitmap, |set| Ok(Cow::Owned(set)), right;
-    ['a,] &'a RoaringBitmap => RoaringBitmap, |set| Ok(Cow::Borrowed(set)), right;
-    [E,] Result<RoaringBitmap, E> => Result<RoaringBitmap, E>, |set| set.map(Cow::Owned), |made| made;
-    ['a, E,] Result<&'a RoaringBitmap, E> => Result<RoaringBitmap, E>, |set| set.map(Cow::Borrowed), |made| made;
+macro_rules! merges_of {
+    ($($Set:ident)*) => {
+        $(
+            merges! {
+                [] $Set => $Set, |set| Ok(Cow::Owned(set)), right;
+                ['a,] &'a $Set => $Set, |set| Ok(Cow::Borrowed(set)), right;
+                [E,] Result<$Set, E> => Result<$Set, E>, |set| set.map(Cow::Owned), |made| made;
+                ['a, E,] Result<&'a $Set, E> => Result<$Set, E>, |set| set.map(Cow::Borrowed), |made| made;
+            }
+        )*
+    };
 }
+
+merges_of!(RoaringBitmap RoaringTreemap);

@@ -4,51 +4,52 @@ use std::ops::{BitAnd, BitAndAssign, BitOr, BitOrAssign, BitXor, BitXorAssign, S
 
 // A set that is there by value is changed in place: the first of the two, or where both stand for one another the second.
 macro_rules! operators {
-    ($($Operator:ident $operator:ident, $Assign:ident $assign:ident: $made:ident, $in_place:ident, $swapped:ident;)*) => {
+    ($Set:ident: $($Operator:ident $operator:ident, $Assign:ident $assign:ident: $made:ident, $in_place:ident, $swapped:expr;)*) => {
         $(
-            impl $Operator for &RoaringBitmap {
-                type Output = RoaringBitmap;
+            impl $Operator for &$Set {
+                type Output = $Set;
 
-                fn $operator(self, other: &RoaringBitmap) -> RoaringBitmap {
+                fn $operator(self, other: &$Set) -> $Set {
                     // SAFETY: `out` is null, and the sets are borrowed for the call.
-                    RoaringBitmap::made(|out| unsafe { raw::$made(out, self.read(), other.read()) })
+                    $Set::made(|out| unsafe { raw::$made(out, self.read(), other.read()) })
                 }
             }
 
-            impl $Operator<&RoaringBitmap> for RoaringBitmap {
-                type Output = RoaringBitmap;
+            impl $Operator<&$Set> for $Set {
+                type Output = $Set;
 
-                fn $operator(mut self, other: &RoaringBitmap) -> RoaringBitmap {
+                fn $operator(mut self, other: &$Set) -> $Set {
                     self.$assign(other);
                     self
                 }
             }
 
-            impl $Operator for RoaringBitmap {
-                type Output = RoaringBitmap;
+            impl $Operator for $Set {
+                type Output = $Set;
 
-                fn $operator(self, other: RoaringBitmap) -> RoaringBitmap {
+                fn $operator(self, other: $Set) -> $Set {
                     self.$operator(&other)
                 }
             }
 
-            impl $Operator<RoaringBitmap> for &RoaringBitmap {
-                type Output = RoaringBitmap;
+            impl $Operator<$Set> for &$Set {
+                type Output = $Set;
 
-                fn $operator(self, other: RoaringBitmap) -> RoaringBitmap {
-                    $swapped(self, other)
+                fn $operator(self, other: $Set) -> $Set {
+                    let merge: fn(&$Set, $Set) -> $Set = $swapped;
+                    merge(self, other)
                 }
             }
 
-            impl $Assign<&RoaringBitmap> for RoaringBitmap {
-                fn $assign(&mut self, other: &RoaringBitmap) {
+            impl $Assign<&$Set> for $Set {
+                fn $assign(&mut self, other: &$Set) {
                     // SAFETY: the sets are borrowed for the call, and differ, since one is borrowed to be changed.
                     Self::changed(unsafe { raw::$in_place(self.write(), other.read()) });
                 }
             }
 
-            impl $Assign for RoaringBitmap {
-                fn $assign(&mut self, other: RoaringBitmap) {
+            impl $Assign for $Set {
+                fn $assign(&mut self, other: $Set) {
                     self.$assign(&other);
                 }
             }
@@ -56,26 +57,14 @@ macro_rules! operators {
     };
 }
 
+pub(crate) use operators;
+
 operators! {
-    BitOr bitor, BitOrAssign bitor_assign: bit_roaring_union, bit_roaring_union_with, swapped_or;
-    BitAnd bitand, BitAndAssign bitand_assign: bit_roaring_intersection, bit_roaring_intersect_with, swapped_and;
-    Sub sub, SubAssign sub_assign: bit_roaring_difference, bit_roaring_difference_with, kept_sub;
+    RoaringBitmap:
+    BitOr bitor, BitOrAssign bitor_assign: bit_roaring_union, bit_roaring_union_with, |set, other| other | set;
+    BitAnd bitand, BitAndAssign bitand_assign:
+        bit_roaring_intersection, bit_roaring_intersect_with, |set, other| other & set;
+    Sub sub, SubAssign sub_assign: bit_roaring_difference, bit_roaring_difference_with, |set, other| set - &other;
     BitXor bitxor, BitXorAssign bitxor_assign:
-        bit_roaring_symmetric_difference, bit_roaring_symmetric_difference_with, swapped_xor;
-}
-
-fn swapped_or(set: &RoaringBitmap, other: RoaringBitmap) -> RoaringBitmap {
-    other | set
-}
-
-fn swapped_and(set: &RoaringBitmap, other: RoaringBitmap) -> RoaringBitmap {
-    other & set
-}
-
-fn swapped_xor(set: &RoaringBitmap, other: RoaringBitmap) -> RoaringBitmap {
-    other ^ set
-}
-
-fn kept_sub(set: &RoaringBitmap, other: RoaringBitmap) -> RoaringBitmap {
-    set - &other
+        bit_roaring_symmetric_difference, bit_roaring_symmetric_difference_with, |set, other| other ^ set;
 }

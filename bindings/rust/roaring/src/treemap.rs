@@ -3,11 +3,13 @@ use std::fmt;
 use std::ptr::null_mut;
 use std::sync::OnceLock;
 
+use crate::handles::handles;
 use crate::{raw, require};
 
 mod bytes;
 mod filling;
 mod operators;
+mod ranges;
 mod walks;
 
 pub use walks::{IntoIter, Iter};
@@ -24,12 +26,6 @@ pub struct RoaringTreemap {
     set: *mut raw::Treemap,
 }
 
-// SAFETY: a set is a block of malloc's and what that points to, and belongs to no thread.
-unsafe impl Send for RoaringTreemap {}
-
-// SAFETY: a call that takes a `*const` writes nothing: its proof assumes only a shared borrow.
-unsafe impl Sync for RoaringTreemap {}
-
 // The member that a call finds and writes.
 #[inline]
 fn found(call: impl FnOnce(*mut u64) -> bool) -> Option<u64> {
@@ -37,59 +33,9 @@ fn found(call: impl FnOnce(*mut u64) -> bool) -> Option<u64> {
     call(&mut member).then_some(member)
 }
 
-impl Drop for RoaringTreemap {
-    fn drop(&mut self) {
-        // SAFETY: this set owns it, and does not use it again; freeing null does nothing.
-        unsafe { raw::bit_roaring64_free(self.set) }
-    }
-}
+handles!(RoaringTreemap of Treemap, bit_roaring64_new, bit_roaring64_clone, bit_roaring64_free, bit_roaring64_equals);
 
 impl RoaringTreemap {
-    /// Creates an empty set. It allocates nothing before the first member.
-    pub const fn new() -> Self {
-        RoaringTreemap { set: null_mut() }
-    }
-
-    // The set that a call stores.
-    fn made(call: impl FnOnce(*mut *mut raw::Treemap) -> bool) -> Self {
-        let mut set = null_mut();
-        require(call(&mut set));
-        RoaringTreemap { set }
-    }
-
-    // The library's set, to read: for one that has not allocated it is an empty one that all share.
-    #[inline]
-    fn read(&self) -> *const raw::Treemap {
-        static EMPTY: OnceLock<RoaringTreemap> = OnceLock::new();
-        if self.set.is_null() {
-            return EMPTY.get_or_init(Self::allocated).set;
-        }
-        self.set
-    }
-
-    // The library's set, to change; it is made here if there is none yet.
-    #[inline]
-    fn write(&mut self) -> *mut raw::Treemap {
-        if self.set.is_null() {
-            *self = Self::allocated();
-        }
-        self.set
-    }
-
-    // An empty set of the library.
-    #[cold]
-    fn allocated() -> Self {
-        // SAFETY: `out` is null.
-        Self::made(|out| unsafe { raw::bit_roaring64_new(out) })
-    }
-
-    // The result of a call that returns whether it changed anything.
-    #[inline]
-    fn changed(answer: i32) -> bool {
-        require(answer >= 0);
-        answer == raw::YES
-    }
-
     /// Inserts `value`, and returns whether it is new.
     #[inline]
     pub fn insert(&mut self, value: u64) -> bool {
@@ -180,41 +126,5 @@ impl RoaringTreemap {
     /// How many numbers are in exactly one of the two sets, or `u64::MAX` if all 2^64 are.
     pub fn symmetric_difference_len(&self, other: &Self) -> u64 {
         unsafe { raw::bit_roaring64_symmetric_difference_len(self.read(), other.read()) }
-    }
-}
-
-impl Default for RoaringTreemap {
-    fn default() -> Self {
-        Self::new()
-    }
-}
-
-impl Clone for RoaringTreemap {
-    fn clone(&self) -> Self {
-        if self.set.is_null() {
-            return Self::new();
-        }
-        // SAFETY: `out` is null, and the set is borrowed for the call.
-        Self::made(|out| unsafe { raw::bit_roaring64_clone(out, self.set) })
-    }
-}
-
-impl PartialEq for RoaringTreemap {
-    fn eq(&self, other: &Self) -> bool {
-        unsafe { raw::bit_roaring64_equals(self.read(), other.read()) }
-    }
-}
-
-impl Eq for RoaringTreemap {}
-
-impl fmt::Debug for RoaringTreemap {
-    /// Writes up to 15 members, or how many there are between the least and the greatest.
-    fn fmt(&self, fmt: &mut fmt::Formatter<'_>) -> fmt::Result {
-        match (self.len(), self.min(), self.max()) {
-            (len, Some(min), Some(max)) if len > 15 => {
-                write!(fmt, "RoaringTreemap<{len} values between {min} and {max}>")
-            }
-            _ => write!(fmt, "RoaringTreemap<{:?}>", self.iter().collect::<Vec<_>>()),
-        }
     }
 }

@@ -113,3 +113,21 @@ fn bytes_that_are_changed() {
         }
     }
 }
+
+#[test]
+fn bits_of_bytes() {
+    assert_eq!(RoaringBitmap::from_lsb0_bytes(8, &[5, 0, 128]), [8, 10, 31].into());
+    assert_eq!(RoaringBitmap::from_bitmap_bytes(u32::MAX - 7, &[129]), [u32::MAX - 7, u32::MAX].into());
+    assert_eq!(RoaringBitmap::from_lsb0_bytes(u32::MAX, &[]), RoaringBitmap::new());
+    assert!(std::panic::catch_unwind(|| RoaringBitmap::from_lsb0_bytes(u32::MAX - 6, &[1])).is_err());
+}
+
+#[test]
+fn an_intersection_with_bytes() {
+    let (set, other) = (RoaringBitmap::from([1, 5, 70_000]), RoaringBitmap::from([5, 70_000, 4_000_000_000]));
+    let mut bytes = Vec::new();
+    other.serialize_into(&mut bytes).unwrap();
+    assert_eq!(set.intersection_with_serialized_unchecked(Cursor::new(&bytes)).unwrap(), [5, 70_000].into());
+    bytes.pop();
+    assert!(set.intersection_with_serialized_unchecked(Cursor::new(&bytes)).is_err());
+}

@@ -2,9 +2,10 @@
 mod common;
 
 use common::Draws;
-use roaring::RoaringTreemap;
+use roaring::{MultiOps, RoaringBitmap, RoaringTreemap};
 use std::collections::{BTreeSet, VecDeque};
 use std::io::{Cursor, ErrorKind, Read};
+use std::ops::Bound::{Excluded, Included, Unbounded};
 
 type Model = BTreeSet<u64>;
 
@@ -74,6 +75,78 @@ fn ranks() {
         assert_eq!(set.select(below as u64), model.iter().nth(below).copied());
         assert_eq!(set.rank(u64::MAX), set.len());
     }
+}
+
+#[test]
+fn ranges() {
+    let mut draws = Draws(6);
+    for _ in 0..40 {
+        let (mut set, mut model) = draws.treemap();
+        let first = draws.wide();
+        let last = first.saturating_add(draws.below(9000) as u64);
+        let inside: Vec<u64> = model.range(first..=last).copied().collect();
+        let numbers = last - first + 1;
+        assert_eq!(set.range_cardinality(first..=last), inside.len() as u64);
+        assert_eq!(set.contains_range(first..=last), inside.len() as u64 == numbers);
+        assert!(set.range(first..=last).eq(inside.iter().copied()));
+        assert!(set.clone().into_range(first..=last).rev().eq(inside.iter().rev().copied()));
+        assert_eq!(set.range((Excluded(last), Unbounded)).len(), model.range((Excluded(last), Unbounded)).count());
+        assert!(set.range(..first).eq(model.range(..first).copied()));
+        assert_eq!(set.insert_range(first..=last), numbers - inside.len() as u64);
+        model.extend(first..=last);
+        same(&set, &model);
+        assert!(set.contains_range(first..=last) && !set.is_full());
+        assert_eq!(set.remove_range((Included(first), Excluded(last))), numbers - 1);
+        model.retain(|&member| member < first || member >= last);
+        same(&set, &model);
+        assert_eq!(set.remove_range(..), model.len() as u64);
+        same(&set, &Model::new());
+    }
+}
+
+#[test]
+fn ends_of_ranges() {
+    let mut set = RoaringTreemap::new();
+    #[allow(clippy::reversed_empty_ranges)]
+    let none = 9..3;
+    assert_eq!((set.insert_range(none.clone()), set.remove_range(5..5), set.range_cardinality(none.clone())), (0, 0, 0));
+    assert!(set.contains_range(none) && set.contains_range((Excluded(u64::MAX), Unbounded)) && !set.contains_range(..));
+    assert_eq!(set.insert_range(u64::MAX - 2..), 3);
+    assert_eq!(set.insert_range(u64::MAX..), 0);
+    assert!(set.contains_range(u64::MAX - 2..) && !set.contains_range(u64::MAX - 3..));
+    assert!(set.range(..).eq([u64::MAX - 2, u64::MAX - 1, u64::MAX]));
+    assert_eq!(set.remove_range(u64::MAX..=u64::MAX), 1);
+    assert_eq!(set.range_cardinality(..), 2);
+    assert!(set.range(u64::MAX - 1..).eq([u64::MAX - 1]));
+    // Several bitmaps, of which one is whole.
+    let mut wide = RoaringTreemap::new();
+    assert_eq!(wide.insert_range((1 << 32) - 3..(2 << 32) + 2), (1 << 32) + 5);
+    assert_eq!((wide.len(), wide.min(), wide.max()), ((1 << 32) + 5, Some((1 << 32) - 3), Some((2 << 32) + 1)));
+    assert_eq!(wide.range((2 << 32) - 1..).count(), 3);
+    assert_eq!(wide.remove_range((1 << 32) - 1..(2 << 32)), (1 << 32) + 1);
+    assert_eq!(wide, [(1 << 32) - 3, (1 << 32) - 2, 2 << 32, (2 << 32) + 1].into());
+}
+
+#[test]
+fn many_sets() {
+    let sets = [RoaringTreemap::from([1, 1 << 40, 7]), RoaringTreemap::from([1 << 40, 7, 8]), RoaringTreemap::from([7])];
+    assert_eq!(sets.iter().union(), RoaringTreemap::from([1, 7, 8, 1 << 40]));
+    assert_eq!(sets.iter().intersection(), RoaringTreemap::from([7]));
+    assert_eq!(sets.iter().difference(), RoaringTreemap::from([1]));
+    assert_eq!(sets.clone().symmetric_difference(), RoaringTreemap::from([1, 7, 8]));
+    let results = [Ok(&sets[0]), Err("no set")];
+    assert_eq!(results.union(), Err("no set"));
+    assert_eq!(sets.map(Ok::<_, ErrorKind>).union().unwrap().len(), 4);
+    assert_eq!(Vec::<RoaringTreemap>::new().union(), RoaringTreemap::new());
+}
+
+#[test]
+fn bitmaps() {
+    let few = RoaringBitmap::from([3, 4]);
+    let made = RoaringTreemap::from_bitmaps([(7, [9].into()), (0, few.clone()), (2, RoaringBitmap::new()), (7, few.clone())]);
+    assert_eq!(made, [3, 4, (7 << 32) + 3, (7 << 32) + 4].into());
+    assert_eq!([(u32::MAX, few)].into_iter().collect::<RoaringTreemap>().min(), Some(u64::MAX << 32 | 3));
+    assert_eq!(RoaringTreemap::from_bitmaps([]), RoaringTreemap::new());
 }
 
 #[test]

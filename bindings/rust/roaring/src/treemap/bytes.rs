@@ -1,6 +1,7 @@
 //! Sets as bytes, in the portable form for 64 bits.
 use crate::bytes::{fault, read_more, read_set};
-use crate::{raw, require, RoaringTreemap};
+use crate::{raw, require, RoaringBitmap, RoaringTreemap};
+use std::collections::BTreeMap;
 use std::io::{self, Read, Write};
 use std::ptr::null_mut;
 
@@ -58,6 +59,25 @@ impl RoaringTreemap {
     /// The same.
     pub fn deserialize_unchecked_from<R: Read>(reader: R) -> io::Result<Self> {
         Self::deserialize_from(reader)
+    }
+
+    /// Creates the set of bitmaps of lower halves, each with the upper half of its numbers. Of two with the same upper half
+    /// the later one counts. It writes them as bytes, and reads these.
+    pub fn from_bitmaps<I: IntoIterator<Item = (u32, RoaringBitmap)>>(iterator: I) -> Self {
+        let mut bitmaps: BTreeMap<u32, RoaringBitmap> = iterator.into_iter().collect();
+        bitmaps.retain(|_, bitmap| !bitmap.is_empty());
+        let mut bytes = (bitmaps.len() as u64).to_le_bytes().to_vec();
+        let written = bitmaps.iter().try_for_each(|(key, bitmap)| {
+            bytes.extend(key.to_le_bytes());
+            bitmap.serialize_into(&mut bytes)
+        });
+        written.and_then(|()| Self::deserialize_from(&bytes[..])).expect("the bytes are those of a set")
+    }
+}
+
+impl FromIterator<(u32, RoaringBitmap)> for RoaringTreemap {
+    fn from_iter<I: IntoIterator<Item = (u32, RoaringBitmap)>>(iterator: I) -> Self {
+        Self::from_bitmaps(iterator)
     }
 }
 

@@ -1,7 +1,6 @@
 //! Calls that put in many numbers, a chunk of them in each call of the library.
-use crate::filling::by_chunks;
+use crate::filling::{by_chunks, fillings};
 use crate::{raw, require, NonSortedIntegers, RoaringTreemap};
-use std::convert::Infallible;
 
 impl RoaringTreemap {
     /// Creates the set of numbers that ascend.
@@ -55,39 +54,4 @@ impl RoaringTreemap {
     }
 }
 
-impl Extend<u64> for RoaringTreemap {
-    fn extend<I: IntoIterator<Item = u64>>(&mut self, iterator: I) {
-        let inserted: Result<(), Infallible> = by_chunks(iterator, |chunk| {
-            self.insert_chunk(chunk);
-            Ok(())
-        });
-        inserted.unwrap_or_else(|never| match never {});
-    }
-}
-
-impl<'a> Extend<&'a u64> for RoaringTreemap {
-    fn extend<I: IntoIterator<Item = &'a u64>>(&mut self, iterator: I) {
-        self.extend(iterator.into_iter().copied());
-    }
-}
-
-impl FromIterator<u64> for RoaringTreemap {
-    fn from_iter<I: IntoIterator<Item = u64>>(iterator: I) -> Self {
-        let mut set = Self::new();
-        set.extend(iterator);
-        set
-    }
-}
-
-impl<'a> FromIterator<&'a u64> for RoaringTreemap {
-    fn from_iter<I: IntoIterator<Item = &'a u64>>(iterator: I) -> Self {
-        iterator.into_iter().copied().collect()
-    }
-}
-
-impl<const N: usize> From<[u64; N]> for RoaringTreemap {
-    fn from(numbers: [u64; N]) -> Self {
-        // SAFETY: `out` is null, and the numbers are borrowed for the call.
-        Self::made(|out| unsafe { raw::bit_roaring64_from_members(out, numbers.as_ptr(), N) })
-    }
-}
+fillings!(RoaringTreemap of u64, bit_roaring64_from_members);
