@@ -121,6 +121,19 @@ static void flips_and_gaps(const bit_roaring *set) {
     bit_roaring_free(flipped);
 }
 
+/* A set that is moved down and up again: it lacks the members below the distance. */
+static void offsets(const bit_roaring *set) {
+    bit_roaring *down = NULL, *again = NULL;
+    uint64_t distance = draw(2000), count = bit_roaring_range_cardinality(set, 0, distance);
+    CHECK(bit_roaring_add_offset(&down, set, -(int64_t)distance));
+    CHECK(bit_roaring_add_offset(&again, down, (int64_t)distance));
+    CHECK(bit_roaring_len(down) == bit_roaring_len(set) - count && bit_roaring_is_subset(again, set));
+    CHECK(bit_roaring_len(again) == bit_roaring_len(down));
+    CHECK(bit_roaring_range_cardinality(again, 0, distance) == 0);
+    bit_roaring_free(again);
+    bit_roaring_free(down);
+}
+
 /* The members, forwards and backwards, by a buffer that is often too small. */
 static void copies(const bit_roaring *set, const bool *table) {
     size_t place = 0, room = 1 + draw(9000), count, k;
@@ -272,6 +285,7 @@ int main(int argc, char **argv) {
         searches(sets[which], tables[which]);
         copies(sets[which], tables[which]);
         flips_and_gaps(sets[which]);
+        offsets(sets[which]);
         two_sets();
     }
     bit_roaring_free(sets[0]);

@@ -4,7 +4,8 @@
  * write. bit_set.h has the calls that make a set of bits of such a set, and the other way round: bit_set_from_roaring and
  * bit_set_to_roaring.
  *
- *   Making and freeing      new, from_members, clone, union, intersection, difference, symmetric_difference, flipped, free
+ *   Making and freeing      new, from_members, clone, union, intersection, difference, symmetric_difference, flipped,
+ *                           add_offset, free
  *   Single numbers          insert, insert_members, push, append_members, remove, remove_members, contains
  *   Ends and searches       min, max, next, previous, next_missing, first_gap, rank, select; BIT_ROARING_FOR_EACH
  *   Ranges                  insert_range, remove_range, flip, contains_range, intersects_range, range_cardinality
@@ -194,6 +195,10 @@ int64_t bit_roaring_remove_range(bit_roaring *set, uint64_t start, uint64_t end)
  * anew. `flipped` makes a new set instead, and may always fail. */
 bool bit_roaring_flip(bit_roaring *set, uint64_t start, uint64_t end) BIT_SET_MAY_FAIL;
 bool bit_roaring_flipped(bit_roaring **out, const bit_roaring *set, uint64_t start, uint64_t end) BIT_SET_MAY_FAIL;
+
+/* Makes a set that has each member plus `offset`, but for those that would leave 0 to 2^32 - 1. Goes by runs of members, and
+ * inserts each as a range. Returns whether it could: if memory runs out, `out` stays NULL. */
+bool bit_roaring_add_offset(bit_roaring **out, const bit_roaring *set, int64_t offset) BIT_SET_MAY_FAIL;
 
 /* Whether every number of the range is a member, which is true of an empty range. */
 bool bit_roaring_contains_range(const bit_roaring *set, uint64_t start, uint64_t end) BIT_SET_CALL;

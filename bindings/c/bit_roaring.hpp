@@ -151,6 +151,13 @@ public:
     void flip_range(std::uint64_t start, std::uint64_t end) { require(bit_roaring_flip(set_, start, end)); }
     void clear() { bit_roaring_clear(set_); }
 
+    // Each member plus `offset`, but for those that would leave 0 to 2^32 - 1.
+    BitRoaring add_offset(std::int64_t offset) const {
+        bit_roaring *set = nullptr;
+        require(bit_roaring_add_offset(&set, set_, offset));
+        return BitRoaring(set);
+    }
+
     // Convert containers: to the form with the fewest bytes, or from runs. Each returns whether one changed.
     bool optimize() { return answer(bit_roaring_optimize(set_)); }
     bool remove_runs() { return answer(bit_roaring_remove_runs(set_)); }
