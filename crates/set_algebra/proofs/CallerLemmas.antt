@@ -13,7 +13,7 @@ use Rattle.set_algebra.proofs.TestLemmas.{below_all, below_none, filter_all, fil
 use Rattle.set_algebra.proofs.PlaceLemmas.{all_by_places, any_by_places, at_place, has_place, in_order}
 use Rattle.set_algebra.proofs.RangeLemmas.{IsAscending-span, filtered_apart, has-span, length-span}
 use Rattle.set_algebra.proofs.SubsetLemmas.{is_subset-members}
-use Rattle.set_algebra.proofs.SetLemmas.{AscendsFrom-filter, AscendsFrom-put, IsAscending-elements, has-below, has-filter, has-first, has-put, has-without, same_members}
+use Rattle.set_algebra.proofs.SetLemmas.{AscendsFrom-filter, AscendsFrom-lower, AscendsFrom-put, IsAscending-elements, has-below, has-filter, has-first, has-put, has-without, same_members}
 
 -- a test keeps no more than there is
 pub length-filter-le : (p : ℕ → Bool) (s : List ℕ) → length (filter p s) ≤ length s
@@ -46,6 +46,17 @@ ascends_pushed_from low (y ∷ ys) x from up =
 
 pub ascends_pushed : (s : List ℕ) (x : ℕ) → IsAscending s → (s ++ x ∷ [] ≡ s ++ x ∷ []) × (IsAscending (s ++ x ∷ []) ⊎ ((y : ℕ) × IsTrue (has s y) × (x ≤ y)))
 ascends_pushed s x up = (refl, ascends_pushed_from 0 s x (omega arith) up)
+
+-- what a walk leaves ascends too, and the item is below all of it
+pub walk_ascends : (x : ℕ) (rest : List ℕ) → (x ∷ rest ≡ x ∷ rest)
+    × (IsAscending (x ∷ rest) → IsAscending rest × ((y : ℕ) → IsTrue (has rest y) → x < y))
+walk_ascends x rest = (
+  refl,
+  λ up. (
+    AscendsFrom-lower (x + 1) 0 rest (omega arith) up.1,
+    λ y is. let below = has-below (x + 1) rest y up.1 in grind (arith, nat_tests, is, below),
+  ),
+)
 
 -- std's word for a list that ascends
 pub increasing : (s : List ℕ) → IsAscending s → IsStrictlyIncreasing s
@@ -260,7 +271,7 @@ pub ruleset calls = (set_steps, members_of_merged_sets, has-reverse, at_place, h
 pub ruleset kept_by_tests = (calls, filter_none, filter_all)
 
 -- for a function that asks of ranges by `span` and `those_in_range`
-pub ruleset ranges = (calls, has-span, counted_in_range, first_in_range, from_zero, spanned)
+pub ruleset ranges = (calls, has-span, counted_in_range, first_in_range, from_zero, spanned, walk_ascends)
 
 -- for a clause that counts what merges have
 pub ruleset counts = (calls, count_difference, count_union, fewer_in_common, count_parted)
