@@ -1,13 +1,13 @@
 -- What a caller cites of sets.
-use Rattle.std.proofs.Common.{◌≡◌, ℕ, ◌+◌, ◌-◌, ◌*◌, ◌/◌, ◌%◌, ◌<◌, ◌≤◌, ◌↔◌, ◌++◌, ◌⊎◌, inl, inr, Bool, false, ◌&&◌, not, nat_le, ltb}
+use Rattle.std.proofs.Common.{◌≡◌, ℕ, ◌+◌, ◌-◌, ◌*◌, ◌/◌, ◌%◌, ◌<◌, ◌≤◌, ◌↔◌, ◌++◌, ◌⊎◌, inl, inr, Bool, false, ◌&&◌, not, nat_le, nat_lt, ltb, None, Some}
 use Rattle.std.proofs.Common.{filter, take, drop, List, [], ◌∷◌, IsTrue, refl, subst, sym, ap, ◌∙◌, zero, suc}
 use Rattle.std.proofs.Common.{append_assoc, arith, div-add-mod', get_or, length, reverse, ◌==◌}
-use Rattle.std.specs.{Cmp.Lexicographic.bytes_decides, List.Sorted.IsStrictlyIncreasing}
+use Rattle.std.specs.{Cmp.Lexicographic.bytes_decides, List.{slice_get, Sorted.IsStrictlyIncreasing}}
 use Rattle.std.proofs.Math.Nat.{add-mod_right}
 use Rattle.std.proofs.lemmas.{Bool.{cases_Bool, Decides.nat_tests}, Grind.take_at_read, Nat.mod-mul-add}
-use Rattle.std.proofs.lemmas.{List.{append-nil, reverse-append}, List.Folds.list_any-append, List.Sums.{length-filter, count_by-le-length, sum_by-append}}
+use Rattle.std.proofs.lemmas.{List.{append-nil, length-drop, reverse-append}, List.Folds.list_any-append, List.Sums.{length-filter, count_by-le-length, sum_by-append}}
 use Rattle.bit_blocks.specs.Ranges.{in_range}
-use Rattle.set_algebra.specs.{Members.IsSameSet, Order.same_sets, Ranges.{span, those_in_range}, Sets.{AscendsFrom, IsAscending, difference, elements, has, intersection, is_subset, put, those_below, those_from, union, without}}
+use Rattle.set_algebra.specs.{Members.IsSameSet, Order.same_sets, Ranges.{span, those_in_range}, Sets.{AscendsFrom, IsAscending, bound_of, difference, elements, has, intersection, is_subset, put, those_below, those_from, union, without}}
 use Rattle.set_algebra.proofs.{AlgebraLemmas.{has-difference, has-intersection, has-union, members_of_merged_sets}, SetLaws.IsAscending-put_all}
 use Rattle.set_algebra.proofs.TestLemmas.{below_all, below_none, filter_all, filter_none, from_all, from_none}
 use Rattle.set_algebra.proofs.PlaceLemmas.{all_by_places, any_by_places, at_place, has_place, in_order}
@@ -251,6 +251,58 @@ pub count_parted : (s : List ℕ) (n : ℕ) → (those_below s n ≡ those_below
 count_parted [] n = (refl, refl)
 count_parted (x ∷ xs) n = (refl, let rest = (count_parted xs n).1 in grind (arith, nat_tests))
 
+-- at the place n stands x: what is below it is the front, and what is from it on the rest
+selected_from : (low : ℕ) (s : List ℕ) (n : ℕ) → AscendsFrom low s → (slice_get s n ≡ None)
+    ⊎ ((x : ℕ) × (slice_get s n ≡ Some x) × (low ≤ x) × (those_below s x ≡ take n s) × (those_from s x ≡ drop n s))
+selected_from low [] n up = inl refl
+selected_from low (x ∷ xs) zero up =
+    let none = below_none xs x in
+    let all = from_all xs x in
+    let below = λ (y : ℕ). has-below (x + 1) xs y up.1 in
+    inr (x, refl, up.0, grind (arith, nat_tests), grind (arith, nat_tests))
+selected_from low (x ∷ xs) (suc n) up =
+    elim (selected_from (x + 1) xs n up.1) [
+      | inl none ↦ inl none
+      | inr some ↦ inr (some.0, some.1, (let from = up.0 in let at = some.2 in omega (arith, from, at)), (let at = some.2 in let same = some.3 in grind (arith, nat_tests)), (let at = some.2 in let same = some.4 in grind (arith, nat_tests)))
+    ]
+
+-- the member at a place parts the list there
+pub selected : (s : List ℕ) (n : ℕ) → (slice_get s n ≡ slice_get s n) × (IsAscending s → (slice_get s n ≡ None)
+    ⊎ ((x : ℕ) × (slice_get s n ≡ Some x) × (those_below s x ≡ take n s) × (those_from s x ≡ drop n s) × (length (those_from s x) ≡ length s - n)))
+selected s n = (
+  refl,
+  λ up.
+      elim (selected_from 0 s n up) [
+        | inl none ↦ inl none
+        | inr some ↦ inr (some.0, some.1, some.3, some.4, ap length some.4 ∙ length-drop n s)
+      ],
+)
+
+-- a range that ends past all members
+pub range_to_end : (s : List ℕ) (a b : ℕ) → (those_in_range s a b ≡ those_from s a) ⊎ ((b < bound_of s) × ((x : ℕ) × IsTrue (has s x) × (b ≤ x)))
+range_to_end [] a b = inl refl
+range_to_end (x ∷ xs) a b =
+    elim (cases_Bool (nat_lt x b)) [
+      | inl less ↦
+          elim (range_to_end xs a b) [
+            | inl rest ↦ inl (grind (arith, nat_tests, less, rest))
+            | inr past ↦ inr (grind (arith, past.0), (past.1.0, (let is = past.1.1 in grind (arith, nat_tests)), past.1.2))
+          ]
+      | inr more ↦ inr (grind (arith, nat_tests, more), (x, has-first x xs, grind (arith, nat_tests, more)))
+    ]
+
+pub cut_to_end : (s : List ℕ) (a b : ℕ) → (difference s (span a b) ≡ those_below s a) ⊎ ((b < bound_of s) × ((x : ℕ) × IsTrue (has s x) × (b ≤ x)))
+cut_to_end [] a b = inl refl
+cut_to_end (x ∷ xs) a b =
+    elim (cases_Bool (nat_lt x b)) [
+      | inl less ↦
+          elim (cut_to_end xs a b) [
+            | inl rest ↦ inl (grind (arith, nat_tests, less, rest, has-span a b x))
+            | inr past ↦ inr (grind (arith, past.0), (past.1.0, (let is = past.1.1 in grind (arith, nat_tests)), past.1.2))
+          ]
+      | inr more ↦ inr (grind (arith, nat_tests, more), (x, has-first x xs, grind (arith, nat_tests, more)))
+    ]
+
 -- steps of k from a multiple: there is no other before the next one, which is one
 between_multiples : (m k x : ℕ) → m % k ≡ 0 → m ≤ x → x < m + k → x % k ≡ x - m
 between_multiples m k x at from below =
@@ -271,7 +323,7 @@ pub ruleset calls = (set_steps, members_of_merged_sets, has-reverse, at_place, h
 pub ruleset kept_by_tests = (calls, filter_none, filter_all)
 
 -- for a function that asks of ranges by `span` and `those_in_range`
-pub ruleset ranges = (calls, has-span, counted_in_range, first_in_range, from_zero, spanned, walk_ascends)
+pub ruleset ranges = (calls, has-span, counted_in_range, first_in_range, from_zero, spanned, walk_ascends, selected, range_to_end, cut_to_end)
 
 -- for a clause that counts what merges have
 pub ruleset counts = (calls, count_difference, count_union, fewer_in_common, count_parted)
