@@ -1,11 +1,11 @@
 -- What a caller cites of sets.
-use Rattle.std.proofs.Common.{◌≡◌, ℕ, ◌+◌, ◌-◌, ◌*◌, ◌/◌, ◌%◌, ◌<◌, ◌≤◌, ◌↔◌, ◌++◌, ◌⊎◌, inl, inr, Bool, false, ◌&&◌, not, nat_le, nat_lt, ltb, None, Some}
+use Rattle.std.proofs.Common.{◌≡◌, ℕ, ◌+◌, ◌-◌, ◌*◌, ◌/◌, ◌%◌, ◌<◌, ◌≤◌, ◌↔◌, ◌++◌, ◌⊎◌, inl, inr, min, Bool, false, ◌&&◌, ◌||◌, not, nat_le, nat_lt, ltb, None, Some}
 use Rattle.std.proofs.Common.{filter, take, drop, List, [], ◌∷◌, IsTrue, refl, subst, sym, ap, ◌∙◌, zero, suc}
 use Rattle.std.proofs.Common.{append_assoc, arith, div-add-mod', get_or, length, reverse, ◌==◌}
 use Rattle.std.specs.{Cmp.Lexicographic.bytes_decides, List.{slice_get, Sorted.IsStrictlyIncreasing}}
-use Rattle.std.proofs.Math.Nat.{add-mod_right}
+use Rattle.std.proofs.Math.{ListN.drop_of_length-le, Nat.add-mod_right, Seq.drop-length}
 use Rattle.std.proofs.lemmas.{Bool.{cases_Bool, Decides.nat_tests}, Grind.take_at_read, Nat.mod-mul-add}
-use Rattle.std.proofs.lemmas.{List.{append-nil, length-drop, reverse-append}, List.Folds.list_any-append, List.Sums.{length-filter, count_by-le-length, sum_by-append}}
+use Rattle.std.proofs.lemmas.{List.{append-nil, length-drop, length-take-le, reverse-append, take-append-le, take-take}, List.Folds.list_any-append, List.Sums.{length-filter, count_by-le-length, sum_by-append}}
 use Rattle.bit_blocks.specs.Ranges.{in_range}
 use Rattle.set_algebra.specs.{Members.IsSameSet, Order.same_sets, Ranges.{span, those_in_range}, Sets.{AscendsFrom, IsAscending, bound_of, difference, elements, has, intersection, is_subset, put, those_below, those_from, union, without}}
 use Rattle.set_algebra.proofs.{AlgebraLemmas.{has-difference, has-intersection, has-union, members_of_merged_sets}, SetLaws.IsAscending-put_all}
@@ -303,6 +303,49 @@ cut_to_end (x ∷ xs) a b =
       | inr more ↦ inr (grind (arith, nat_tests, more), (x, has-first x xs, grind (arith, nat_tests, more)))
     ]
 
+-- the two parts of a list at a place: together they have its members, and no number is in both
+has_parts : (n : ℕ) (s : List ℕ) (y : ℕ) → has s y ≡ (has (take n s) y || has (drop n s) y)
+has_parts zero s y = refl
+has_parts (suc n) [] y = refl
+has_parts (suc n) (x ∷ xs) y = let rest = has_parts n xs y in grind (arith, nat_tests)
+
+parts_apart : (low n : ℕ) (s : List ℕ) (y : ℕ) → AscendsFrom low s → (has (take n s) y && has (drop n s) y) ≡ false
+parts_apart low zero s y up = refl
+parts_apart low (suc n) [] y up = refl
+parts_apart low (suc n) (x ∷ xs) y up =
+    let rest = parts_apart (x + 1) n xs y up.1 in let whole = has_parts n xs y in let below = has-below (x + 1) xs y up.1 in grind (arith, nat_tests)
+
+AscendsFrom-drop : (low n : ℕ) (s : List ℕ) → AscendsFrom low s → AscendsFrom low (drop n s)
+AscendsFrom-drop low zero s up = up
+AscendsFrom-drop low (suc n) [] up = tt
+AscendsFrom-drop low (suc n) (x ∷ xs) up = AscendsFrom-drop low n xs (AscendsFrom-lower (x + 1) low xs (let from = up.0 in omega (arith, from)) up.1)
+
+-- a set without a front of its list is the rest of it
+without_take : (s : List ℕ) (n : ℕ) → IsAscending s → difference s (take n s) ≡ drop n s
+without_take s n up =
+    same_members _ (drop n s) (AscendsFrom-filter 0 _ s up) (AscendsFrom-drop 0 n s up)
+    (λ y. let kept = has-difference s (take n s) y in let whole = has_parts n s y in let apart = parts_apart 0 n s y up in grind (arith, nat_tests))
+
+pub without_front : (s t : List ℕ) → (difference s t ≡ difference s t) × (IsAscending s → (n : ℕ) → t ≡ take n s → difference s t ≡ drop n s)
+without_front s t = (refl, λ up n is. ap (λ l. difference s l) is ∙ without_take s n up)
+
+-- the front that was copied to the front of a buffer
+pub front_again : (n : ℕ) (s rest : List ℕ) → (take n (take n s ++ rest) ≡ take n (take n s ++ rest)) × (n ≤ length s → take n (take n s ++ rest) ≡ take n s)
+front_again n s rest = (
+  refl,
+  λ fits.
+      let long = length-take-le n s fits in
+      take-append-le n (take n s) rest (omega (arith, long)) ∙ take-take n n s (omega arith),
+)
+
+-- where a front is as long as a buffer, or as the list where that is shorter
+pub drop_least : (m : ℕ) (s : List ℕ) → drop (min m (length s)) s ≡ drop m s
+drop_least m s =
+    elim (cases_Bool (nat_le m (length s))) [
+      | inl fits ↦ ap (λ k. drop k s) (grind (arith, nat_tests, fits))
+      | inr past ↦ ap (λ k. drop k s) (let is : min m (length s) ≡ length s = grind (arith, nat_tests, past) in is) ∙ drop-length s ∙ sym (drop_of_length-le s (grind (arith, nat_tests, past)))
+    ]
+
 -- steps of k from a multiple: there is no other before the next one, which is one
 between_multiples : (m k x : ℕ) → m % k ≡ 0 → m ≤ x → x < m + k → x % k ≡ x - m
 between_multiples m k x at from below =
@@ -323,7 +366,7 @@ pub ruleset calls = (set_steps, members_of_merged_sets, has-reverse, at_place, h
 pub ruleset kept_by_tests = (calls, filter_none, filter_all)
 
 -- for a function that asks of ranges by `span` and `those_in_range`
-pub ruleset ranges = (calls, has-span, counted_in_range, first_in_range, from_zero, spanned, walk_ascends, selected, range_to_end, cut_to_end)
+pub ruleset ranges = (calls, has-span, counted_in_range, first_in_range, from_zero, spanned, walk_ascends, selected, range_to_end, cut_to_end, without_front, front_again, drop_least)
 
 -- for a clause that counts what merges have
 pub ruleset counts = (calls, count_difference, count_union, fewer_in_common, count_parted)
