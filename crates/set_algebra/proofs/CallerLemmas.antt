@@ -1,11 +1,11 @@
 -- What a caller cites of sets.
 use Rattle.std.proofs.Common.{◌≡◌, ℕ, ◌+◌, ◌-◌, ◌*◌, ◌/◌, ◌%◌, ◌<◌, ◌≤◌, ◌↔◌, ◌++◌, ◌⊎◌, inl, inr, min, Bool, false, ◌&&◌, ◌||◌, not, nat_le, nat_lt, ltb, None, Some}
 use Rattle.std.proofs.Common.{filter, take, drop, List, [], ◌∷◌, IsTrue, refl, subst, sym, ap, ◌∙◌, zero, suc}
-use Rattle.std.proofs.Common.{append_assoc, arith, div-add-mod', get_or, length, reverse, ◌==◌}
+use Rattle.std.proofs.Common.{append_assoc, arith, div-add-mod', get_or, length, length-take, reverse, ◌==◌}
 use Rattle.std.specs.{Cmp.Lexicographic.bytes_decides, List.{slice_get, Sorted.IsStrictlyIncreasing}}
-use Rattle.std.proofs.Math.{ListN.drop_of_length-le, Nat.add-mod_right, Seq.drop-length}
+use Rattle.std.proofs.Math.{ListN.drop_of_length-le, Nat.add-mod_right, Seq.{drop-length, take-append_seam}}
 use Rattle.std.proofs.lemmas.{Bool.{cases_Bool, Decides.nat_tests}, Grind.take_at_read, Nat.mod-mul-add}
-use Rattle.std.proofs.lemmas.{List.{append-nil, length-drop, length-take-le, reverse-append, take-append-le, take-take}, List.Folds.list_any-append, List.Sums.{length-filter, count_by-le-length, sum_by-append}}
+use Rattle.std.proofs.lemmas.{List.{append-nil, length-append, length-drop, length-take-le, reverse-append, take-append-le, take-take}, List.Folds.list_any-append, List.Sums.{length-filter, count_by-le-length, sum_by-append}}
 use Rattle.bit_blocks.specs.Ranges.{in_range}
 use Rattle.set_algebra.specs.{Members.IsSameSet, Order.same_sets, Ranges.{span, those_in_range}, Sets.{AscendsFrom, IsAscending, bound_of, difference, elements, has, intersection, is_subset, put, those_below, those_from, union, without}}
 use Rattle.set_algebra.proofs.{AlgebraLemmas.{has-difference, has-intersection, has-union, members_of_merged_sets}, SetLaws.IsAscending-put_all}
@@ -346,6 +346,47 @@ drop_least m s =
       | inr past ↦ ap (λ k. drop k s) (let is : min m (length s) ≡ length s = grind (arith, nat_tests, past) in is) ∙ drop-length s ∙ sym (drop_of_length-le s (grind (arith, nat_tests, past)))
     ]
 
+-- without the first of what is left there is one more gone from the front
+pub drop_next : {X : Type 0} (n : ℕ) (s t : List X) (x : X) → drop n s ≡ x ∷ t → drop (n + 1) s ≡ t
+drop_next zero (y ∷ ys) t x is = grind (arith, is)
+drop_next zero [] t x is = grind (arith, is)
+drop_next (suc n) [] t x is = grind (arith, is)
+drop_next (suc n) (y ∷ ys) t x is = let more : suc n + 1 ≡ suc (n + 1) = omega arith in ap (λ k. drop k (y ∷ ys)) more ∙ drop_next n ys t x is
+
+-- without the last of what is left there is one more gone from the back
+take_less : {X : Type 0} (n : ℕ) (s t : List X) (x : X) → n ≤ length s → take n s ≡ t ++ x ∷ [] → take (n - 1) s ≡ t
+take_less n s t x fits is =
+    let long : length t + 1 ≡ n = (let whole = ap length is in omega (arith, whole, length-take n s, length-append t (x ∷ []), fits)) in
+    let less : n - 1 ≡ length t = omega (arith, long) in
+    let within : length t ≤ n = omega (arith, long) in
+    ap (λ k. take k s) less ∙ sym (take-take (length t) n s within) ∙ ap (take (length t)) is ∙ take-append_seam t (x ∷ [])
+
+no_end : {X : Type 0} (t : List X) (x : X) → [] ≡ t ++ x ∷ [] → ⊥
+no_end [] x is = cc
+no_end (y ∷ ys) x is = cc
+
+nothing : {X : Type 0} (n : ℕ) (t : List X) (x : X) → drop n [] ≡ t ++ x ∷ [] → ⊥
+nothing zero t x is = no_end t x is
+nothing (suc n) t x is = no_end t x is
+
+pub take_before : {X : Type 0} (n m : ℕ) (s t : List X) (x : X) → m ≤ length s → drop n (take m s) ≡ t ++ x ∷ [] → drop n (take (m - 1) s) ≡ t
+take_before zero m s t x fits is = take_less m s t x fits is
+take_before (suc n) zero s t x fits is = absurd (no_end t x is)
+take_before (suc n) (suc m) [] t x fits is = absurd (omega (arith, fits))
+take_before (suc n) (suc zero) (y ∷ ys) t x fits is = absurd (nothing n t x is)
+take_before (suc n) (suc (suc m)) (y ∷ ys) t x fits is =
+    let less : suc (suc m) - 1 ≡ suc m = omega arith in
+    let fewer : suc m - 1 ≡ m = omega arith in
+    ap (λ k. drop (suc n) (take k (y ∷ ys))) less ∙ ap (λ k. drop n (take k ys)) (sym fewer) ∙ take_before n (suc m) ys t x (omega (arith, fits)) is
+
+-- the same for `grind`
+pub without_first : {X : Type 0} (n : ℕ) (s : List X) → (drop n s ≡ drop n s) × ((x : X) (t : List X) → drop n s ≡ x ∷ t → drop (n + 1) s ≡ t)
+without_first n s = (refl, λ x t is. drop_next n s t x is)
+
+pub without_last : {X : Type 0} (n m : ℕ) (s : List X) → (drop n (take m s) ≡ drop n (take m s))
+    × ((x : X) (t : List X) → m ≤ length s → drop n (take m s) ≡ t ++ x ∷ [] → drop n (take (m - 1) s) ≡ t)
+without_last n m s = (refl, λ x t fits is. take_before n m s t x fits is)
+
 -- steps of k from a multiple: there is no other before the next one, which is one
 between_multiples : (m k x : ℕ) → m % k ≡ 0 → m ≤ x → x < m + k → x % k ≡ x - m
 between_multiples m k x at from below =
@@ -370,6 +411,9 @@ pub ruleset ranges = (calls, has-span, counted_in_range, first_in_range, from_ze
 
 -- for a clause that counts what merges have
 pub ruleset counts = (calls, count_difference, count_union, fewer_in_common, count_parted)
+
+-- for a loop that takes members from either end, and whose clause cuts the list by `take` and `drop`
+pub ruleset both_ends = (calls, without_first, without_last)
 
 -- for a page that goes on where another ended
 pub ruleset pages = (calls, ranked)
