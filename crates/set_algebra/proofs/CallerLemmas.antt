@@ -7,7 +7,7 @@ use Rattle.std.proofs.Math.{ListN.drop_of_length-le, Nat.add-mod_right, Seq.{dro
 use Rattle.std.proofs.lemmas.{Bool.{cases_Bool, Decides.nat_tests}, Grind.take_at_read, Nat.mod-mul-add}
 use Rattle.std.proofs.lemmas.{List.{append-nil, length-append, length-drop, length-take-le, reverse-append, take-append-le, take-take}, List.Folds.list_any-append, List.Sums.{length-filter, count_by-le-length, sum_by-append}}
 use Rattle.bit_blocks.specs.Ranges.{in_range}
-use Rattle.set_algebra.specs.{Members.IsSameSet, Order.same_sets, Ranges.{span, those_in_range}, Sets.{AscendsFrom, IsAscending, bound_of, difference, elements, has, intersection, is_subset, put, those_below, those_from, union, without}}
+use Rattle.set_algebra.specs.{Members.IsSameSet, Order.same_sets, Ranges.{span, those_in_range}, Sets.{AscendsFrom, IsAscending, bound_of, difference, elements, has, intersection, is_disjoint, is_subset, put, those_below, those_from, union, without}}
 use Rattle.set_algebra.proofs.{AlgebraLemmas.{has-difference, has-intersection, has-union, members_of_merged_sets}, SetLaws.IsAscending-put_all}
 use Rattle.set_algebra.proofs.TestLemmas.{below_all, below_none, filter_all, filter_none, from_all, from_none}
 use Rattle.set_algebra.proofs.PlaceLemmas.{all_by_places, any_by_places, at_place, has_place, in_order}
@@ -246,6 +246,34 @@ fewer_in_common s t = (
       (λ x is. let both = has-intersection s t x in grind (arith, nat_tests, is)),
 )
 
+-- two sets have no number in common, or some
+pub common_none : (s t : List ℕ) → (intersection s t ≡ []) ⊎ ((x : ℕ) × IsTrue (has s x) × IsTrue (has t x))
+common_none s t = filter_none (has t) s
+
+-- either way round it is one set
+pub common_either_way : (s t : List ℕ) → (intersection s t ≡ intersection s t) × (IsAscending s → IsAscending t → intersection s t ≡ intersection t s)
+common_either_way s t = (
+  refl,
+  λ up_s up_t. same_members _ _ (AscendsFrom-filter 0 (has t) s up_s) (AscendsFrom-filter 0 (has s) t up_t)
+      (λ x. grind (arith, has-intersection s t x, has-intersection t s x)),
+)
+
+-- sets that are disjoint have nothing in common; of others some number is in both
+pub shared : (s t : List ℕ) → (is_disjoint s t ≡ is_disjoint s t)
+    × ((IsTrue (is_disjoint s t) × (intersection s t ≡ [])) ⊎ ((is_disjoint s t ≡ false) × ((x : ℕ) × IsTrue (has s x) × IsTrue (has t x))))
+shared [] t = (refl, inl (grind arith, refl))
+shared (y ∷ ys) t = (
+  refl,
+  elim (cases_Bool (has t y)) [
+    | inl is ↦ inr (grind (arith, is), (y, has-first y ys, grind (arith, is)))
+    | inr none ↦
+        elim (shared ys t).1 [
+          | inl rest ↦ inl (grind (arith, none, rest.0), grind (arith, none, rest.1))
+          | inr some ↦ inr (grind (arith, some.0), (some.1.0, (let is = some.1.1 in grind (arith, nat_tests)), some.1.2))
+        ]
+  ],
+)
+
 -- the two parts of a set that is split at n
 pub count_parted : (s : List ℕ) (n : ℕ) → (those_below s n ≡ those_below s n) × (length (those_below s n) + length (those_from s n) ≡ length s)
 count_parted [] n = (refl, refl)
@@ -410,7 +438,7 @@ pub ruleset kept_by_tests = (calls, filter_none, filter_all)
 pub ruleset ranges = (calls, has-span, counted_in_range, first_in_range, from_zero, spanned, walk_ascends, selected, range_to_end, cut_to_end, without_front, front_again, drop_least)
 
 -- for a clause that counts what merges have
-pub ruleset counts = (calls, count_difference, count_union, fewer_in_common, count_parted)
+pub ruleset counts = (calls, count_difference, count_union, fewer_in_common, count_parted, common_none, common_either_way, shared)
 
 -- for a loop that takes members from either end, and whose clause cuts the list by `take` and `drop`
 pub ruleset both_ends = (calls, without_first, without_last)
