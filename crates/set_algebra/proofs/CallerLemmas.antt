@@ -1,5 +1,5 @@
 -- What a caller cites of sets.
-use Rattle.std.proofs.Common.{◌≡◌, ℕ, ◌+◌, ◌-◌, ◌*◌, ◌/◌, ◌%◌, ◌<◌, ◌≤◌, ◌↔◌, ◌++◌, ◌⊎◌, inl, inr, min, Bool, false, ◌&&◌, ◌||◌, not, nat_le, nat_lt, ltb, None, Some}
+use Rattle.std.proofs.Common.{◌≡◌, ℕ, ◌+◌, ◌-◌, ◌*◌, ◌/◌, ◌%◌, ◌<◌, ◌≤◌, ◌↔◌, ◌++◌, ◌⊎◌, inl, inr, min, cond, Bool, false, ◌&&◌, ◌||◌, not, nat_le, nat_lt, ltb, None, Some}
 use Rattle.std.proofs.Common.{filter, take, drop, List, [], ◌∷◌, IsTrue, refl, subst, sym, ap, ◌∙◌, zero, suc}
 use Rattle.std.proofs.Common.{append_assoc, arith, div-add-mod', get_or, length, length-take, reverse, ◌==◌}
 use Rattle.std.specs.{Cmp.Lexicographic.bytes_decides, List.{slice_get, Sorted.IsStrictlyIncreasing}}
@@ -12,7 +12,7 @@ use Rattle.set_algebra.proofs.{AlgebraLemmas.{has-difference, has-intersection, 
 use Rattle.set_algebra.proofs.TestLemmas.{below_all, below_none, filter_all, filter_none, from_all, from_none}
 use Rattle.set_algebra.proofs.PlaceLemmas.{all_by_places, any_by_places, at_place, has_place, in_order}
 use Rattle.set_algebra.proofs.RangeLemmas.{IsAscending-span, filtered_apart, has-span, length-span}
-use Rattle.set_algebra.proofs.SubsetLemmas.{is_subset-members}
+use Rattle.set_algebra.proofs.{SizeLemmas.{length-put, length-without}, SubsetLemmas.is_subset-members}
 use Rattle.set_algebra.proofs.SetLemmas.{AscendsFrom-filter, AscendsFrom-lower, AscendsFrom-put, IsAscending-elements, has-below, has-filter, has-first, has-put, has-without, same_members}
 
 -- a test keeps no more than there is
@@ -274,6 +274,13 @@ shared (y ∷ ys) t = (
   ],
 )
 
+-- how many members there are once a number is put in, or taken out
+pub count_put : (s : List ℕ) (n : ℕ) → (put s n ≡ put s n) × (IsAscending s → length (put s n) ≡ length s + cond (has s n) 0 1)
+count_put s n = (refl, length-put s n)
+
+pub count_without : (s : List ℕ) (n : ℕ) → (without s n ≡ without s n) × (IsAscending s → length (without s n) + cond (has s n) 1 0 ≡ length s)
+count_without s n = (refl, length-without s n)
+
 -- the two parts of a set that is split at n
 pub count_parted : (s : List ℕ) (n : ℕ) → (those_below s n ≡ those_below s n) × (length (those_below s n) + length (those_from s n) ≡ length s)
 count_parted [] n = (refl, refl)
@@ -438,7 +445,7 @@ pub ruleset kept_by_tests = (calls, filter_none, filter_all)
 pub ruleset ranges = (calls, has-span, counted_in_range, first_in_range, from_zero, spanned, walk_ascends, selected, range_to_end, cut_to_end, without_front, front_again, drop_least)
 
 -- for a clause that counts what merges have
-pub ruleset counts = (calls, count_difference, count_union, fewer_in_common, count_parted, common_none, common_either_way, shared)
+pub ruleset counts = (calls, count_difference, count_union, fewer_in_common, count_parted, common_none, common_either_way, shared, count_put, count_without)
 
 -- for a loop that takes members from either end, and whose clause cuts the list by `take` and `drop`
 pub ruleset both_ends = (calls, without_first, without_last)
