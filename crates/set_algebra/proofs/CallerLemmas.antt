@@ -1,13 +1,13 @@
 -- What a caller cites of sets.
-use Rattle.std.proofs.Common.{◌≡◌, ℕ, ◌+◌, ◌-◌, ◌*◌, ◌/◌, ◌%◌, ◌<◌, ◌≤◌, ◌↔◌, ◌++◌, ◌⊎◌, inl, inr, min, cond, Bool, false, ◌&&◌, ◌||◌, not, nat_le, nat_lt, ltb, None, Some}
+use Rattle.std.proofs.Common.{◌≡◌, ℕ, ◌+◌, ◌-◌, ◌*◌, ◌/◌, ◌%◌, ◌<◌, ◌≤◌, ◌↔◌, ◌++◌, ◌⊎◌, inl, inr, min, cond, Bool, true, false, ◌&&◌, ◌||◌, not, nat_le, nat_lt, ltb, None, Some}
 use Rattle.std.proofs.Common.{filter, take, drop, List, [], ◌∷◌, IsTrue, refl, subst, sym, ap, ◌∙◌, zero, suc}
 use Rattle.std.proofs.Common.{append_assoc, arith, div-add-mod', get_or, length, length-take, reverse, ◌==◌}
-use Rattle.std.specs.{Cmp.Lexicographic.bytes_decides, List.{slice_get, Sorted.IsStrictlyIncreasing}}
+use Rattle.std.specs.{Cmp.Lexicographic.bytes_decides, List.{slice_get, Sorted.IsStrictlyIncreasing}, declared.ops.Range.Range}
 use Rattle.std.proofs.Math.{ListN.drop_of_length-le, Nat.add-mod_right, Seq.{drop-length, take-append_seam}}
 use Rattle.std.proofs.lemmas.{Bool.{cases_Bool, Decides.nat_tests}, Grind.take_at_read, Nat.mod-mul-add}
 use Rattle.std.proofs.lemmas.{List.{append-nil, length-append, length-drop, length-take-le, reverse-append, take-append-le, take-take}, List.Folds.list_any-append, List.Sums.{length-filter, count_by-le-length, sum_by-append}}
 use Rattle.bit_blocks.specs.Ranges.{in_range}
-use Rattle.set_algebra.specs.{Members.IsSameSet, Order.same_sets, Ranges.{span, those_in_range}, Sets.{AscendsFrom, IsAscending, bound_of, difference, elements, has, intersection, is_disjoint, is_subset, put, those_below, those_from, union, without}}
+use Rattle.set_algebra.specs.{Members.{IsSameSet, KeepsFrom}, Runs.IsFirstRun, Order.same_sets, Ranges.{span, those_in_range}, Sets.{AscendsFrom, IsAscending, bound_of, difference, elements, has, intersection, is_disjoint, is_subset, put, those_below, those_from, union, without}}
 use Rattle.set_algebra.proofs.{AlgebraLemmas.{has-difference, has-intersection, has-union, members_of_merged_sets}, SetLaws.IsAscending-put_all}
 use Rattle.set_algebra.proofs.TestLemmas.{below_all, below_none, filter_all, filter_none, from_all, from_none}
 use Rattle.set_algebra.proofs.PlaceLemmas.{all_by_places, any_by_places, at_place, has_place, in_order}
@@ -421,6 +421,22 @@ without_first n s = (refl, λ x t is. drop_next n s t x is)
 pub without_last : {X : Type 0} (n m : ℕ) (s : List X) → (drop n (take m s) ≡ drop n (take m s))
     × ((x : X) (t : List X) → m ≤ length s → drop n (take m s) ≡ t ++ x ∷ [] → drop n (take (m - 1) s) ≡ t)
 without_last n m s = (refl, λ x t fits is. take_before n m s t x fits is)
+
+-- a stretch of members is no longer than the first run, or is past it
+pub stretch : (s t : List ℕ) (run : Range ℕ) (a n : ℕ) → IsFirstRun s run → KeepsFrom s t run.end
+    → ((x : ℕ) → a ≤ x → x < a + n → has s x ≡ true)
+    → (n ≤ run.end - run.start) ⊎ ((x : ℕ) → a ≤ x → x < a + n → has t x ≡ true)
+stretch s t run a n first rest all =
+    elim (cases_Bool (nat_le n (run.end - run.start))) [
+      | inl fits ↦ inl (grind (arith, nat_tests, fits))
+      | inr longer ↦ inr (λ x from to.
+          let here = all x from to in
+          let start = all a (omega arith) (omega (arith, from, to)) in
+          let end = all run.end in
+          let before = first.before a in
+          let past = first.past in
+          grind (arith, nat_tests, longer, from, to, here, start, end, before, past, rest x))
+    ]
 
 -- steps of k from a multiple: there is no other before the next one, which is one
 between_multiples : (m k x : ℕ) → m % k ≡ 0 → m ≤ x → x < m + k → x % k ≡ x - m
