@@ -17,7 +17,7 @@ use Rattle.set_algebra.proofs.TestLemmas.{below_all, below_none, filter_all, fil
 use Rattle.set_algebra.proofs.PlaceLemmas.{all_by_places, any_by_places, at_place, has_place, in_order}
 use Rattle.set_algebra.proofs.RangeLemmas.{IsAscending-span, filtered_apart, has-range_with_len, has-span, length-span}
 use Rattle.set_algebra.proofs.SetLemmas.{AscendsFrom-filter, IsAscending-elements, has-filter, has-first, same_members}
-pub use Rattle.set_algebra.proofs.CallerLemmas.{increasing, ascending, ranked, same_by_members, same_elements, counts, pages, ranges, length-filter-le, take-first, has-reverse, ascends_pushed, length_of_parts, count_complement, few_below, fewer_within, multiples, set_steps, calls, kept_by_tests, steps, rows}
+pub use Rattle.set_algebra.proofs.CallerLemmas.{both_ends, common_either_way, common_none, count_put, count_without, shared, stretch, walk_ascends, without_first, without_last, increasing, ascending, ranked, same_by_members, same_elements, counts, pages, ranges, length-filter-le, take-first, has-reverse, ascends_pushed, length_of_parts, count_complement, few_below, fewer_within, multiples, set_steps, calls, kept_by_tests, steps, rows}
 
 module _ {S V E : Type 0} {steps : S → Option ℕ → S → Type 0} {s : S} {all : List ℕ} where
   -- what is made of a chain by `from_iter` is made of all that the chain gives
