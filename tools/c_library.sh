@@ -186,7 +186,7 @@ find_parts() {
         ./bindings/c/compat/roaring/roaring{,_bytes,_iterators}.h ./bindings/c/example.{c,cc,out}
         ./bindings/c/source/{Makefile,CMakeLists.txt,README.md,mem.c})
     [ ! -f "$top/HANDLES" ] || parts+=(./HANDLES)
-    for name in "$top"/tests/c_*.[ch]; do
+    for name in "$top"/tests/{c_*.[ch],roaring.cc}; do
         parts+=("./tests/${name##*/}")
     done
     for name in "${exporting[@]}" $(libraries_below); do
@@ -203,6 +203,6 @@ write_source() {
     cp "$c/source/mem.c" "$1/src"
     cp "$c"/compat/roaring/*.h "$1/compat/roaring"
     cp "$c"/example.{c,cc,out} "$1/examples"
-    cp "$top"/tests/c_*.[ch] "$1/tests"
+    cp "$top"/tests/{c_*.[ch],roaring.cc} "$1/tests"
     write_headers "$1/include"
 }

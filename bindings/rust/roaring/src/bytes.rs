@@ -27,9 +27,12 @@ impl RoaringBitmap {
     ///
     /// Those of the writer.
     pub fn serialize_into<W: Write>(&self, mut writer: W) -> io::Result<()> {
-        let mut bytes = vec![0; self.serialized_size()];
-        let answer = unsafe { raw::bit_roaring_serialize(self.read(), bytes.as_mut_ptr(), bytes.len()) };
+        let size = self.serialized_size();
+        let mut bytes = Vec::with_capacity(size);
+        let answer = unsafe { raw::bit_roaring_serialize(self.read(), bytes.as_mut_ptr(), size) };
         require(answer == raw::YES);
+        // SAFETY: the call wrote so many bytes.
+        unsafe { bytes.set_len(size) };
         writer.write_all(&bytes)
     }
 
@@ -104,23 +107,22 @@ pub(crate) fn read_set(reader: &mut impl Read, bytes: &mut Vec<u8>) -> io::Resul
     if !read_more(reader, bytes, lists_at + places - runs_at)? {
         return Ok(false);
     }
+    // How many bytes are known to follow. Of runs the first two say how many there are.
+    let mut known = 0;
     for container in 0..count {
-        let size = if with_runs && bytes[runs_at + container / 8] >> (container % 8) & 1 == 1 {
-            if !read_more(reader, bytes, 2)? {
+        if with_runs && bytes[runs_at + container / 8] >> (container % 8) & 1 == 1 {
+            if !read_more(reader, bytes, known + 2)? {
                 return Ok(false);
             }
-            4 * usize::from(number_at(bytes, bytes.len() - 2))
+            known = 4 * usize::from(number_at(bytes, bytes.len() - 2));
         } else {
-            match usize::from(number_at(bytes, heads_at + 4 * container + 2)) + 1 {
+            known += match usize::from(number_at(bytes, heads_at + 4 * container + 2)) + 1 {
                 members if members <= LIST_MOST => 2 * members,
                 _ => BLOCKS_BYTES,
-            }
-        };
-        if !read_more(reader, bytes, size)? {
-            return Ok(false);
+            };
         }
     }
-    Ok(true)
+    read_more(reader, bytes, known)
 }
 
 // Reads whether there are runs, and how many containers there are; `None` if the bytes do not say so.
