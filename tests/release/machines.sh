@@ -91,7 +91,7 @@ try_frames() {
     try 'frames are found through the library' bare sh -ec "
         cd '$at' && cc -Wl,--wrap=malloc -rdynamic -Iinclude '$here/release/frames.c' lib/libbit_set.a -o frames && ./frames"
     try 'the shared objects ask for IBT and SHSTK' ask_for_marks 1 "$at"/lib/libbit_set.so.* "$at"/lib/glibc-hwcaps/*/*.so.*
-    try 'the archives do' ask_for_marks 3 "$at"/lib/libbit_set.a "$at"/lib/glibc-hwcaps/*/*.a
+    try 'the archives do' ask_for_marks 4 "$at"/lib/libbit_set.a "$at"/lib/glibc-hwcaps/*/*.a
 }
 
 # Whether each of these files asks, or each of the objects that it has.
