@@ -61,6 +61,48 @@ static void change(bit_roaring64 *set, bool *table) {
     }
 }
 
+/* Removes many numbers, some of them twice and some of them absent. */
+static void remove_many(bit_roaring64 *set, bool *table) {
+    size_t count = draw(5000), k;
+    int64_t removed = 0;
+    for (k = 0; k < count; k++) {
+        size_t place = draw(LIMIT);
+        members[k] = number_at(place);
+        removed += table[place];
+        table[place] = false;
+    }
+    CHECK(bit_roaring64_remove_members(set, members, count) == removed);
+}
+
+/* Flips a range within a quarter of the table, or an empty one. */
+static void flip(bit_roaring64 *set, bool *table) {
+    size_t quarter = draw(4) * KEY, start = quarter + draw(KEY), end = quarter + draw(KEY), place;
+    bit_roaring64 *made = NULL;
+    CHECK(bit_roaring64_flipped(&made, set, number_at(start), number_at(end)));
+    CHECK(bit_roaring64_equals(set, made) == (end <= start));
+    CHECK(bit_roaring64_flip(set, number_at(start), number_at(end)) && bit_roaring64_equals(set, made));
+    for (place = start; place < end; place++)
+        table[place] = !table[place];
+    bit_roaring64_free(made);
+}
+
+/* Converts the containers: the members stay, and the best form has the fewest bytes. */
+static void convert(bit_roaring64 *set) {
+    bit_roaring64 *copy = NULL;
+    uint64_t before = bit_roaring64_serialized_size(set), best;
+    int32_t changed = bit_roaring64_optimize(set);
+    best = bit_roaring64_serialized_size(set);
+    CHECK(best <= before && (changed == BIT_ROARING_YES || (changed == BIT_ROARING_NO && best == before)));
+    CHECK(bit_roaring64_clone(&copy, set) && bit_roaring64_optimize(set) == BIT_ROARING_NO);
+    CHECK(bit_roaring64_remove_runs(set) >= 0 && bit_roaring64_remove_runs(set) == BIT_ROARING_NO);
+    CHECK(bit_roaring64_serialized_size(set) >= best);
+    bit_roaring64_shrink_to_fit(set);
+    CHECK(bit_roaring64_equals(set, copy) && bit_roaring64_serialized_size(copy) == best);
+    if (draw(2) == 0)
+        CHECK(bit_roaring64_optimize(set) >= 0 && bit_roaring64_serialized_size(set) == best);
+    bit_roaring64_free(copy);
+}
+
 static void change_in_place(bit_roaring64 *set, bool *table, const bit_roaring64 *other, const bool *with) {
     size_t call = draw(4), place;
     int32_t (*calls[])(bit_roaring64 *, const bit_roaring64 *) = {
@@ -200,6 +242,36 @@ static void ends(void) {
     bit_roaring64_free(NULL);
 }
 
+/* Flips, removals and forms of a small set, by exact values. */
+static void forms_of_few(void) {
+    uint64_t numbers[] = {1, 4, PAST, UINT64_MAX}, gone[] = {5, PAST, 5, 7, UINT64_MAX}, out[5] = {7, 7, 7, 7, 7};
+    bit_roaring64 *set = NULL, *made = NULL;
+    CHECK(bit_roaring64_from_members(&set, numbers, 4) && bit_roaring64_flip(set, 3, 6));
+    CHECK(bit_roaring64_copy_members(set, 0, out, 5) == 5 && out[0] == 1 && out[1] == 3 && out[2] == 5 && out[3] == PAST);
+    CHECK(bit_roaring64_flip(set, 6, 6) && bit_roaring64_flip(set, 6, 3) && bit_roaring64_len(set) == 5);
+    CHECK(bit_roaring64_remove_members(set, gone, 5) == 3 && bit_roaring64_remove_members(set, gone, 0) == 0);
+    CHECK(bit_roaring64_copy_members(set, 0, out, 5) == 2 && out[0] == 1 && out[1] == 3 && out[2] == 5);
+    CHECK(bit_roaring64_flipped(&made, set, PAST - 1, PAST + 2) && bit_roaring64_len(made) == 5);
+    CHECK(bit_roaring64_contains_range(made, PAST - 1, PAST + 2) && bit_roaring64_len(set) == 2);
+    CHECK(bit_roaring64_flip(made, UINT64_MAX - 2, UINT64_MAX) && !bit_roaring64_contains(made, UINT64_MAX));
+    CHECK(bit_roaring64_contains_range(made, UINT64_MAX - 2, UINT64_MAX));
+    bit_roaring64_free(set);
+    bit_roaring64_free(made);
+    set = NULL;
+    /* 1,000 numbers in a row: 8 bytes for the count of bitmaps, 4 for the key, 4 for the form's number with that of the
+     * containers, 1 for which of these are runs, 4 for the container's key and count, and 6 for one run. Those of a list are
+     * 8 for the form's number and that of the containers, 4, 4 for the place, and 2,000. */
+    CHECK(bit_roaring64_new(&set) && bit_roaring64_serialized_size(set) == 8);
+    CHECK(bit_roaring64_optimize(set) == BIT_ROARING_NO && bit_roaring64_remove_runs(set) == BIT_ROARING_NO);
+    CHECK(bit_roaring64_insert_range(set, PAST, PAST + 1000) && bit_roaring64_optimize(set) >= 0);
+    CHECK(bit_roaring64_serialized_size(set) == 27 && bit_roaring64_optimize(set) == BIT_ROARING_NO);
+    CHECK(bit_roaring64_remove_runs(set) == BIT_ROARING_YES && bit_roaring64_serialized_size(set) == 2028);
+    CHECK(bit_roaring64_remove_runs(set) == BIT_ROARING_NO && bit_roaring64_optimize(set) == BIT_ROARING_YES);
+    bit_roaring64_shrink_to_fit(set);
+    CHECK(bit_roaring64_len(set) == 1000 && bit_roaring64_serialized_size(set) == 27);
+    bit_roaring64_free(set);
+}
+
 /* How many bitmaps there are, and for each its key, the form's number, one container, its key and how many members it has
  * besides one, its place, and its members: 3, 4 and 2^32 + 7. */
 static const uint8_t written_of_three[] = {2, 0, 0, 0, 0, 0, 0, 0,
@@ -250,6 +322,7 @@ static void bytes(const bit_roaring64 *set) {
     uint8_t *written = malloc(1);
     bit_roaring64 *again = NULL;
     CHECK(written != NULL && bit_roaring64_serialize(set, written, 0, &size) == BIT_ROARING_NO);
+    CHECK(bit_roaring64_serialized_size(set) == size);
     free(written);
     written = malloc(size);
     CHECK(written != NULL && bit_roaring64_serialize(set, written, size, &size) == BIT_ROARING_YES);
@@ -276,6 +349,7 @@ static void hashes(void) {
 int main(int argc, char **argv) {
     long rounds = argc > 1 ? atol(argv[1]) : 100;
     ends();
+    forms_of_few();
     bytes_of_three();
     hashes();
     CHECK(bit_roaring64_new(&sets[0]) && bit_roaring64_from_members(&sets[1], members, 0));
@@ -283,8 +357,14 @@ int main(int argc, char **argv) {
         size_t which = draw(2);
         if (draw(3) > 0)
             change(sets[which], tables[which]);
+        else if (draw(2) > 0)
+            flip(sets[which], tables[which]);
         else
             change_in_place(sets[which], tables[which], sets[1 - which], tables[1 - which]);
+        if (draw(3) == 0)
+            remove_many(sets[which], tables[which]);
+        if (draw(3) == 0)
+            convert(sets[which]);
         searches(sets[which], tables[which]);
         copies(sets[which], tables[which]);
         two_sets();

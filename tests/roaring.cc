@@ -56,6 +56,8 @@ static void ranges_and_forms() {
     // Whether a change left runs is not said.
     set.optimize();
     CHECK(set.remove_runs() && set == same_set && set.optimize() && !set.optimize());
+    set.shrink_to_fit();
+    CHECK(set == same_set);
     set.clear();
     CHECK(set.empty());
 }
@@ -117,6 +119,15 @@ static void sets_of_64() {
     CHECK(same(c, {far - 2, far - 1, far, far + 1}));
     c.erase_range(0, far);
     CHECK(same(c, {far, far + 1}));
+    c.flip_range(far + 1, far + 3);
+    CHECK(same(c, {far, far + 2}));
+    c.insert_range(5, 100000);
+    BitRoaring64 same_set = c;
+    // Whether a change left runs is not said.
+    c.optimize();
+    CHECK(c.serialize().size() < 100 && c.remove_runs() && c == same_set && c.optimize() && !c.optimize());
+    c.shrink_to_fit();
+    CHECK(c == same_set && BitRoaring64().serialize().size() == 8);
 }
 
 int main() {

@@ -19,17 +19,17 @@
  *
  * Sets of 64-bit numbers are of the type `bit_roaring64`, and their calls begin with bit_roaring64_:
  *
- *   Making and freeing      new, from_members, clone, union, intersection, difference, symmetric_difference, free
- *   Single numbers          insert, insert_members, push, remove, contains
+ *   Making and freeing      new, from_members, clone, union, intersection, difference, symmetric_difference, flipped, free
+ *   Single numbers          insert, insert_members, push, remove, remove_members, contains
  *   Ends and searches       min, max, next, previous, rank, select; BIT_ROARING64_FOR_EACH
- *   Ranges                  insert_range, remove_range, contains_range, range_cardinality
+ *   Ranges                  insert_range, remove_range, flip, contains_range, range_cardinality
  *   Copies                  copy_members, copy_members_back
  *   Reading a set           len, is_empty, hash
  *   Two sets, read          is_subset, is_proper_subset, is_superset, is_disjoint, equals, compare, union_len,
  *                           intersection_len, difference_len, symmetric_difference_len
  *   Two sets, in place      union_with, intersect_with, difference_with, symmetric_difference_with
- *   A whole set             clear
- *   Bytes                   serialize, deserialize
+ *   A whole set             clear, optimize, remove_runs, shrink_to_fit
+ *   Bytes                   serialized_size, serialize, deserialize
  *
  * What the caller must ensure, in Rust's terms:
  *
@@ -381,6 +381,10 @@ int32_t bit_roaring64_push(bit_roaring64 *set, uint64_t value) BIT_SET_MAY_FAIL;
  * `bit_roaring_remove` takes memory. Fails only if the number is present. */
 int32_t bit_roaring64_remove(bit_roaring64 *set, uint64_t value) BIT_SET_MAY_FAIL;
 
+/* Removes numbers, in any order. Returns how many were present, or BIT_ROARING_NO_MEMORY: those before the one for which
+ * memory ran out, which is present, are removed then. */
+int64_t bit_roaring64_remove_members(bit_roaring64 *set, const uint64_t *members, size_t count) BIT_SET_MAY_FAIL;
+
 /* Whether the number is a member. */
 bool bit_roaring64_contains(const bit_roaring64 *set, uint64_t value) BIT_SET_CALL;
 
@@ -413,10 +417,17 @@ bool bit_roaring64_select(const bit_roaring64 *set, uint64_t n, uint64_t *member
  * UINT64_MAX. The counts take two ranks. */
 
 /* Insert or remove each number of the range, and return whether they could: if memory runs out, nothing changes. They fail
- * only if a number is new, or present. Each makes a bitmap for each key in the range, `remove_range` only for those that the
- * set has, and merges it. A bitmap of all numbers with one key is 65,536 containers of one run. */
+ * only if a number is new, or present. If all numbers have one key, and the set has its bitmap, that one is changed, as by the
+ * call of `bit_roaring`. Otherwise each makes a bitmap for each key in the range, `remove_range` only for those that the set
+ * has, and merges it. A bitmap of all numbers with one key is 65,536 containers of one run. */
 bool bit_roaring64_insert_range(bit_roaring64 *set, uint64_t start, uint64_t end) BIT_SET_MAY_FAIL;
 bool bit_roaring64_remove_range(bit_roaring64 *set, uint64_t start, uint64_t end) BIT_SET_MAY_FAIL;
+
+/* Removes each member in the range, and inserts each other number of it. Returns whether it could: if memory runs out,
+ * nothing changes. Fails only if the range has a number. Makes a bitmap for each key in the range, and merges it as
+ * `symmetric_difference_with` does. `flipped` makes a new set instead, and may always fail. */
+bool bit_roaring64_flip(bit_roaring64 *set, uint64_t start, uint64_t end) BIT_SET_MAY_FAIL;
+bool bit_roaring64_flipped(bit_roaring64 **out, const bit_roaring64 *set, uint64_t start, uint64_t end) BIT_SET_MAY_FAIL;
 
 /* Whether every number of the range is a member, which is true of an empty range. */
 bool bit_roaring64_contains_range(const bit_roaring64 *set, uint64_t start, uint64_t end) BIT_SET_CALL;
@@ -492,8 +503,23 @@ int32_t bit_roaring64_symmetric_difference_with(bit_roaring64 *set, const bit_ro
 /* Removes every member, and gives the memory of the bitmaps back. */
 void bit_roaring64_clear(bit_roaring64 *set) BIT_SET_CALL;
 
+/* Converts each container to the form with the fewest bytes, preferring runs. BIT_ROARING_YES if one changed,
+ * BIT_ROARING_NO if not, or BIT_ROARING_NO_MEMORY. The members stay in any case; if memory runs out, the containers before
+ * the failure have their new form. Reads each member once, except those of runs. */
+int32_t bit_roaring64_optimize(bit_roaring64 *set) BIT_SET_CALL;
+
+/* Converts each container of runs to a list or blocks, and returns the same. If memory runs out, the containers before the
+ * failure are converted. Writes each member of runs once. */
+int32_t bit_roaring64_remove_runs(bit_roaring64 *set) BIT_SET_CALL;
+
+/* Gives back the memory that is held and not used. One pass over the bitmaps and their containers. */
+void bit_roaring64_shrink_to_fit(bit_roaring64 *set) BIT_SET_CALL;
+
 /* ---- Bytes, in the portable form of Roaring bitmaps for 64 bits: how many bitmaps there are, as a uint64_t, and for each
  * the upper 32 bits, as a uint32_t, and what `bit_roaring_serialize` writes. Numbers are little endian. */
+
+/* How many bytes `bit_roaring64_serialize` writes, or UINT64_MAX if there are more. Adds up those of the containers. */
+uint64_t bit_roaring64_serialized_size(const bit_roaring64 *set) BIT_SET_CALL;
 
 /* Writes the set to the front of the bytes; later ones are unchanged. `*size` is how many bytes it takes. BIT_ROARING_YES if
  * it did, BIT_ROARING_NO if `room` is less, or BIT_ROARING_NO_MEMORY. The bytes are unchanged unless it did, and so is

@@ -161,6 +161,8 @@ public:
     // Convert containers: to the form with the fewest bytes, or from runs. Each returns whether one changed.
     bool optimize() { return answer(bit_roaring_optimize(set_)); }
     bool remove_runs() { return answer(bit_roaring_remove_runs(set_)); }
+    // Gives back the memory that is held and not used.
+    void shrink_to_fit() { bit_roaring_shrink_to_fit(set_); }
 
     bool contains(std::uint32_t value) const { return bit_roaring_contains(set_, value); }
     bool contains_range(std::uint64_t start, std::uint64_t end) const {
@@ -361,7 +363,15 @@ public:
     // A range never has UINT64_MAX.
     void insert_range(std::uint64_t start, std::uint64_t end) { require(bit_roaring64_insert_range(set_, start, end)); }
     void erase_range(std::uint64_t start, std::uint64_t end) { require(bit_roaring64_remove_range(set_, start, end)); }
+    // Erases each member in the range, and inserts each other number of it.
+    void flip_range(std::uint64_t start, std::uint64_t end) { require(bit_roaring64_flip(set_, start, end)); }
     void clear() { bit_roaring64_clear(set_); }
+
+    // Convert containers: to the form with the fewest bytes, or from runs. Each returns whether one changed.
+    bool optimize() { return answer(bit_roaring64_optimize(set_)); }
+    bool remove_runs() { return answer(bit_roaring64_remove_runs(set_)); }
+    // Gives back the memory that is held and not used.
+    void shrink_to_fit() { bit_roaring64_shrink_to_fit(set_); }
 
     bool contains(std::uint64_t value) const { return bit_roaring64_contains(set_, value); }
     bool contains_range(std::uint64_t start, std::uint64_t end) const {
@@ -390,12 +400,9 @@ public:
     // The bytes of the set in the portable form for 64 bits; the set that the first bytes represent, and in `used`, if it is
     // given, how many bytes that are. The pointer must not be null, even if there are no bytes.
     std::vector<std::uint8_t> serialize() const {
-        std::vector<std::uint8_t> bytes(64);
+        std::vector<std::uint8_t> bytes(bit_roaring64_serialized_size(set_));
         std::size_t size = 0;
-        std::int32_t written;
-        while ((written = bit_roaring64_serialize(set_, bytes.data(), bytes.size(), &size)) == BIT_ROARING_NO)
-            bytes.resize(size);
-        require(written == BIT_ROARING_YES);
+        require(bit_roaring64_serialize(set_, bytes.data(), bytes.size(), &size) == BIT_ROARING_YES);
         bytes.resize(size);
         return bytes;
     }

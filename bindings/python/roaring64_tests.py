@@ -200,11 +200,37 @@ class Both(unittest.TestCase):
             self.assertEqual(bitmap, set(range(1000)))
             self.assertRaises(ValueError, kind, [greatest + 1])
 
+    def test_forms(self):
+        for kind, greatest in self.KINDS:
+            numbers = {*range(5000), *range(7000, 16000, 2), greatest}
+            bitmap = kind(numbers)
+            bitmap.run_optimize()
+            self.assertEqual((bitmap, bitmap.run_optimize()), (numbers, False))
+            size, kinds = len(bitmap.serialize()), bitmap.get_statistics()
+            self.assertEqual(kinds["n_run_containers"], 0)
+            bitmap.remove_range(7000, 16000)
+            bitmap.run_optimize()
+            self.assertEqual(bitmap.get_statistics()["n_run_containers"], 1)
+            self.assertLess(len(bitmap.serialize()), size)
+            self.assertEqual((bitmap.remove_runs(), bitmap.remove_runs()), (True, False))
+            self.assertEqual((bitmap, bitmap.get_statistics()["n_run_containers"]), ({*range(5000), greatest}, 0))
+
+    def test_flips_to_the_greatest(self):
+        for kind, greatest in self.KINDS:
+            bitmap = kind([3, greatest - 1])
+            self.assertEqual(bitmap.flip(greatest - 2, greatest + 1), {3, greatest - 2, greatest})
+            bitmap.flip_inplace(greatest, greatest + 1)
+            bitmap.flip_inplace(5, 5)
+            self.assertEqual(bitmap, {3, greatest - 1, greatest})
+            bitmap.flip_inplace(greatest - 1, greatest + 1)
+            self.assertEqual(bitmap, {3})
+
     def test_memory_is_given_back(self):
-        bitmap = RoaringBitmap(range(5000))
-        bitmap.remove_range(0, 4000)
-        self.assertIsNone(bitmap.shrink_to_fit())
-        self.assertEqual(bitmap, set(range(4000, 5000)))
+        for kind, _ in self.KINDS:
+            bitmap = kind(range(5000))
+            bitmap.remove_range(0, 4000)
+            self.assertIsNone(bitmap.shrink_to_fit())
+            self.assertEqual(bitmap, set(range(4000, 5000)))
 
 
 class Exact(unittest.TestCase):

@@ -152,6 +152,20 @@ class Cases(unittest.TestCase):
             self.assertEqual((made, made.name), (bitmap, bitmap.name))
         self.assertIsNot(copy.deepcopy(bitmap).name, bitmap.name)
 
+    def test_shift(self):
+        class Named(RoaringBitmap):
+            pass
+
+        numbers = {0, 5, 70000, GREATEST}
+        bitmap = Named(numbers)
+        for offset in (0, 1, -1, 65536, -70000, 2**31, GREATEST, -GREATEST, 2**32, -(2**32), 2**63, -(2**63), 10**30):
+            shifted = bitmap.shift(offset)
+            self.assertIs(type(shifted), Named)
+            self.assertEqual(shifted, {n + offset for n in numbers if 0 <= n + offset <= GREATEST})
+        self.assertEqual((bitmap, bitmap.shift(True)), (numbers, {1, 6, 70001}))
+        self.assertRaises(TypeError, bitmap.shift, 1.0)
+        self.assertRaises(TypeError, bitmap.shift)
+
     def test_changed_while_walked(self):
         bitmap = RoaringBitmap(range(1000))
         for member in bitmap:

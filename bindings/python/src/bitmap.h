@@ -2,7 +2,7 @@
  *
  *   min_of, max_of, next_of, previous_of, select_of     write a member, and return whether there is one
  *   rank_of, count_of, has_stretch                      read those from a first to a last number, or up to one
- *   put_stretch, take_stretch                           change these, and return whether they could
+ *   put_stretch, take_stretch, flip_stretch             change these, and return whether they could
  *   count_kinds, bytes_of                               of a whole bitmap
  *   fault_of                                            what is wrong with bytes
  *
@@ -164,7 +164,8 @@ static int read_numbers(PyObject *arguments, size_t *first, size_t *last, bool *
     return *first <= GREATEST;
 }
 
-PyObject *OF(add_range)(PyObject *self, PyObject *arguments)
+/* Changes the numbers of a range, all of which must be such that they may be members. */
+static PyObject *change_range(PyObject *self, PyObject *arguments, bool (*change)(handle *, uint64_t, uint64_t))
 {
     size_t first, last;
     bool is_within;
@@ -175,7 +176,12 @@ PyObject *OF(add_range)(PyObject *self, PyObject *arguments)
         PyErr_SetString(PyExc_ValueError, "a number of the range is no member of a Roaring bitmap");
         return NULL;
     }
-    return none_if(!has_numbers || put_stretch(OF(of)(self), first, last));
+    return none_if(!has_numbers || change(OF(of)(self), first, last));
+}
+
+PyObject *OF(add_range)(PyObject *self, PyObject *arguments)
+{
+    return change_range(self, arguments, put_stretch);
 }
 
 PyObject *OF(remove_range)(PyObject *self, PyObject *arguments)
@@ -219,11 +225,7 @@ PyObject *OF(clamp)(PyObject *self, PyObject *arguments)
 
 PyObject *OF(flip_inplace)(PyObject *self, PyObject *arguments)
 {
-    PyObject *range = OF(new)(OF(type), NULL, NULL), *done = range ? OF(add_range)(range, arguments) : NULL;
-    bool is_done = done && OF(merge)(self, range, CALL(symmetric_difference_with));
-    Py_XDECREF(done);
-    Py_XDECREF(range);
-    return is_done ? none_if(true) : NULL;
+    return change_range(self, arguments, flip_stretch);
 }
 
 PyObject *OF(flip)(PyObject *self, PyObject *arguments)
@@ -368,6 +370,27 @@ int OF(bool)(PyObject *self)
 PyObject *OF(clear)(PyObject *self, PyObject *Py_UNUSED(none))
 {
     CALL(clear)(OF(of)(self));
+    return none_if(true);
+}
+
+static PyObject *truth_of(int32_t answer)
+{
+    return answer < 0 ? PyErr_NoMemory() : PyBool_FromLong(answer);
+}
+
+PyObject *OF(run_optimize)(PyObject *self, PyObject *Py_UNUSED(none))
+{
+    return truth_of(CALL(optimize)(OF(of)(self)));
+}
+
+PyObject *OF(remove_runs)(PyObject *self, PyObject *Py_UNUSED(none))
+{
+    return truth_of(CALL(remove_runs)(OF(of)(self)));
+}
+
+PyObject *OF(shrink_to_fit)(PyObject *self, PyObject *Py_UNUSED(none))
+{
+    CALL(shrink_to_fit)(OF(of)(self));
     return none_if(true);
 }
 

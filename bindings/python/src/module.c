@@ -151,6 +151,9 @@ static PyType_Spec set_spec = {
     METHOD(of, difference_cardinality, METH_O, "difference_cardinality($self, other, /)\n--\n\nReturn how many members are not in the other."), \
     METHOD(of, symmetric_difference_cardinality, METH_O, "symmetric_difference_cardinality($self, other, /)\n--\n\nReturn how many numbers are in exactly one of the two."), \
     METHOD(of, jaccard_index, METH_O, "jaccard_index($self, other, /)\n--\n\nReturn the share of what is in either that is in both; not a number if both are empty."), \
+    METHOD(of, run_optimize, METH_NOARGS, "run_optimize($self, /)\n--\n\nConvert each container to the form with the fewest bytes. Return whether one changed."), \
+    METHOD(of, remove_runs, METH_NOARGS, "remove_runs($self, /)\n--\n\nConvert each container of runs to a list or blocks. Return whether one changed."), \
+    METHOD(of, shrink_to_fit, METH_NOARGS, "shrink_to_fit($self, /)\n--\n\nGive back the memory that is held and not used."), \
     METHOD(of, get_statistics, METH_NOARGS, "get_statistics($self, /)\n--\n\nReturn how many containers of each kind there are, and their members and bytes."), \
     METHOD(of, serialize, METH_NOARGS, "serialize($self, /)\n--\n\nReturn the bytes of the portable form of Roaring bitmaps" form "."), \
     METHOD(of, deserialize, METH_O | METH_CLASS, "deserialize($type, bytes, /)\n--\n\nMake the bitmap that a front of the bytes represents in the portable form" form ". ValueError names the first fault."), \
@@ -184,9 +187,7 @@ static PyType_Spec set_spec = {
 
 static PyMethodDef bitmap_methods[] = {
     METHODS_OF_BITMAPS(bitmap, ""),
-    METHOD(bitmap, run_optimize, METH_NOARGS, "run_optimize($self, /)\n--\n\nConvert each container to the form with the fewest bytes. Return whether one changed."),
-    METHOD(bitmap, remove_runs, METH_NOARGS, "remove_runs($self, /)\n--\n\nConvert each container of runs to a list or blocks. Return whether one changed."),
-    METHOD(bitmap, shrink_to_fit, METH_NOARGS, "shrink_to_fit($self, /)\n--\n\nGive back the memory that is held and not used."),
+    METHOD(bitmap, shift, METH_O, "shift($self, offset, /)\n--\n\nReturn the bitmap of each member plus the offset, without those below 0 or above 4294967295."),
     {NULL, NULL, 0, NULL},
 };
 

@@ -57,6 +57,11 @@ static bool take_stretch(bit_roaring *bitmap, uint64_t first, uint64_t last)
     return bit_roaring_remove_range(bitmap, first, last + 1) >= 0;
 }
 
+static bool flip_stretch(bit_roaring *bitmap, uint64_t first, uint64_t last)
+{
+    return bit_roaring_flip(bitmap, first, last + 1);
+}
+
 static bool count_kinds(const bit_roaring *bitmap, bit_roaring_kinds *all)
 {
     bit_roaring_statistics(bitmap, all);
@@ -127,25 +132,19 @@ bool bitmap_put_all(PyObject *self, PyObject *members)
     return found;
 }
 
-static PyObject *truth_of(int32_t answer)
+/* The bitmap of each member plus a number, but for those that would be no members. */
+PyObject *bitmap_shift(PyObject *self, PyObject *offset)
 {
-    return answer < 0 ? PyErr_NoMemory() : PyBool_FromLong(answer);
-}
-
-PyObject *bitmap_run_optimize(PyObject *self, PyObject *Py_UNUSED(none))
-{
-    return truth_of(bit_roaring_optimize(bitmap_of(self)));
-}
-
-PyObject *bitmap_remove_runs(PyObject *self, PyObject *Py_UNUSED(none))
-{
-    return truth_of(bit_roaring_remove_runs(bitmap_of(self)));
-}
-
-PyObject *bitmap_shrink_to_fit(PyObject *self, PyObject *Py_UNUSED(none))
-{
-    bit_roaring_shrink_to_fit(bitmap_of(self));
-    return none_if(true);
+    int outside;
+    PyObject *index = PyNumber_Index(offset);
+    if (!index)
+        return NULL;
+    int64_t distance = PyLong_AsLongLongAndOverflow(index, &outside);
+    Py_DECREF(index);
+    if (outside)
+        distance = outside > 0 ? INT64_MAX : INT64_MIN;
+    PyObject *made = blank(Py_TYPE(self));
+    return made ? made_if(bit_roaring_add_offset(&((Bitmap *)made)->bitmap, bitmap_of(self), distance), made) : NULL;
 }
 
 PyObject *bitmap_repr(PyObject *self)

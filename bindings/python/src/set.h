@@ -325,7 +325,10 @@ void matrix_dealloc(PyObject *self);
     PyObject *of##_reduce(PyObject *self, PyObject *none);                                                             \
     PyObject *of##_remove(PyObject *self, PyObject *member);                                                           \
     PyObject *of##_remove_range(PyObject *self, PyObject *arguments);                                                  \
+    PyObject *of##_remove_runs(PyObject *self, PyObject *none);                                                        \
+    PyObject *of##_run_optimize(PyObject *self, PyObject *none);                                                       \
     PyObject *of##_serialize(PyObject *self, PyObject *none);                                                          \
+    PyObject *of##_shrink_to_fit(PyObject *self, PyObject *none);                                                      \
     PyObject *of##_subscript(PyObject *self, PyObject *index);                                                         \
     PyObject *of##_to_array(PyObject *self, PyObject *none);                                                           \
     Py_ssize_t of##_length(PyObject *self);                                                                            \
@@ -366,10 +369,8 @@ CALLS_OF_BITMAPS(bitmap)
 CALLS_OF_BITMAPS(wide)
 
 /* roaring.c */
-PyObject *bitmap_remove_runs(PyObject *self, PyObject *Py_UNUSED(none));
 PyObject *bitmap_repr(PyObject *self);
-PyObject *bitmap_run_optimize(PyObject *self, PyObject *Py_UNUSED(none));
-PyObject *bitmap_shrink_to_fit(PyObject *self, PyObject *Py_UNUSED(none));
+PyObject *bitmap_shift(PyObject *self, PyObject *offset);
 size_t put_in_bitmap(PyObject *self, const size_t *group, size_t count);
 
 /* wide.c */

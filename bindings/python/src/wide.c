@@ -104,12 +104,21 @@ static bool take_stretch(bit_roaring64 *bitmap, uint64_t first, uint64_t last)
         && (last < UINT64_MAX || bit_roaring64_remove(bitmap, last) >= 0);
 }
 
+/* With the greatest number the others are merged in one call, so that nothing changes if memory runs out. */
+static bool flip_stretch(bit_roaring64 *bitmap, uint64_t first, uint64_t last)
+{
+    if (last < UINT64_MAX)
+        return bit_roaring64_flip(bitmap, first, last + 1);
+    bit_roaring64 *numbers = NULL;
+    bool is_done = bit_roaring64_new(&numbers) && put_stretch(numbers, first, last)
+        && bit_roaring64_symmetric_difference_with(bitmap, numbers) >= 0;
+    bit_roaring64_free(numbers);
+    return is_done;
+}
+
 static PyObject *bytes_of(const bit_roaring64 *bitmap)
 {
-    uint8_t none;
-    size_t size = 0;
-    if (bit_roaring64_serialize(bitmap, &none, 0, &size) < 0)
-        return PyErr_NoMemory();
+    size_t size = bit_roaring64_serialized_size(bitmap);
     PyObject *bytes = PyBytes_FromStringAndSize(NULL, (Py_ssize_t)size);
     if (!bytes)
         return NULL;

@@ -144,6 +144,7 @@ extern "C" {
     pub fn bit_roaring64_difference_with(set: *mut Treemap, other: *const Treemap) -> i32;
     pub fn bit_roaring64_symmetric_difference_with(set: *mut Treemap, other: *const Treemap) -> i32;
     pub fn bit_roaring64_clear(set: *mut Treemap);
+    pub fn bit_roaring64_serialized_size(set: *const Treemap) -> u64;
     pub fn bit_roaring64_serialize(set: *const Treemap, bytes: *mut u8, room: usize, size: *mut usize) -> i32;
     pub fn bit_roaring64_deserialize(out: *mut *mut Treemap, bytes: *const u8, count: usize, used: *mut usize) -> i32;
 }

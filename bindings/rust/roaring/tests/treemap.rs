@@ -245,6 +245,7 @@ fn bytes() {
         1, 0, 0, 0, 58, 48, 0, 0, 1, 0, 0, 0, 0, 0, 0, 0, 16, 0, 0, 0, 7, 0,
     ];
     assert_eq!(bytes_of(&[3, 4, (1 << 32) + 7].into()), written);
+    assert_eq!(bytes_of(&RoaringTreemap::new()), [0; 8]);
     let mut draws = Draws(5);
     let (mut all, mut sets) = (Vec::new(), Vec::new());
     for _ in 0..20 {

@@ -6,18 +6,10 @@ use std::io::{self, Read, Write};
 use std::ptr::null_mut;
 
 impl RoaringTreemap {
-    // Writes the set to the front of the bytes, if they suffice, and returns how many bytes it takes.
-    fn write_bytes(&self, bytes: &mut [u8]) -> usize {
-        let mut size = 0;
-        // SAFETY: the set, the bytes and the count are borrowed for the call.
-        let answer = unsafe { raw::bit_roaring64_serialize(self.read(), bytes.as_mut_ptr(), bytes.len(), &mut size) };
-        require(answer != raw::NO_MEMORY);
-        size
-    }
-
-    /// How many bytes [`serialize_into`](Self::serialize_into) writes. Makes them.
+    /// How many bytes [`serialize_into`](Self::serialize_into) writes.
     pub fn serialized_size(&self) -> usize {
-        self.write_bytes(&mut [])
+        // SAFETY: the set is borrowed for the call, as in each of the calls below.
+        unsafe { raw::bit_roaring64_serialized_size(self.read()) as usize }
     }
 
     /// Writes the set.
@@ -26,8 +18,12 @@ impl RoaringTreemap {
     ///
     /// Those of the writer.
     pub fn serialize_into<W: Write>(&self, mut writer: W) -> io::Result<()> {
-        let mut bytes = vec![0; self.serialized_size()];
-        self.write_bytes(&mut bytes);
+        let (room, mut size) = (self.serialized_size(), 0);
+        let mut bytes = Vec::with_capacity(room);
+        let answer = unsafe { raw::bit_roaring64_serialize(self.read(), bytes.as_mut_ptr(), room, &mut size) };
+        require(answer == raw::YES);
+        // SAFETY: the call wrote so many bytes, which are no more than the room.
+        unsafe { bytes.set_len(size) };
         writer.write_all(&bytes)
     }
 
