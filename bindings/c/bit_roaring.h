@@ -491,7 +491,9 @@ uint64_t bit_roaring64_symmetric_difference_len(const bit_roaring64 *set, const 
  * the same name that makes a set has, and returns BIT_ROARING_YES if that changed them, BIT_ROARING_NO if not, or
  * BIT_ROARING_NO_MEMORY. The answer takes what `is_subset` or `is_disjoint` does, and the merge a search for each bitmap of
  * `other`: those that both sets have are merged into new ones, those that only `other` has are copied, and where one is
- * added or becomes empty those above move. `intersect_with` makes all bitmaps anew. Each may always fail. */
+ * added or becomes empty those above move. `intersect_with` makes all bitmaps anew. `union_with` fails only if `other` has a
+ * member that the set lacks, `symmetric_difference_with` only if `other` has a member, and the two others only if the set has
+ * members that `other` has, and others that it lacks. */
 
 int32_t bit_roaring64_union_with(bit_roaring64 *set, const bit_roaring64 *other) BIT_SET_MAY_FAIL;
 int32_t bit_roaring64_intersect_with(bit_roaring64 *set, const bit_roaring64 *other) BIT_SET_MAY_FAIL;
