@@ -109,7 +109,7 @@ copy_difference               two    65536   12     14700
 union_of                      many   65536   17   1070000
 union_of                      two    65536   17   1070000
 intersection_of               many   65536   17   1070000
-eq                            two    65536    4      2000
+eq                            two    65536    4      2100
 eq                            many   65536   17     49000
 intersection_count            two    65536  2.7      1900
 intersection_count_of_short   full   65536  1.2      9000

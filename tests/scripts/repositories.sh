@@ -59,7 +59,7 @@ set_up_library() {
     cp -r "$top"/{tools,gate,crates.txt,CHANGELOG.md} "$top"/LICENSE-* "$library"
     cp -r "$top/bindings/c" "$library/bindings"
     rm -rf "$c/out"
-    cp "$top"/tests/c_*.[ch] "$library/tests"
+    cp "$top"/tests/{c_*.[ch],roaring.cc} "$library/tests"
     (cd "$top/crates" && tar cf - --exclude=out bit_set_c bit_roaring_c) | tar xf - -C "$library/crates"
 }
 
