@@ -1,0 +1,2 @@
+pub mod InCommon
+pub mod Sizes
