@@ -268,7 +268,8 @@ static void whole_sets(size_t which) {
 }
 
 int main(int argc, char **argv) {
-    long rounds = argc > 1 ? atol(argv[1]) : 500;
+    /* A round has some forty times as many calls as one of the sets of bits, by which an argument counts. */
+    long rounds = argc > 1 ? (atol(argv[1]) + 39) / 40 : 500;
     CHECK(bit_roaring_new(&sets[0]) && bit_roaring_from_members(&sets[1], members, 0));
     while (rounds-- > 0) {
         size_t which = draw(2), call = draw(7);

@@ -347,7 +347,8 @@ static void hashes(void) {
 }
 
 int main(int argc, char **argv) {
-    long rounds = argc > 1 ? atol(argv[1]) : 100;
+    /* A round has some forty times as many calls as one of the sets of bits, by which an argument counts. */
+    long rounds = argc > 1 ? (atol(argv[1]) + 39) / 40 : 100;
     ends();
     forms_of_few();
     bytes_of_three();
